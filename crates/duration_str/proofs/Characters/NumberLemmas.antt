@@ -1,4 +1,4 @@
--- Digits as std reads and writes them.
+-- The definitions about digits agree with those of Rust's standard library.
 use Rattle.duration_str.proofs.Common.{and_parts, ap, arith, Bool, cases_Bool, cases_lt, chars, common_steps, cond-true, decimal, decimal_nonempty, digits_decimal, digits_value-decimal, drop, drop-cons, encodes-chars, encodes-IsAscii, false, fits, get_or, inl, inr, is_digit, IsAscii-from_digits, IsNumber, IsTrue, IsUtf8, le-ltb, length, length-drop, List, list_all, list_all-append, lt-ltb, mul-pos, nat_le, nat_tests, number, number_after, number_of, Option, Options, pow-suc, refl, Result, rules, Some, suc, sym, take, take-append-drop, terminal_of, true, u64_from, [], ℕ, ◌%◌, ◌&&◌, ◌*◌, ◌++◌, ◌+◌, ◌-◌, ◌<◌, ◌==◌, ◌^◌, ◌||◌, ◌∙◌, ◌∷◌, ◌≡◌, ◌≤◌}
 use Rattle.std.proofs.lemmas.Str.Parse.{digits_value_short, IsNumeralModel, numerals_by_fold}
 use native.Mathlib.Nat.{pow-le-pow_right}
@@ -6,7 +6,7 @@ use Rattle.std.specs.Bool.{then_some}
 use Rattle.std.specs.Result.{result_ok}
 use Rattle.std.specs.Str.Parse.{ParsesUnsigned}
 
--- Digits are tested and read as std does.
+-- Digits and the numbers that they write are the same in the definitions and in the standard library.
 pub decimal_digits : IsNumeralModel (λ ds. IsTrue (list_all is_digit ds)) (number_after 0)
 decimal_digits = numerals_by_fold _ (search rules) number_after (search rules)
 
@@ -83,11 +83,11 @@ bytes_of_digits bs utf8 digits =
 pub whole_number : (n low : ℕ) → low ≡ n % 2 ^ 64 → n < 2 ^ 64 → Some low ≡ u64_from n
 whole_number n low same below = search rules
 
--- If a number fits, it is given by its value modulo 2^64.
+-- A number that fits is given by its value modulo 2^64, and any other number is given as `None`.
 pub fitting_number : (n low : ℕ) → low ≡ n % 2 ^ 64 → then_some (fits n) low ≡ u64_from n
 fitting_number n low same = search (rules, cases_lt, lt-ltb, le-ltb)
 
--- the number that `parse` gives for digits
+-- the standard library's `parse` gives the number that the digits write
 pub parsed_u64 : {E : Type 0} (bs : List ℕ) (r : Result ℕ E) (parsed : Option ℕ) → IsUtf8 bs → IsNumber (chars bs)
     → ParsesUnsigned 64 10 bs r → parsed ≡ result_ok r → parsed ≡ u64_from (number_of (chars bs))
 parsed_u64 bs r parsed utf8 digits parses is = search (rules, bytes_of_digits, decimal_digits)

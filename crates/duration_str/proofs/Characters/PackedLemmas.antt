@@ -1,4 +1,4 @@
--- Packed names and their slots.
+-- Lemmas about packed names and their slots in the table.
 use Rattle.duration_str.proofs.Common.{all_names, and_from, and_parts, ap, arith, Bool, byte_len, bytes_eq, cases_Bool, chinese_letters, comparison_form, eq-eqb, eqb, eqb-true, false, false_from_ne_true, get_or, if◌then◌else◌, inl, inr, is_ascii_uppercase, is_chinese, is_named, is_unit_letter, leb, leb-true, length, length-reverse, letter_number, List, list_all, list_any, list_any-append, lit<, map, nat_tests, None, not, number_in, off, Options, or_cases, or_parts, packed_number, packed_number_after, packs_to, pow-le-pow_right, pow-succ', refl, reverse-reverse, row_of, rules, Some, SPREAD, suc, sym, TimeUnit, to_ascii_lowercase, true, unit_of_word, units, width, zero, [], ℕ, ◌%◌, ◌&&◌, ◌*◌, ◌+◌, ◌-◌, ◌/◌, ◌<◌, ◌==◌, ◌^◌, ◌||◌, ◌∙◌, ◌∷◌, ◌≡◌, ◌≤◌}
 use Rattle.std.proofs.Math.Bool.{or-true}
 use mathlib.Core.List.{reverse, reverse_aux}
@@ -18,7 +18,7 @@ is_small_letter c = leb 97 c && leb c 122
 abbrev is_wide_letter : ℕ → Bool
 is_wide_letter c = list_any (λ d. d == c) wide_letters
 
--- a letter of the names
+-- whether a character is a letter of the units' names
 abbrev is_name_letter : ℕ → Bool
 is_name_letter c = is_small_letter c || is_wide_letter c
 
@@ -63,7 +63,7 @@ letter_number-same x y h k e = elim (or_cases (is_small_letter x) (is_wide_lette
 
 -- ---- words whose packed numbers are exact and different
 
--- the packed number of letters, the last one first
+-- the packed number of letters that are listed from the last one to the first
 abbrev packed_back : Options → List ℕ → ℕ
 packed_back o [] = 0
 packed_back o (c ∷ cs) = packed_back o cs * 40 + letter_number o c
@@ -82,7 +82,7 @@ below : (o : Options) (cs : List ℕ) → packed_back o cs < 40 ^ length cs
 below o [] = omega arith
 below o (c ∷ cs) = rw (pow-succ' 40 (length cs)) (omega (arith, below o cs, letter_number-below o c))
 
--- the packed number of a word of at most 12 letters is exact
+-- the packed number of a word of at most 12 letters is below 2^64, so computing it modulo 2^64 changes nothing
 pub exact : (o : Options) (w : List ℕ) (n : ℕ) → length w ≤ 12 → n ≡ packed_number o w % 2 ^ 64 → n ≡ packed_number o w
 exact o w n h e =
     let pow : 40 ^ length w ≤ 40 ^ 12 = pow-le-pow_right (lit< tt) h in
@@ -100,7 +100,7 @@ same_back (x ∷ xs) (y ∷ ys) h k e =
     omega (arith, letter_number-below off x, letter_number-below off y, e) in
     cc (letter_number-same x y bx.0 by.0 number, same_back xs ys bx.1 by.1 (omega (arith, number, e)))
 
--- Different words of these letters have different packed numbers.
+-- Words of the names' letters are equal if their packed numbers are.
 packed_same : (xs ys : List ℕ) → are_letters xs ≡ true → are_letters ys ≡ true
     → packed_number off xs ≡ packed_number off ys → xs ≡ ys
 packed_same xs ys h k e =
@@ -113,12 +113,12 @@ packed_same xs ys h k e =
 lower_number : (c : ℕ) → letter_number off (to_ascii_lowercase c) ≡ letter_number off c
 lower_number c = search (rules)
 
--- the number of a letter
+-- a character that stands for a digit is a unit letter, and this is its digit
 pub numbered_letter : (o : Options) (c n : ℕ) → Some n ≡ (if is_unit_letter o c then Some (letter_number o c) else None)
     → (is_unit_letter o c ≡ true) × (n ≡ letter_number o c)
 numbered_letter o c n is = search (rules)
 
--- a character without number is no letter
+-- a character that stands for no digit is no unit letter
 pub unnumbered : (o : Options) (c : ℕ) → None ≡ (if is_unit_letter o c then Some (letter_number o c) else None)
     → is_unit_letter o c ≡ false
 unnumbered o c is = false_from_ne_true _ (λ letter. let some = rw letter at is in absurd cc)
@@ -139,7 +139,7 @@ name_test : (v name : List ℕ) → are_letters v ≡ true → are_letters name 
     → bytes_eq v name ≡ packs_to (packed_number off v) name
 name_test v name letters own = search (rules, eq-eqb, eqb-true, packed_same)
 
--- without `cn_unit` no letter is Chinese, so the word is no Chinese name
+-- without `cn_unit` a word of unit letters has no Chinese character, so it is no Chinese name
 no_chinese_letter : (o : Options) (w : List ℕ) → o.cn_unit ≡ false → list_all (is_unit_letter o) w ≡ true
     → list_any is_chinese (map to_ascii_lowercase w) ≡ false
 no_chinese_letter o [] off e = refl
@@ -164,7 +164,7 @@ named_by_number o w u folded letters =
 
 -- ---- words that name no unit
 
--- All names pass the test, and the word fails it.
+-- A word names no unit if all names pass a test that the word fails.
 pub no_name : (o : Options) (w : List ℕ) (test : List ℕ → Bool) → list_all (λ u. list_all test (all_names u)) units ≡ true
     → test (comparison_form o w) ≡ false → None ≡ unit_of_word o w
 no_name o w test all fails =
@@ -175,7 +175,7 @@ no_name o w test all fails =
     )) in
     simp unnamed
 
--- a unit's name has unit letters alone
+-- a word has only unit letters exactly if the form that is compared with the names has only unit letters
 letters_form : (o : Options) (w : List ℕ)
     → list_all (is_unit_letter o) (comparison_form o w) ≡ list_all (is_unit_letter o) w
 letters_form o w = elim (cases_Bool o.lowercase) [ inl on ↦ rw on refl | inr off ↦ rw off (lower w) ]
@@ -203,7 +203,7 @@ named_letters o w u h =
     ] in
     sym (letters_form o w) ∙ letters
 
--- A word with another character names no unit.
+-- A word with a character that is no unit letter names no unit.
 pub no_letter_name : (o : Options) (w : List ℕ) → list_all (is_unit_letter o) w ≡ false → None ≡ unit_of_word o w
 no_letter_name o w other =
     let unnamed = λ (u : TimeUnit). false_from_ne_true (is_named o w u) (λ t. cc (other, named_letters o w u t)) in
@@ -226,7 +226,7 @@ pub no_long_name : (o : Options) (w : List ℕ) → 12 < byte_len w → None ≡
 no_long_name o w long = no_name o w (λ name. leb (byte_len name) 12) refl
     (false_from_ne_true _ (λ t. absurd (omega (arith, leb-true _ _ t, byte_len-form o w))))
 
--- without a capital under `lowercase` the letters have the same numbers as with all options off
+-- unless the word has a capital under `lowercase`, its packed number is the same as with all options off
 same_packed : (o : Options) (n : ℕ) (w : List ℕ) → (o.lowercase && list_any is_ascii_uppercase w) ≡ false
     → packed_number_after o n w ≡ packed_number_after off n w
 same_packed o n [] e = refl
@@ -235,7 +235,7 @@ same_packed o n (c ∷ w) e =
     grind arith in
     rw (parts.0, same_packed o (n * 40 + letter_number off c) w parts.1) refl
 
--- whether one of the k last digits of a number to the base 40 is that of a capital under `lowercase`
+-- whether one of the last k digits of a number, to the base 40, is 39, which stands for a capital under `lowercase`
 abbrev has_capital : ℕ → ℕ → Bool
 has_capital zero n = false
 has_capital (suc k) n = n % 40 == 39 || has_capital k (n / 40)
@@ -253,7 +253,7 @@ capital_packed o (c ∷ cs) (suc k) short capital =
           rw (others, capital_packed o cs k (omega (arith, short)) rest) (or-true _)
     ]
 
--- if no name's packed number passes a test, a number that passes it is that of no name
+-- if the packed numbers of all names pass a test, a number that fails the test is not that of a name
 absent : (test : ℕ → Bool) (n : ℕ) → test n ≡ false → (ns : List (List ℕ))
     → list_all (λ name. test (packed_number off name)) ns ≡ true → list_any (packs_to n) ns ≡ false
 absent test n fails [] all = refl
@@ -276,7 +276,7 @@ capital_turned : (cs done : List ℕ) → (list_any is_ascii_uppercase cs || lis
 capital_turned [] done e = e
 capital_turned (c ∷ cs) done e = capital_turned cs (c ∷ done) (grind arith)
 
--- the unit that a word of at most 12 letters names
+-- a word of at most 12 letters names the unit of its packed number
 pub unit_by_number : (o : Options) (w : List ℕ) → list_all (is_unit_letter o) w ≡ true → length w ≤ 12
     → unit_of_word o w ≡ unit_of_packed (packed_number o w)
 unfolding unit_of_packed
@@ -295,7 +295,7 @@ unit_by_number o w letters short = elim (cases_Bool (o.lowercase && list_any is_
 abbrev pub slot : ℕ → ℕ
 slot n = n * SPREAD / 2 ^ 57 % 128
 
--- each slot leads to one of so many names
+-- each slot holds the index of one of `count` names
 pub slot_below : (slots : List ℕ) (count i : ℕ) → length slots ≡ 128 → i < 128
     → list_all (λ s. leb (suc s) count) slots ≡ true → get_or slots i 0 < count
 slot_below slots count i long less all = elim (cases_Bool (leb (suc (get_or slots i 0)) count)) [
@@ -303,7 +303,7 @@ slot_below slots count i long less all = elim (cases_Bool (leb (suc (get_or slot
   | inr above ↦ absurd (cc (all, list_all_at (λ s. leb (suc s) count) slots i 0 (omega (arith, long, less)) above))
 ]
 
--- a name of the table has the unit beside it
+-- the unit of a name in the table stands at the same index of the table of units
 pub name_found : (names : List ℕ) (table : List TimeUnit) (i m n : ℕ) (u : TimeUnit)
     → map unit_of_packed names ≡ map Some table → i < length names → get_or names i m ≡ n
     → Some (get_or table i u) ≡ unit_of_packed n
@@ -314,6 +314,6 @@ name_found names table i m n u same less key =
     let here = get_or-map unit_of_packed names i m None less in
     sym there ∙ ap (λ units. get_or units i None) (sym same) ∙ here ∙ ap unit_of_packed key
 
--- whether a number is the one to which its slot leads
+-- whether the slot of a number holds the index of that number
 abbrev pub is_kept : List ℕ → List ℕ → ℕ → ℕ → ℕ → Bool
 is_kept slots names s m n = eqb (get_or names (get_or slots (slot n) s) m) n

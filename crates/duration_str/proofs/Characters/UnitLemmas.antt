@@ -1,4 +1,4 @@
--- Units, and words and names: as bytes and as characters, and their ASCII capitals.
+-- Lemmas about units and their names: as bytes and as characters, and with ASCII capitals.
 use Rattle.duration_str.proofs.Common.{all_names, and_parts, arith, Bool, byte_len, bytes_eq, bytes_eq-Decides, cases_Bool, common_steps, comparison_form, Day, encode_utf8_all, encodes, encodes_same, eqb, eqb-true, false, find, Hour, inl, inr, is_named, leb-true, length, List, list_all, list_any, list_any-append, map, map-append, MicroSecond, MilliSecond, Minute, Month, name_part, nanos_of, NanoSecond, not, Options, or_cases, Quarter, refl, row_of, rules, same_from_decides, Second, Some, Style, TimeUnit, to_ascii_lowercase, true, unit_of_word, units, Week, Year, [], ℕ, ⊤, ◌||◌, ◌∷◌, ◌≡◌, ◌≤◌}
 use lib.Utf8.{encode}
 
@@ -26,7 +26,7 @@ each_passes test [] h = tt
 each_passes test (u ∷ us) h =
     let parts = and_parts (test u) (list_all test us) h in (parts.0, each_passes test us parts.1)
 
--- A test passed by each unit of the table is passed by every unit.
+-- If each unit of the table passes a test, every unit does.
 pub all_units : (test : TimeUnit → Bool) → list_all test units ≡ true → (u : TimeUnit) → test u ≡ true
 all_units test h = each_unit (λ u. test u ≡ true) (each_passes test units h)
 
@@ -45,7 +45,7 @@ lower-encodes (c ∷ cs) = rw (map-append to_ascii_lowercase (encode c) (encodes
 
 -- ---- names
 
--- texts are equal if their bytes are
+-- texts are equal exactly if their bytes in UTF-8 are
 pub bytes_eq-encodes : (v w : List ℕ) → bytes_eq (encodes v) (encodes w) ≡ bytes_eq v w
 bytes_eq-encodes v w = search (rules, bytes_eq-Decides, same_from_decides, encodes_same)
 
@@ -67,7 +67,7 @@ unit_by_length = each_unit (λ u. find (λ v. eqb (nanos_of v) (nanos_of u)) uni
 same_length : (u v : TimeUnit) → nanos_of u ≡ nanos_of v → u ≡ v
 same_length u v e = let found = rw e at (unit_by_length u) in cc (unit_by_length v)
 
--- A test that all names pass is passed by a word that is one of them.
+-- If all names pass a test, a word that is one of them passes it.
 pub named_passes : (test : List ℕ → Bool) (w : List ℕ) (names : List (List ℕ)) → list_all test names ≡ true
     → list_any (bytes_eq w) names ≡ true → test w ≡ true
 named_passes test w [] all h = cc
@@ -87,7 +87,7 @@ module _ (o : Options) where
         cc (named_passes other (comparison_form o w) (all_names u) apart (among_all o w u h), among_all o w v k)
   ]
 
-  -- A unit of the list that the word names is found, since the word names no other.
+  -- If the list has a unit that the word names, that unit is found, since the word names no other unit.
   found_only : (w : List ℕ) (us : List TimeUnit) (u : TimeUnit) → is_named o w u ≡ true
       → list_any (λ v. eqb (nanos_of v) (nanos_of u)) us ≡ true → find (is_named o w) us ≡ Some u
   found_only w [] u h there = cc
@@ -99,7 +99,7 @@ module _ (o : Options) where
     ]
   ]
 
-  -- the unit that a word names
+  -- if a word is a name of a unit, it names that unit
   pub named_unit : (w : List ℕ) (u : TimeUnit) → is_named o w u ≡ true → unit_of_word o w ≡ Some u
   named_unit w u h =
       found_only w units u h (all_units (λ u. list_any (λ v. eqb (nanos_of v) (nanos_of u)) units) refl u)
@@ -110,7 +110,7 @@ pub length_name : (u : TimeUnit) → length (encode_utf8_all (row_of u).printed)
 unfolding lib.Utf8.encode
 length_name = each_unit (λ u. length (encode_utf8_all (row_of u).printed) ≡ byte_len (row_of u).printed) assumption
 
--- a name in some style, as long as it can be
+-- the greatest length of a unit's name in a style
 abbrev pub name_len : Style → TimeUnit → ℕ
 name_len style u = byte_len (name_part style false u)
 

@@ -1,4 +1,4 @@
--- The steps of cutting, in terms of a text, the byte up to which it is cut, and the looks.
+-- Lemmas about the steps of cutting, in terms of a text, the byte up to which it is cut, and the number of looks.
 use Rattle.duration_str.proofs.Common.{add-zero, ahead, and_from, ap, append_assoc, append_cancel_right, arith, Between, Bool, byte_len, chars, chars-append, drop, drop-drop, encodes-chars, EndsRun, false, ForSome, if◌then◌else◌, is_blank, is_digit, is_some, is_unit_letter, IsCharBoundary, IsLexeme, IsUtf8, IsUtf8-drop, IsUtf8-take, length, length-append, length-drop, length-le-encodes, letter_number, List, list_all-append, None, number_after, number_of, Option, Options, packed_number_after, Passes, refl, slice_range, Some, Stands, StandsAt, sym, take, take-append-drop, TakesDigits, TakesLetters, TimeUnit, tokens_from, true, u64_from, unit_of_packed, unit_of_word, width, [], ℕ, ◌%◌, ◌*◌, ◌++◌, ◌+◌, ◌-◌, ◌<◌, ◌^◌, ◌∙◌, ◌∷◌, ◌≡◌, ◌≤◌, append-nil, IsTrue, packed_number, list_all}
 pub use Rattle.duration_str.proofs.Cutting.TokenLemmas.{blanks_no_token, tokens_step}
 use Rattle.duration_str.proofs.Characters.CharacterLemmas.{byte_len-append, width_some}
@@ -8,7 +8,8 @@ use Rattle.duration_str.proofs.Characters.PackedLemmas.{exact, no_letter_name, n
 
 -- ---- how many times a character was looked at
 
--- the looks so far and the characters ahead, counting a looked-at head only once, are all the characters
+-- the looks so far and the characters ahead add up to all characters. If the first character ahead was looked at, it is
+-- counted in both, so there is one more
 abbrev pub IsCounted : List ℕ → ℕ → ℕ → Option ℕ → Type 0
 IsCounted text place looks head =
     looks + length (ahead text place) ≡ length (chars text) + (if is_some head then 1 else 0)
@@ -18,7 +19,7 @@ chars_short : (text : List ℕ) → IsUtf8 text → length (chars text) ≤ leng
 chars_short text utf8 = omega (arith, length-le-encodes (chars text), ap length (encodes-chars text utf8))
 
 module _ {text : List ℕ} (place looks : ℕ) where
-  -- no character after the head was looked at
+  -- the looks so far and the characters after the head add up to all characters
   pub counted_past : (c : ℕ) → Stands text place c → IsCounted text place looks (Some c)
       → looks + length (ahead text (place + width c)) ≡ length (chars text)
   counted_past c stands counted = omega (arith, ap length stands.head, counted)
@@ -47,7 +48,7 @@ module _ {text : List ℕ} (place looks : ℕ) where
 abbrev pub passes_none : {test : ℕ → Bool} {text : List ℕ} {place : ℕ} → Passes test text place place
 passes_none = record { characters = []; between = record { cut = refl; bytes = omega arith }; all = refl }
 
--- one run that passes after another
+-- two runs that pass a test, one after the other, are one run that passes it
 abbrev passes_on : {test : ℕ → Bool} {text : List ℕ} {place at next : ℕ} → Passes test text place at
     → Passes test text at next → Passes test text place next
 passes_on {test} passed more = record {
@@ -59,7 +60,7 @@ passes_on {test} passed more = record {
   all = list_all-append test passed.characters more.characters ∙ and_from _ _ passed.all more.all;
 }
 
--- the head of what is left passes the test, and joins the run
+-- if the next character passes the test, it joins the run
 abbrev pub passes_head : {test : ℕ → Bool} {text : List ℕ} {place at next c : ℕ} → Passes test text place at
     → StandsAt text at next c → test c ≡ true → Passes test text place next
 passes_head {c = c} passed stands e = passes_on passed (record {
@@ -107,7 +108,7 @@ length-le-byte_len : (cs : List ℕ) → length cs ≤ byte_len cs
 length-le-byte_len [] = omega arith
 length-le-byte_len (c ∷ cs) = omega (arith, width_some c, length-le-byte_len cs)
 
--- the slice between two places has these characters
+-- the slice between two places has the characters between them
 pub chars_between : {text cs slice : List ℕ} {place next : ℕ} → Between text place next cs
     → slice ≡ slice_range text place next → IsUtf8 slice → chars slice ≡ cs
 chars_between {text} {cs} {slice} {place} {next} between is utf8 =
@@ -135,7 +136,7 @@ pub record TakesWord (o : Options) (text : List ℕ) (place next : ℕ) (unit : 
   pub named : unit ≡ unit_of_word o run.characters
 
 module _ {o : Options} {text : List ℕ} {place next value : ℕ} (taken : TakesLetters o text place next value) where
-  -- a word of at most 12 bytes is identified by its packed number
+  -- a word of at most 12 bytes names the unit of its packed number
   pub short_word : {unit : Option TimeUnit} → next - place ≤ 12 → unit ≡ unit_of_packed value
       → TakesWord o text place next unit
   short_word short found =
@@ -155,7 +156,7 @@ module _ {o : Options} {text : List ℕ} {place next value : ℕ} (taken : Takes
 
 -- ---- a word by itself
 
--- These are the first characters of the word, unit letters that pack to n modulo 2^64, and `rest` follows them.
+-- The word begins with unit letters whose packed number is n modulo 2^64, and `rest` follows them.
 pub record Packs (o : Options) (word rest : List ℕ) (n : ℕ) : Type 0 where
   pub letters : List ℕ
   pub whole : word ≡ letters ++ rest
@@ -174,7 +175,7 @@ packs_more {o} {c = c} passed letter more = record {
   number = omega (arith, more, passed.number, packed_after-push o 0 passed.letters c);
 }
 
--- a word whose letters are all packed names the unit of its number
+-- a word whose characters are all packed names the unit of its packed number
 pub packs_unit : {o : Options} {word : List ℕ} {n : ℕ} {unit : Option TimeUnit} → Packs o word [] n → byte_len word ≤ 12
     → unit ≡ unit_of_packed n → unit ≡ unit_of_word o word
 packs_unit {o} {word} {n} packed short found =
@@ -184,7 +185,7 @@ packs_unit {o} {word} {n} packed short found =
     found ∙ ap unit_of_packed (exact o cs n few packed.number) ∙ sym (unit_by_number o cs packed.all few)
     ∙ ap (unit_of_word o) same
 
--- a word with another character names none
+-- a word with a character that is no unit letter names no unit
 pub packs_other : {o : Options} {word rest : List ℕ} {c n : ℕ} → Packs o word (c ∷ rest) n → is_unit_letter o c ≡ false
     → None ≡ unit_of_word o word
 packs_other {o} {word} {rest} {c} packed other =

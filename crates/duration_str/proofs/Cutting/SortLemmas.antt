@@ -1,4 +1,4 @@
--- Terminals and their sorts, and tokens by their first character.
+-- Lemmas about terminals and their sorts, and about tokens by their first character.
 use Rattle.duration_str.proofs.Common.{add-zero, ahead, and_from, and_parts, are_of_one_run, AreTokens, arith, Between, Bool, cases_Bool, common_steps, CondUnit, EndsRun, false, goes_on, if◌then◌else◌, inl, inr, is_blank, is_digit, is_number, is_unit_letter, IsLexeme, IsNumber, IsSign, IsTrue, length, List, list_all, None, Number, number, number_of, operator, operator_of, operator_or_other, Option, Options, or_cases, or_right, other, Passes, refl, rules, sign_sort, sign_terminal, Some, sort_at, sort_of, StandsAt, Stops, Terminal, terminal_of, TimeUnit, Token, tokens_from, TokenStart, true, unit_of_word, with_first_character, Word, word, [], ℕ, ◌<◌, ◌∷◌, ◌≡◌}
 use Rattle.duration_str.proofs.Characters.CharacterLemmas.{all_weaker, digit-not_blank, digit-not_letter, letter-not_blank, letter-not_digit}
 use Rattle.duration_str.proofs.Cutting.TokenLemmas.{tokens_are}
@@ -6,8 +6,8 @@ use Rattle.duration_str.proofs.Cutting.PositionLemmas.{TakesWord}
 
 -- ---- The possible terminals of a list of characters
 
--- A property of characters and their terminal holds if it holds in five cases: no characters, digits, unit letters, an
--- operator, and anything else.
+-- A property of characters and their terminal holds if it holds in each of five cases: no characters, digits, unit
+-- letters, an operator, and anything else.
 pub terminal_cases : (o : Options) (P : List ℕ → Terminal → Type 0) → P [] other
     → ((c : ℕ) (cs : List ℕ) → IsTrue (list_all is_digit (c ∷ cs)) → P (c ∷ cs) (number (number_of (c ∷ cs))))
     → ((c : ℕ) (cs : List ℕ) → IsTrue (list_all (is_unit_letter o) (c ∷ cs))
@@ -37,7 +37,8 @@ terminal_cases o P none digits letters sign rest (c ∷ cs) = by_tests cs _ _ re
 -- ---- Runs of digits and of unit letters
 
 module _ (o : Options) where
-  -- A run of characters that pass a test is a lexeme, if no blank passes it and any two that pass it are of one run.
+  -- Characters that pass a test are a lexeme, if no blank passes the test and any two characters that pass it are of
+  -- one run.
   run_is_lexeme : (test : ℕ → Bool) → ((c : ℕ) → test c ≡ true → is_blank c ≡ false)
       → ((c d : ℕ) → test c ≡ true → test d ≡ true → are_of_one_run o c d ≡ true)
       → (c : ℕ) (cs : List ℕ) → IsTrue (list_all test (c ∷ cs)) → IsLexeme o (c ∷ cs)
@@ -74,13 +75,13 @@ lexeme_sort o c cs p = elim (cases_Bool (is_digit c)) [
   ]
 ]
 
--- Two characters of one run have one sort.
+-- Two characters of one run have the same sort.
 pub run_sort : (o : Options) (c d : ℕ) → are_of_one_run o c d ≡ true → sort_at o c ≡ sort_at o d
 run_sort o c d run = grind (arith, or_cases, and_parts, letter-not_digit)
 
 -- ---- Tokens by their first character
 
--- The characters from `place` to `next` are a token, as long as possible, that stands for this terminal.
+-- The characters from `place` to `next` are a token, which is as long as possible and stands for this terminal.
 pub record StandsToken (o : Options) (text : List ℕ) (place next : ℕ) (terminal : Terminal) : Type 0 where
   pub characters : List ℕ
   pub between : Between text place next characters
@@ -88,13 +89,13 @@ pub record StandsToken (o : Options) (text : List ℕ) (place next : ℕ) (termi
   pub ends : EndsRun o characters (ahead text next)
   pub is_terminal : terminal ≡ terminal_of o characters
 
--- A run of characters that pass the test ends before the text stops, if none that passes it is of one run with one that
--- fails it.
+-- A run ends where the characters that pass a test end, if no character that passes the test is of one run with a
+-- character that fails it.
 run_ends : (o : Options) (test : ℕ → Bool) → ((c d : ℕ) → test c ≡ true → test d ≡ false → are_of_one_run o c d ≡ false)
     → (c : ℕ) (rest : List ℕ) → test c ≡ true → Stops test rest → goes_on o c rest ≡ false
 run_ends o test apart c rest e stops = search rules
 
--- Such a run is a token, if it is a lexeme that stands for `meaning`.
+-- Such a run is a token that stands for `meaning`, if it is a lexeme that does.
 run_stands : {text cs : List ℕ} {place next at c : ℕ} (o : Options) (test : ℕ → Bool) (meaning : List ℕ → Terminal)
     → ((c d : ℕ) → test c ≡ true → test d ≡ false → are_of_one_run o c d ≡ false)
     → ((d : ℕ) (ds : List ℕ) → IsTrue (list_all test (d ∷ ds))
@@ -118,7 +119,7 @@ word_stands o taken stops stands e =
     let no_digit = letter-not_digit o d (and_parts (is_unit_letter o d) _ all).0 in
     (letters_are_lexeme o d ds all, rw (no_digit, all))) taken.run.between taken.run.all stops stands e).1
 
--- an operator, or a character of no other class
+-- a character that is no blank, no digit and no unit letter is a token by itself
 pub sign_stands : {text : List ℕ} {place next c : ℕ} (o : Options) → StandsAt text place next c → is_blank c ≡ false
     → is_digit c ≡ false → is_unit_letter o c ≡ false
     → StandsToken o text place next (operator_or_other (operator_of c))
@@ -159,7 +160,7 @@ module _ (o : Options) where
 
 -- ---- the token that starts with a character
 
--- A text that starts with a character other than a blank starts with a token of that character.
+-- A text that starts with a character other than a blank starts with a token, whose sort is that of the character.
 pub first_token : (o : Options) (at c : ℕ) (text : List ℕ) → is_blank c ≡ false
     → (cs : List ℕ) × (rest : List Token)
     × (tokens_from o at (c ∷ text) ≡ record { start = at; characters = cs } ∷ rest) ×

@@ -1,4 +1,4 @@
--- The steps of `Tokens`: what is ahead, and the next token.
+-- Lemmas about the steps of `Tokens`: what is ahead, and the next token.
 use Rattle.duration_str.proofs.Common.{ahead, arith, CondUnit, cut_place, ForSome, is_blank, is_digit, is_unit_letter, IsAhead, IsCharBoundary, IsSign, IsUtf8, IsUtf8-had, KeepsInput, length, length-drop, length-take-le, List, LooksAhead, None, Number, number_of, Operator, Option, options_of, Other, other, Passes, refl, rules, slice_range, Some, sort_of, source, Stands, StandsAt, Stops, sym, TakesDigits, TakesNumber, TakesToken, TakesTokenWith, Terminal, terminal_of, TimeUnit, Token, Tokens, tokens_left, TokenStart, true, u64_from, what_of, width, Word, word, YieldsNextToken, [], ℕ, ◌+◌, ◌<◌, ◌∙◌, ◌∷◌, ◌≡◌}
 use Rattle.duration_str.proofs.Characters.NumberLemmas.{bytes_of_digits}
 use Rattle.duration_str.proofs.Cutting.PositionLemmas.{blanks_passed, chars_between, place_at_end, TakesWord, token_taken}
@@ -14,13 +14,13 @@ keeps_on kept later = record { text = later.text ∙ kept.text; options = later.
 
 -- ---- what is ahead
 
--- Past the character ahead, fewer are ahead.
+-- After a step past the character ahead, fewer characters are ahead.
 pub fewer_ahead : {s t : Tokens} {c : ℕ} → KeepsInput s t
     → ForSome s.head (StandsAt (source s) (cut_place s) (cut_place t)) → s.head ≡ Some c
     → length (ahead (source t) (cut_place t)) < length (ahead (source s) (cut_place s))
 fewer_ahead kept past is = simp (kept.text, (past _ is).head) (omega arith)
 
--- skipping the blanks from s to t
+-- skipping the blanks from s to t leaves the same tokens
 pub looks_ahead : {s t : Tokens} (sort : Option TokenStart) → KeepsInput s t
     → Passes is_blank (source s) (cut_place s) (cut_place t) → IsAhead t sort → LooksAhead s t sort
 looks_ahead {s} sort kept blanks ahead = search (rules, blanks_passed)
@@ -28,7 +28,7 @@ looks_ahead {s} sort kept blanks ahead = search (rules, blanks_passed)
 pub none_left : (s : Tokens) → IsAhead s None → (tokens_left s ≡ []) × (cut_place s ≡ length (source s))
 none_left s end = search (rules, IsUtf8-had, place_at_end)
 
--- The first token that is left starts at the place, and its terminal has the sort ahead.
+-- If a token of a sort is ahead, the first token that is left starts at the place, and its terminal has that sort.
 pub first_left : (s : Tokens) (sort : TokenStart) → IsAhead s (Some sort)
     → (cs : List ℕ) × (rest : List Token) × (tokens_left s ≡ record { start = cut_place s; characters = cs } ∷ rest)
     × (sort ≡ sort_of (terminal_of (options_of s) cs))
@@ -49,12 +49,12 @@ takes_token : {s t : Tokens} {terminal : Terminal} → KeepsInput s t
     → StandsToken (options_of s) (source s) (cut_place s) (cut_place t) terminal → TakesToken s t terminal
 takes_token {s} kept token = search (rules, token_taken)
 
--- a slice of the same text from the same place
+-- a slice from s to t of the text of t is one of the text of s
 same_slice : {s t : Tokens} {slice : List ℕ} {start : ℕ} → KeepsInput s t → start ≡ cut_place s
     → slice ≡ slice_range (source t) start (cut_place t) → slice ≡ slice_range (source s) (cut_place s) (cut_place t)
 same_slice kept there is = simp (kept.text, there) at is
 
--- The slice from s to t is the digits that were taken.
+-- The slice from s to t has the digits that were taken.
 pub digits_between : {s t : Tokens} {low start : ℕ} {slice : List ℕ} → KeepsInput s t
     → (taken : TakesDigits (source s) (cut_place s) (cut_place t) low) → start ≡ cut_place s
     → slice ≡ slice_range (source t) start (cut_place t) → IsUtf8 slice → slice ≡ taken.run.characters
@@ -77,7 +77,7 @@ takes_word {s} h kept taken stops =
     let letter = letter_of_sort (options_of s) h.character h.is_sort in
     takes_token kept (word_stands (options_of s) taken (simp kept.text at stops) (s.some h.character h.is_head) letter)
 
--- taking the single character ahead
+-- a step past a single character takes it as a token
 pub takes_sign : {s t : Tokens} (sort : TokenStart) → IsSign sort → IsAhead s (Some sort) → KeepsInput s t
     → ((c : ℕ) → s.head ≡ Some c → StandsAt (source s) (cut_place s) (cut_place t) c)
     → TakesTokenWith s t (λ terminal. sort ≡ sort_of terminal)
@@ -86,7 +86,7 @@ takes_sign {s} sort sign h kept past =
     let (no_digit, no_letter, sort_is) = sign_of_sort (options_of s) c sort sign h.is_sort in
     search (rules, takes_token, sign_stands, sign_sorts)
 
--- the terminal of a single character, given its sort
+-- a terminal with the sort of an operator is that operator
 pub sign_what : (terminal : Terminal) (op : CondUnit) → Operator op ≡ sort_of terminal
     → whats.Operator op ≡ what_of terminal
 sign_what terminal op e = search rules
@@ -95,7 +95,7 @@ pub other_what : (terminal : Terminal) → Other ≡ sort_of terminal → whats.
 other_what other e = refl
 other_what _ e = absurd cc
 
--- the token that was taken is the next one
+-- the token that was taken is the next one that the iterator returns
 pub takes_terminal : {s m t : Tokens} {terminal : Terminal} (x : RustToken) → KeepsInput s m
     → tokens_left m ≡ tokens_left s → TakesToken m t terminal
     → x.start ≡ cut_place m → x.text.now ≡ slice_range (source t) x.start (cut_place t)

@@ -29,7 +29,7 @@ module _ (o : Options) where
       (same_end c d rest run ∙ e) in
       rw (p.0, run, later, add_assoc)
 
-  -- The tokens of a text are its first token and those of the rest.
+  -- The tokens of a text are its first token and the tokens of the rest.
   pub tokens_step : (at : ℕ) (blanks cs rest : List ℕ) → IsBlank blanks → IsLexeme o cs → EndsRun o cs rest
       → tokens_from o at (blanks ++ (cs ++ rest))
       ≡ record { start = at + byte_len blanks; characters = cs }
@@ -47,7 +47,7 @@ module _ (o : Options) where
       → ps ≡ qs
   tokens_once at text ps qs h k = sym (tokens_computed at text ps h) ∙ tokens_computed at text qs k
 
-  -- The character c comes before the first token of the text after it, and is in one run with it.
+  -- If the character c is of one run with the first token of the text after it, it belongs to that token.
   joined_in_front : (at c d : ℕ) (text blanks cs rest : List ℕ) (start : ℕ) (ps : List Token) → is_blank c ≡ false
       → are_of_one_run o c d ≡ true → IsBlank blanks → d ∷ text ≡ blanks ++ (cs ++ rest)
       → start ≡ (at + width c) + byte_len blanks → IsLexeme o cs → EndsRun o cs rest

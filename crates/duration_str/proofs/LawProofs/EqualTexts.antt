@@ -3,7 +3,7 @@ use Rattle.duration_str.proofs.Common.{EqualTexts, FitsDuration, IsPrintedIn, Li
 use Rattle.duration_str.proofs.Sentences.SpellingLemmas.{sentence_terminals}
 use Rattle.duration_str.proofs.Printer.PrintingLemmas.{counts_are, duration_lexemes, duration_sum, printed_is_sum}
 
--- A printed text determines its duration: it is the sum of its terms.
+-- A printed text determines its duration, which is the sum of the text's terms.
 printed_sum : (style : Style) (nanos : ℕ) (text : List ℕ) → FitsDuration nanos → IsPrintedIn style nanos text
     → sum_of (terms_of (Some Second) (terminals_of off text)) ≡ nanos
 printed_sum style nanos text h p =

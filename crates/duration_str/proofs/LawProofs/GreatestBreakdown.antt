@@ -23,7 +23,7 @@ counts_each (l ∷ lengths) nanos = rw (counts_each lengths (nanos % l))
 first_within : (m l rest nanos : ℕ) → 1 ≤ l → m * l + rest ≡ nanos → m ≤ nanos / l
 first_within m l rest nanos h e = search rules
 
--- If the first count is the quotient, the others total the remainder.
+-- If the first count is the quotient, the other counts add up to the remainder.
 rest_same : (m l rest nanos : ℕ) → m * l + rest ≡ nanos → m ≡ nanos / l → rest ≡ nanos % l
 rest_same m l rest nanos e s = let product = rw s at e in omega (arith, div-add-mod' nanos l)
 

@@ -25,7 +25,7 @@ first_at_most m l rest nanos h e = search rules
 rest_at_most : (m l rest nanos : ℕ) → m * l + rest ≤ nanos → m ≡ nanos / l → rest ≤ nanos % l
 rest_at_most m l rest nanos e s = let product = rw s at e in omega (arith, div-add-mod' nanos l)
 
--- A length that does not go into a number is more than it, and leaves it whole.
+-- If the quotient by a length is 0, the number is below the length.
 pub below_length : (n l : ℕ) → 1 ≤ l → n / l ≡ 0 → n < l
 below_length n l h none = search (rules, cases_lt, le-div_iff_mul-le)
 
@@ -91,7 +91,7 @@ pub greatest_within : (format : Format) (nanos : ℕ)
     (counts_within (lengths_within format) format.parts nanos)
 greatest_within format nanos = search (rules, lengths_positive, within_each, within_few, within_greatest, within_sum)
 
--- The counts within limits are those by quotients and remainders.
+-- The greatest counts within limits are those by quotients and remainders.
 pub one_greatest_within : (format : Format) (nanos : ℕ) (counts : List ℕ)
     → IsGreatestWithin (lengths_within format) format.parts nanos counts
     → counts ≡ counts_within (lengths_within format) format.parts nanos

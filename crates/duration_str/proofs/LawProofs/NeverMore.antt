@@ -1,4 +1,4 @@
--- What is printed within limits is the greatest duration whose own breakdown keeps within them.
+-- What is printed in a format is the greatest duration that fits into the format.
 use Rattle.duration_str.proofs.Common.{Format, IsGreatestBreakdown, IsReadWith, List, NeverMore, Option, Options, TimeUnit, Year, [], ap, arith, counts_of, counts_within, div-eq_of_lt-le, le-div_iff_mul-le, le-mul_of_pos_right, length, lengths_within, map, map-append, nanos_of, nat_lt, part_count, refl, rules, subst, sym, terminal_of, text_within, units, units_within, weighted_sum, zero-div, zero_unit, ℕ, ◌%◌, ◌*◌, ◌++◌, ◌+◌, ◌/◌, ◌<◌, ◌^◌, ◌∙◌, ◌∷◌, ◌≡◌, ◌≤◌, last_unit, shorter_units}
 use Rattle.std.specs.Prelude.{filter}
 use Rattle.duration_str.proofs.LawProofs.GreatestBreakdown.{breakdown_of, EndInOne, one_greatest}
@@ -12,7 +12,7 @@ use Rattle.duration_str.proofs.Sentences.AnswerLemmas.{sum_read}
 abbrev shown : List ℕ → ℕ → ℕ → ℕ
 shown lengths most nanos = weighted_sum lengths (counts_within lengths most nanos)
 
--- What is below the length stays as the remainder.
+-- A remainder below the length stays the remainder.
 divided : (c l rest : ℕ) → rest < l → ((c * l + rest) / l ≡ c) × ((c * l + rest) % l ≡ rest)
 divided c l rest h = search (rules, div-eq_of_lt-le)
 
@@ -25,13 +25,13 @@ none_shown : (lengths : List ℕ) (most nanos : ℕ) → most ≡ 0 → shown le
 none_shown [] most nanos none = refl
 none_shown (l ∷ lengths) most nanos none = search (rules, none_shown lengths most nanos none)
 
--- Its own counts are those that are printed, and then only 0.
+-- The counts of the duration that is printed are the printed ones, and after them only 0.
 own_counts : (lengths more : List ℕ) (most nanos : ℕ) → ArePositive lengths
     → counts_of (lengths ++ more) (shown lengths most nanos) ≡ counts_within lengths most nanos ++ counts_of more 0
 own_counts [] more most nanos h = refl
 own_counts (l ∷ lengths) more most nanos h = search (rules, own_step, none_shown, within_sum, own_counts lengths more)
 
--- It prints as the same counts.
+-- The duration that is printed prints as the same counts.
 within_again : (lengths : List ℕ) (most nanos : ℕ) → ArePositive lengths
     → counts_within lengths most (shown lengths most nanos) ≡ counts_within lengths most nanos
 within_again [] most nanos h = refl
@@ -66,7 +66,7 @@ ends_each : (smallest : TimeUnit) → EndsIn smallest
 ends_each Year = omega arith
 ends_each u = omega arith
 
--- The units with all that are shorter end with the nanosecond.
+-- The units, followed by all shorter ones, end with the nanosecond.
 end_in_one : (us : List TimeUnit) (u : TimeUnit) (lengths : List ℕ) → EndInOne (nanos_of (last_unit u us) ∷ lengths)
     → EndInOne (nanos_of u ∷ map nanos_of us ++ lengths)
 end_in_one [] u lengths h = h

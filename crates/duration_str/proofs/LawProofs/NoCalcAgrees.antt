@@ -1,4 +1,4 @@
--- Without operators `no_calc` changes neither what is accepted nor its value.
+-- For a text without operators, `no_calc` changes neither whether it is accepted nor its value.
 use Rattle.duration_str.proofs.Common.{and_parts, Bool, HasNoOperator, is_operator, IsReadWith, IsSentence, List, map, NoCalcAgrees, not, number, operator, Option, Options, rules, Some, Terminal, terminal_of, TimeUnit, word, [], ℕ, ⊤, ◌∷◌}
 use Rattle.duration_str.proofs.Cutting.SortLemmas.{terminal_cases}
 use Rattle.duration_str.proofs.Sentences.SpellingLemmas.{EachPasses, lexemes_pass}
@@ -17,7 +17,7 @@ no_operator_terminals o (w ∷ lexemes) h =
     (λ plain. more) (λ c cs digits plain. more) (λ c cs letters plain. more)
     (λ c op _ _ sign plain. cc (rw sign at (and_parts (not (is_operator c)) _ plain).0)) (λ c cs _ _ plain. more) w h.0
 
--- A sentence without operators is a sentence under both options.
+-- A sentence without operators is a sentence both with and without `no_calc`.
 sentence_for : (default_unit : Option TimeUnit) (a b : Bool) (terminals : List Terminal) → HaveNoOperator terminals
     → IsSentence default_unit a terminals
     → IsSentence default_unit b terminals

@@ -16,7 +16,7 @@ unit_kept u row e = search rules
 
 -- ---- Terminals and terms
 
--- The unit of a word, if it names one, still has its length.
+-- Each unit among these terminals still has its length.
 abbrev KeepLengths : List Terminal → Type 0
 KeepLengths [] = ⊤
 KeepLengths (word (Some u) ∷ terminals) = (older_nanos_of u ≡ nanos_of u) × KeepLengths terminals
@@ -32,7 +32,8 @@ sign_keeps : (w : List ℕ) (terminals : List Terminal) → KeepLengths terminal
     → KeepLengths (sign_terminal w ∷ terminals)
 sign_keeps w terminals k = search rules
 
--- A lexeme that the table allows where it is has the same terminal as before, with a unit of the same length.
+-- A lexeme that the table of terminals allows at its place stands for the same terminal as before, with a unit of the
+-- same length.
 same_terminal : (o : Options) (last : Option Terminal) (w : List ℕ) (terminals : List Terminal)
     → IsTrue (allows (expected_after (Some Second) o.no_calc last) (terminal_by older_unit_of_word o w)) → KeepLengths terminals
     → (terminal_by older_unit_of_word o w ≡ terminal_of o w)
@@ -77,7 +78,7 @@ module _ (o : Options) (lexemes : List (List ℕ)) (text : List ℕ) (was : WasS
 older_value : (o : Options) (text : List ℕ) (nanos : ℕ) → WasRead o text nanos → IsRead o text nanos
 older_value o text nanos was = search (rules, older_terms_same, older_sentence)
 
--- A sentence whose evaluation has this fault is refused for it, wherever its end stands.
+-- A sentence whose evaluation has this fault is refused for it, at whatever byte the sentence ends.
 refused_at : (no_calc : Bool) (place : ℕ) (terminals : List Terminal) (cause : Cause) → IsSentence (Some Second) no_calc terminals
     → sentence_fault no_calc (terms_of (Some Second) terminals) ≡ Some cause → IsRefusedAt (Some Second) no_calc place terminals [] cause
 refused_at no_calc place terminals cause s e = search (rules, append-nil)

@@ -1,4 +1,5 @@
--- `lowercase` changes nothing without ASCII capitals, and `cn_unit` nothing without Chinese characters.
+-- `lowercase` changes nothing for a text without ASCII capitals, and `cn_unit` changes nothing for a text without the
+-- Chinese characters of the units.
 use Rattle.duration_str.proofs.Common.{Bool, Cause, HasNoCapital, HasNoChinese, IsIdle, IsReadWith, IsRefusedWith, IsTrue, List, Option, Options, OptionsIdle, TimeUnit, [], and_parts, arith, bytes_eq, false, goes_on, if◌then◌else◌, is_chinese, is_unit_letter, list_all, list_any, map, not, not-true, refl, rules, terminal_of, terminals_of, to_ascii_lowercase, tokens_from, tokens_of, true, unit_of_word, width, ℕ, ◌+◌, ◌∷◌, ◌≡◌}
 use Rattle.duration_str.proofs.Characters.UnitLemmas.{named_passes}
 use Rattle.duration_str.proofs.Sentences.SpellingLemmas.{EachPasses, lexemes_pass, tokens_spell}
@@ -6,7 +7,7 @@ use Rattle.duration_str.proofs.Sentences.AnswerLemmas.{read_terminals, terminals
 
 -- ---- Options that give the same tokens and terminals give the same answer
 
--- Both options have the same grammar, and give the text the same tokens and terminals.
+-- Under both choices of options the text has the same grammar, tokens and terminals.
 record AreAlike (o p : Options) (text : List ℕ) : Type 0 where
   grammar : o.no_calc ≡ p.no_calc
   tokens : tokens_of o text ≡ tokens_of p text
@@ -30,7 +31,8 @@ idle default_unit choice text h = search (rules, read_alike, refused_alike)
 
 -- ---- Options that agree on characters and words give the same tokens and terminals
 
--- For characters that pass the test both options have the same unit letters, and for words of them the same units.
+-- Both choices of options agree on which characters that pass the test are unit letters, and on the units of words of
+-- such characters.
 record Agree (test : ℕ → Bool) (o p : Options) : Type 0 where
   letter : (c : ℕ) → test c ≡ true → is_unit_letter o c ≡ is_unit_letter p c
   unit : (w : List ℕ) → IsTrue (list_all test w) → unit_of_word o w ≡ unit_of_word p w
@@ -83,7 +85,7 @@ form_not_chinese lowercase w h = search (rules, all_lower_not_chinese)
 abbrev has_chinese : List ℕ → Bool
 has_chinese name = not (list_all (λ c. not (is_chinese c)) name)
 
--- A name with a Chinese character is not a word without them.
+-- A word without Chinese characters is no name that has one.
 other_names : (w : List ℕ) (names : List (List ℕ)) → HasNoChinese w → IsTrue (list_all has_chinese names)
     → list_any (bytes_eq w) names ≡ false
 other_names w names h k = search (rules, named_passes)

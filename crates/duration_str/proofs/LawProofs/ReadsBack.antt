@@ -1,4 +1,4 @@
--- A printed text is read back below 2^64 nanoseconds, and otherwise overflows.
+-- The text of a duration below 2^64 nanoseconds is read back as that duration, and the text of any other overflows.
 use Rattle.duration_str.proofs.Common.{Bool, FitsDuration, IsPrintedIn, IsReadWith, IsRefusedWith, List, None, Option, Options, Overflow, ReadsBack, Some, Style, Terminal, TimeUnit, Year, [], arith, counts_of, drop, early, early_fault, le-ltb, lt-ltb, map, nanos_of, number, rules, sum_of, sym, terminal_of, terms_of, unit_lengths, units, word, ℕ, ◌*◌, ◌+◌, ◌/◌, ◌<◌, ◌^◌, ◌∷◌, ◌≡◌, ◌≤◌}
 use Rattle.duration_str.proofs.Sentences.AnswerLemmas.{EachFits, sentence_refused, sum_fits_each, sum_overflows, sum_read, terms_of_lexemes}
 use Rattle.duration_str.proofs.Printer.PrintingLemmas.{duration_lexemes, duration_sum, kept, printed_is_sum, terminals, terminals_of_duration}
@@ -6,7 +6,7 @@ use Rattle.duration_str.proofs.Printer.PrintingLemmas.{duration_lexemes, duratio
 abbrev years : ℕ → ℕ
 years nanos = nanos / nanos_of Year
 
--- the terminals after the years
+-- the terminals that follow the years in a printed text
 abbrev after_years : ℕ → List Terminal
 after_years nanos = terminals (kept (drop 1 units) (drop 1 (counts_of unit_lengths nanos)))
 
@@ -36,7 +36,7 @@ overflows_above default_unit o style nanos text low high p =
     rw terminals (omega arith, sum_fits_each (terms_of default_unit rest) (omega arith)) in
     sum_overflows (printed_is_sum default_unit o style nanos text within p) each (omega arith)
 
--- The years overflow by themselves.
+-- From 585 years on, the first term overflows by itself.
 first_overflows : (default_unit : Option TimeUnit) (no_calc : Bool) (n : ℕ) (rest : List Terminal) → n < 2 ^ 64
     → 2 ^ 64 ≤ n * nanos_of Year
     → early_fault default_unit no_calc (number n ∷ word (Some Year) ∷ rest) [] ≡ Some (Overflow (Some 0))

@@ -4,7 +4,7 @@ use Rattle.std.specs.Set.{remove_key}
 use Rattle.std.proofs.lemmas.Map.Made.{sum_by-remove_key}
 use Rattle.duration_str.proofs.Sentences.AnswerLemmas.{read_below, read_sum, sum_read, terms_of_lexemes}
 
--- how often n is in the list of x alone
+-- how often n is in the list that has only x
 abbrev is_times : ℕ → ℕ → ℕ
 is_times n x = if x == n then 1 else 0
 
@@ -16,7 +16,7 @@ found : (n : ℕ) (xs : List ℕ) → 1 ≤ times_in n xs → find (λ x. x == n
 found n [] h = absurd (omega arith)
 found n (x ∷ xs) h = grind (arith, cases_Bool, eqb-true, found n xs)
 
--- What is added up over a list is what n adds and what the list without its first n adds.
+-- The sum of `f` over a list is `f n` and the sum over the list without its first n.
 one_taken : (f : ℕ → ℕ) (n : ℕ) (xs : List ℕ) → 1 ≤ times_in n xs
     → sum_by f xs ≡ f n + sum_by f (remove_key (λ x. x == n) xs)
 one_taken f n xs h = let taken = rw (found n xs h) at (sum_by-remove_key f (λ x. x == n) xs) in omega arith

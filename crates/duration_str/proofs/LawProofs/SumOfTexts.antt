@@ -1,4 +1,4 @@
--- Two accepted texts without `*`, joined by a plus, have the sum of their values, or overflow.
+-- Two accepted texts without `*`, joined by a plus, have the sum of their values, or are refused as an overflow.
 use Rattle.duration_str.proofs.Common.{AllPlus, CondUnit, HasNoStar, IsBlank, IsReadWith, IsSentence, List, Option, Options, Plus, Some, Spells, SumOfTexts, Term, Terminal, TimeUnit, [], and_from, and_parts, append_assoc, arith, cases_Bool, codes, common_steps, false, inl, inr, list_all-append, map, map-append, nat_tests, not, number, operator, operator_of, refl, rules, sum_of, terminal_of, terms_after, terms_of, true, word, ℕ, ◌++◌, ◌+◌, ◌==◌, ◌∙◌, ◌∷◌, ◌≡◌}
 use Rattle.duration_str.proofs.Cutting.SortLemmas.{terminal_cases}
 use Rattle.duration_str.proofs.Sentences.SpellingLemmas.{begins_with, EachPasses, lexemes_pass}
@@ -99,7 +99,7 @@ joined_terms : (default_unit : Option TimeUnit) (o : Options) (lexemes others : 
     → terms_of_lexemes default_unit o (joined_lexemes lexemes others) ≡ terms_of_lexemes default_unit o lexemes ++ terms_of_lexemes default_unit o others
 joined_terms default_unit o lexemes others s = search (rules, both_terms, joined_terminals)
 
--- What is known of the joined text of two texts that are read.
+-- The text is a sum whose terms are each below 2^64 and add up to `nanos`, as two joined texts are.
 record IsJoined (default_unit : Option TimeUnit) (o : Options) (text : List ℕ) (nanos : ℕ) : Type 0 where
   lexemes : List (List ℕ)
   sum : IsSumOf default_unit o lexemes text

@@ -1,9 +1,10 @@
--- A product of two terms is accepted exactly if both terms and their product fit, and so is the exchanged product.
+-- A product of two terms is accepted exactly if both terms and their product are below 2^64, also with the terms
+-- exchanged.
 use Rattle.duration_str.proofs.Common.{IsReadWith, IsSentenceWith, List, Option, Options, Some, Star, Term, TimeUnit, TwoFactors, [], arith, mul-div_cancel, mul_comm, refl, second, value_of, value_of_term, ℕ, ◌*◌, ◌/◌, ◌<◌, ◌^◌, ◌↔◌, ◌∷◌, ◌≡◌}
 use Rattle.duration_str.proofs.Sentences.SumLemmas.{no_fault}
 use Rattle.duration_str.proofs.Sentences.AnswerLemmas.{read_sentence, terms_of_lexemes}
 
--- The numbers of both terms, their values, and their product, which is `nanos`, are below 2^64.
+-- The numbers of both terms, the values of both terms, and the product, which is `nanos`, are below 2^64.
 abbrev Fit : Term → Term → ℕ → Type 0
 Fit t u nanos =
     (t.number < 2 ^ 64) × (value_of_term t < 2 ^ 64) × (u.number < 2 ^ 64) × (value_of_term u < 2 ^ 64)

@@ -1,4 +1,4 @@
--- The place of a fault, its token, and the answer to a whole text.
+-- Lemmas about the place of a fault, the token there, and the answer to a whole text.
 use Rattle.duration_str.proofs.Common.{and_parts, answer_left, answer_with, ap, append-nil, append_assoc, AreTokens, arith, Bool, Bor, byte_len, cases_Bool, Cause, chars, chars-append, chars-nil, common_steps, CondUnit, drop, drop-nil, early, early_fault, Empty, encodes, encodes-append, encodes-chars, eq-eqb, Err, evaluation_fault, false, fault_of_terms, ForSome, found_token, IfSome, IsCharBoundary, IsCharBoundary-at_seam, IsCharBoundary-start, IsLexeme, IsMissingAtEnd, IsNone, IsRefusedWith, IsSliceOf, IsUtf8, IsUtf8-take, late, late_fault, length, length-append, length-encode, lexemes_of, List, map, ne_eqb, None, Option, Options, options_of, or_else, place_of, refl, rest_from, rest_of, Result, running_fault, scalars, scalars-chars, Second, Some, source, start_after, start_left, suc, sym, Syntax, syntax_fault, take, take-add, Term, Terminal, terminal_of, terminals_in, TimeUnit, Token, token_at, Tokens, tokens_left, tokens_of, true, unless, zero, [], ℕ, ◌++◌, ◌+◌, ◌-◌, ◌<◌, ◌==◌, ◌↔◌, ◌∙◌, ◌∷◌, ◌≡◌, ◌≤◌}
 use Rattle.duration_str.specs.OtherResults.{ReachesPlace}
 use Rattle.duration_str.specs.Internal.Rest.{IsPlacedUpTo}
@@ -9,7 +9,7 @@ use Rattle.std.proofs.lemmas.Bool.{eqb-false}
 
 -- ---- A property of the place of a syntax fault
 
--- The place of a syntax fault has the property; any other fault has no place, or stands at the start of the text.
+-- A syntax fault is at a place for which `P` holds. Any other fault has no place, or is at the start of the text.
 abbrev pub Stands : (ℕ → Type 0) → Cause → Type 0
 Stands P (Syntax place expected) = P place
 Stands P cause = IfSome (place_of cause) (λ place. place ≡ 0)
@@ -43,7 +43,7 @@ module _ (P : ℕ → Type 0) where
       → IfSome (late_fault default_unit no_calc terminals) (Stands P)
   late_stands default_unit no_calc terminals = grind (arith, evaluation_stands)
 
-  -- A syntax fault stands at the start of a token, or at the end.
+  -- A syntax fault is at the start of a token, or at the end of the text.
   pub refused_stands : (default_unit : Option TimeUnit) (o : Options) (text : List ℕ) (cause : Cause)
       → IsRefusedWith default_unit o text cause
       → ((n : ℕ) → P (start_after n (byte_len text) (tokens_of o text))) → Stands P cause
@@ -62,19 +62,19 @@ encoded_parts : (xs ys : List ℕ) → scalars (xs ++ ys) ≡ true
 encoded_parts [] ys e = (refl, e)
 encoded_parts (x ∷ xs) ys e = grind (arith, and_parts, length-encode, length-append, encoded_parts xs ys)
 
--- The bytes of a text are those of its characters.
+-- A text has as many bytes as its characters in UTF-8.
 pub byte_count : (bs : List ℕ) → IsUtf8 bs → byte_len (chars bs) ≡ length bs
 byte_count bs utf8 =
     (encoded_parts (chars bs) [] (rw append-nil (scalars-chars bs utf8))).0 ∙ ap length (encodes-chars bs utf8)
 
--- The bytes of some first characters end at a boundary.
+-- The first characters of a text end at a character boundary.
 seam : (bs xs ys : List ℕ) → IsUtf8 bs → chars bs ≡ xs ++ ys → IsCharBoundary bs (byte_len xs)
 seam bs xs ys utf8 e =
     let (len, more) = encoded_parts xs ys (rw e at (scalars-chars bs utf8)) in
     let whole : bs ≡ encodes xs ++ encodes ys = rw (e, encodes-append) at (sym (encodes-chars bs utf8)) in
     rw len (IsCharBoundary-at_seam bs (encodes xs) (encodes ys) whole (ys, (more, refl)))
 
--- The characters `xs` come before those with these tokens, whose starts are boundaries, as is the end.
+-- Each token starts at a character boundary, and the text ends at one. The characters `xs` come before the tokens.
 start_placed : (o : Options) (bs xs cs : List ℕ) (n at : ℕ) (tokens : List Token) → IsUtf8 bs → chars bs ≡ xs ++ cs
     → at ≡ byte_len xs → AreTokens o at cs tokens → IsCharBoundary bs (start_after n (byte_len (chars bs)) tokens)
 start_placed o bs xs cs n at [] utf8 e w a = rw drop-nil (seam bs (chars bs) [] utf8 (rw append-nil))
@@ -85,7 +85,7 @@ start_placed o bs xs cs (suc n) at (p ∷ tokens) utf8 e w (rest, next, more) =
     start_placed o bs (xs ++ (next.blanks ++ p.characters)) rest n (p.start + byte_len p.characters) tokens utf8
     (simp append_assoc (rw next.parts at e)) (simp byte_len-append (omega (arith, next.start, w))) more
 
--- What holds of the start and of a syntax fault's place holds of the place of any fault.
+-- What holds for the start of the text and for the place of a syntax fault holds for the place of any fault.
 stands_at : (P : ℕ → Type 0) → P 0 → (cause : Cause) → Stands P cause → ForSome (place_of cause) P
 stands_at P start cause h = grind arith
 
@@ -111,7 +111,8 @@ chars_before bs place at utf8 boundary order =
     let sum : at ≡ place + (at - place) = omega arith in
     grind (arith, common_steps, take-add, chars-append, IsUtf8-take, length-append)
 
--- Where a text is looked at up to a byte, and refused for a fault at or before it, its place is reached.
+-- If a text is looked at up to a byte, and refused for a fault at or before that byte, the looks reach the fault's
+-- place.
 pub reaches_place : (default_unit : Option TimeUnit) (o : Options) (bs : List ℕ) (at looks : ℕ) (cause : Cause)
     → IsUtf8 bs
     → answer_with default_unit o (chars bs) ≡ Err cause → IsPlacedUpTo at cause → length (chars (take at bs)) ≤ looks
@@ -126,21 +127,21 @@ reaches_place default_unit o bs at looks cause utf8 is placed least place expect
 lexeme_some : (o : Options) (w : List ℕ) → IsLexeme o w → 0 < byte_len w
 lexeme_some o w l = grind arith
 
--- No token of a text starts at its end.
+-- No token of a text starts at the end of the text.
 none_at : (o : Options) (n at : ℕ) (text : List ℕ) (tokens : List Token) → n ≡ at + byte_len text
     → AreTokens o at text tokens → token_at n tokens ≡ None
 none_at o n at text [] e a = refl
 none_at o n at text (p ∷ tokens) e (rest, next, more) =
     grind (arith, byte_len-append, lexeme_some, ne_eqb, none_at o n (p.start + byte_len p.characters) rest tokens)
 
--- A token is found at the start of each.
+-- At the start of each token a token is found.
 found_at : (n len : ℕ) (tokens : List Token) → token_at (start_after n len tokens) tokens ≡ None
     → start_after n len tokens ≡ len
 found_at n len [] none = rw drop-nil
 found_at zero len (p ∷ tokens) none = absurd (cc (rw (eq-eqb p.start p.start refl) at none))
 found_at (suc n) len (p ∷ tokens) none = grind (arith, cases_Bool, found_at n len tokens)
 
--- A slice is missing exactly if its token is.
+-- There is no slice exactly if there is no token.
 missing_token : (bytes : List ℕ) (token : Option Token) (slice : Option (Bor (List ℕ))) → IsSliceOf bytes token slice
     → (IsNone slice ↔ (token ≡ None))
 missing_token bytes token slice h = grind arith

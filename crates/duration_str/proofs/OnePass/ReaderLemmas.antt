@@ -1,4 +1,4 @@
--- The reader's steps: what comes next, by the sort ahead, and what is left after it.
+-- Lemmas about the reader's steps: what comes next, by the sort of the token ahead, and what is left after it.
 use Rattle.duration_str.proofs.Common.{arith, cut_place, end_at, expected_at_start, if◌then◌else◌, is_number, length, LooksAhead, None, number, number_fault, operator, Option, options_of, other, refl, Rest, rest_from, rest_of, Some, sort_of, source, sym, Syntax, TakesToken, Terminal, terminal_at, terminal_of, TimeUnit, Tokens, TokenStart, word, ℕ, ◌≡◌}
 use Rattle.duration_str.proofs.Cutting.StepLemmas.{first_left, none_left}
 use Rattle.duration_str.specs.declared.token.TokenStart.TheVariants as sorts
@@ -6,7 +6,7 @@ use Rattle.duration_str.specs.declared.token.TokenStart.TheVariants as sorts
 pub same_rest : {s m : Tokens} {sort : Option TokenStart} → LooksAhead s m sort → rest_of m ≡ rest_of s
 same_rest look = (λ i. rest_from (look.kept.options i) (length (look.kept.text i)) (look.same_left i))
 
--- At the end the whole source is cut.
+-- If nothing is ahead, nothing is left and the whole text is cut.
 pub at_end : {s m : Tokens} → LooksAhead s m None
     → (rest_of s ≡ end_at (cut_place m)) × (cut_place m ≡ length (source m))
 at_end {s} {m} look = let none = none_left m look.ahead in (rw (← same_rest look, none.0, ← none.1), none.1)
@@ -32,7 +32,7 @@ starts {s} {m} {sort = sort} look is =
     let here = rw left_is at (sym (same_rest look)) in
     rw sort_is (by_terminal (terminal_of (options_of m) cs) (cut_place m) (rest_of s) _ here)
 
--- A number follows, or its absence is a fault at the place.
+-- A number is ahead, or there is a syntax fault at the place.
 pub number_comes : {s m : Tokens} {sort : Option TokenStart} → LooksAhead s m sort
     → number_fault (rest_of s) ≡ (if is_number sort then None else Some (Syntax (cut_place m) expected_at_start))
 number_comes {sort = None} look = rw (at_end look).0

@@ -6,17 +6,17 @@ use Rattle.duration_str.proofs.Sentences.AnswerLemmas.{allowed_plus}
 use Rattle.duration_str.proofs.OnePass.EvaluationLemmas.{after_term, answer_after_first, answer_of, answer_given, checked_term_is, one_by_one}
 use Rattle.duration_str.proofs.OnePass.ReaderLemmas.{after_token}
 
--- the syntax fault at a place with these kinds expected and these terminals following
+-- the syntax fault at a place where these kinds are expected and these terminals follow, if there is one
 abbrev pub fault_at : ℕ → Expected → List Terminal → Option Cause
 fault_at place expected [] = unless expected.text_end (Syntax place expected)
 fault_at place expected (terminal ∷ terminals) = Some (Syntax place expected)
 
--- terms, and the syntax fault after them
+-- terms, and the syntax fault after them, if there is one
 pub record Ended : Type 0 where
   pub terms : List Term
   pub fault : Option Cause
 
--- the part of the rest that the table allows, and what follows it
+-- the front of the rest, as far as the table allows
 abbrev front_in : Option TimeUnit → Bool → Rest → List Terminal
 front_in default_unit no_calc rest = take (front_of default_unit no_calc (terminals_in rest)) (terminals_in rest)
 
@@ -32,28 +32,28 @@ left_after default_unit no_calc op rest = record {
       (expected_after default_unit no_calc (last_of None (front_in default_unit no_calc rest))) (after_in default_unit no_calc rest);
 }
 
--- the terms after an operator, or none at the end
+-- the terms that are left, which follow this operator. At the end there are none
 abbrev pub next_terms : Option TimeUnit → Bool → Option CondUnit → Rest → Ended
 next_terms default_unit no_calc None rest = record { terms = []; fault = None }
 next_terms default_unit no_calc (Some op) rest = left_after default_unit no_calc op rest
 
--- no terms, and this fault
+-- no terms are left, and this syntax fault follows
 abbrev pub no_terms : Cause → Ended
 no_terms cause = record { terms = []; fault = Some cause }
 
--- the terms after a unit, given what was read as the operator after it
+-- the terms that are left after a unit, given the result of reading the operator after it
 abbrev pub after_unit : Option TimeUnit → Bool → Result (ReadItem (Option CondUnit)) Cause → Ended
 after_unit default_unit no_calc (Ok r) = next_terms default_unit no_calc r.item r.rest
 after_unit default_unit no_calc (Err cause) = no_terms cause
 
--- the terms from the number n on, given what was read as the unit after it
+-- the terms from the number n on, given the result of reading the unit after it
 abbrev pub after_number : Option TimeUnit → Bool → CondUnit → ℕ → Result (ReadItem TimeUnit) Cause → Ended
 after_number default_unit no_calc op n (Ok r) =
     let more = after_unit default_unit no_calc (operator_read no_calc r.rest) in
     record { terms = record { operator = op; number = n; length = nanos_of r.item } ∷ more.terms; fault = more.fault }
 after_number default_unit no_calc op n (Err cause) = no_terms cause
 
--- The terms from a number on are determined by the unit and the operator read after it.
+-- The terms from a number on depend on the unit and the operator that are read after it.
 terms_read : (default_unit : Option TimeUnit) (no_calc : Bool) (op : CondUnit) (at n : ℕ) (rest : Rest)
     → left_after default_unit no_calc op (terminal_at at (number n) rest) ≡ after_number default_unit no_calc op n (unit_read default_unit no_calc rest)
 terms_read default_unit no_calc op at n (terminal_at p (word (Some u)) (terminal_at q (number m) rest)) = search rules
@@ -66,7 +66,7 @@ terms_read None false op at n (terminal_at p (operator next) rest) = refl
 terms_read None true op at n (terminal_at p (operator next) rest) = refl
 terms_read None no_calc op at n rest = refl
 
--- A number is taken, and r is the result of reading the unit after it.
+-- After a number is taken, the terms that are left depend on r, the result of reading the unit after it.
 pub number_taken : {s a : Tokens} {n : Option ℕ} (default_unit : Option TimeUnit) (no_calc : Bool) (op : CondUnit)
     (taken : TakesNumber s a n)
     (r : Result (ReadItem TimeUnit) Cause) → r ≡ unit_read default_unit no_calc (rest_of a)
@@ -74,7 +74,7 @@ pub number_taken : {s a : Tokens} {n : Option ℕ} (default_unit : Option TimeUn
 number_taken {s} {a} default_unit no_calc op taken r is =
     rw (after_token taken.token, terms_read default_unit no_calc op (cut_place s) taken.n (rest_of a), is)
 
--- An operator that was read and a number are passed, up to the unit.
+-- The same holds after an operator that was read and the number after it.
 pub term_passed : {s a : Tokens} {n : Option ℕ} {next : CondUnit} (default_unit : Option TimeUnit) (no_calc : Bool)
     (b : Rest)
     → leaving (rest_of s) (Ok (Some next)) ≡ operator_read no_calc b → (taken : TakesNumber s a n)
@@ -86,7 +86,7 @@ term_passed {next = next} default_unit no_calc b is taken r unit =
 abbrev pub count : Ended → ℕ
 count left = length left.terms
 
--- Of the terms that are left one is passed.
+-- After a term, fewer terms are left.
 pub fewer : {s a : Tokens} {b : Rest} {n : Option ℕ} {u : TimeUnit} {next : CondUnit} (default_unit : Option TimeUnit)
     (no_calc : Bool) (p : Rest)
     → leaving (rest_of s) (Ok (Some next)) ≡ operator_read no_calc p → TakesNumber s a n
@@ -106,7 +106,7 @@ with_left no_calc first (Err fault) left = if no_calc then Err fault else fault_
 abbrev pub total_of : Bool → ℕ → Ended → Result ℕ Cause
 total_of no_calc value left = answer_after_first no_calc value left.terms left.fault
 
--- A syntax fault precedes a fault that is held.
+-- A syntax fault comes before a fault that was kept.
 pub unread : (no_calc : Bool) (first : ℕ) (later : Result (Option (CondUnit × ℕ)) Cause) (cause : Cause)
     → IfErr later (λ fault. no_calc ≡ false) → with_left no_calc first later (no_terms cause) ≡ Err cause
 unread no_calc first later cause held = search rules
@@ -116,7 +116,7 @@ by_total : (no_calc : Bool) (first : ℕ) (op : CondUnit) (left : Ended) (total 
     ≡ with_left no_calc first (by_operator op total) left
 by_total no_calc first op left total = search rules
 
--- A later term is read from p up to b and combined.
+-- Reading a later term, from p up to b, and combining it keeps the answer.
 pub later_step : (default_unit : Option TimeUnit) (no_calc : Bool) (first : ℕ)
     (later : Result (Option (CondUnit × ℕ)) Cause) (p : Rest) {s a : Tokens}
     {b : Rest} {n : Option ℕ} {u : TimeUnit} {next : CondUnit}
@@ -150,7 +150,7 @@ complete_plus : (default_unit : Option TimeUnit) (front rest : List Terminal) �
     → AllPlus (complete_terminals default_unit front rest)
 complete_plus default_unit front rest a = search (rules, without_last_plus)
 
--- Under `no_calc` all terms that are left are added.
+-- Under `no_calc` all terms that are left have the operator plus.
 left_added : (default_unit : Option TimeUnit) (no_calc : Bool) (op : CondUnit) (rest : Rest) → op ≡ Plus
     → IsTrue no_calc
     → AreAdded (left_after default_unit no_calc op rest).terms
@@ -176,7 +176,7 @@ from_start : (default_unit : Option TimeUnit) (no_calc : Bool) (rest : Rest) (le
 from_start default_unit no_calc rest left is =
     rw (← is) (in_order default_unit no_calc (start_left (front_of default_unit no_calc (terminals_in rest)) rest) _ _)
 
--- The first unit cannot be read.
+-- If the first unit can't be read, that fault is the answer.
 pub first_unread : {m a : Tokens} {s : Rest} {n : Option ℕ} {cause : Cause} (default_unit : Option TimeUnit)
     (no_calc : Bool) → rest_of m ≡ s
     → TakesNumber m a n → Err cause ≡ unit_read default_unit no_calc (rest_of a)
@@ -185,7 +185,7 @@ first_unread {m} {cause = cause} default_unit no_calc same taken unit =
     rw (← same, ← from_start default_unit no_calc (rest_of m) _ (number_taken default_unit no_calc Plus taken _ unit))
     (elim no_calc as (λ b. Err cause ≡ answer_of b [] (Some cause)) [ false ↦ refl | true ↦ refl ])
 
--- The first term is read up to b, and has this value or fault.
+-- If the first term is read up to b, the answer follows from the term's value, or its fault, and what is left.
 pub first_step : {m a : Tokens} {s b : Rest} {n : Option ℕ} {u : TimeUnit} {first : Result ℕ Cause}
     (default_unit : Option TimeUnit) (no_calc : Bool)
     → rest_of m ≡ s → TakesNumber m a n → leaving b (Ok u) ≡ unit_read default_unit no_calc (rest_of a)

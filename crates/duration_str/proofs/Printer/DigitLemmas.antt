@@ -1,4 +1,4 @@
--- The steps of writing a number in decimal, and its length.
+-- Lemmas about the steps of writing a number in decimal, and about the length of the digits.
 use Rattle.duration_str.proofs.Common.{ap, append_assoc, arith, common_steps, decimal, decimal_by_steps_wide, decimal_digit, decimal_step_wide, drop, length, length-append, length-decimal-le_wide, length-take-le, List, lit<, pow-succ', rules, suc, sym, take, take-add, take-append_seam, take_more_set, [], ℕ, ◌%◌, ◌++◌, ◌+◌, ◌/◌, ◌<◌, ◌^◌, ◌∙◌, ◌∷◌, ◌≡◌, ◌≤◌}
 
 pub length_one : (n : ℕ) → n < 10 → length (decimal n) ≡ 1
@@ -7,12 +7,12 @@ length_one n h = ap length (decimal_digit n h)
 pub length_step : (n : ℕ) → 10 ≤ n → n < 10 ^ 64 → length (decimal n) ≡ length (decimal (n / 10)) + 1
 length_step n low high = ap length (decimal_step_wide n low high) ∙ length-append _ _
 
--- The last digit after those of n / 10 gives the digits of n.
+-- The digits of n / 10, and then the last digit of n, are the digits of n.
 pub put_last : (bytes before after : List ℕ) (n : ℕ) → after ≡ before ++ decimal (n % 10)
     → before ≡ bytes ++ decimal (n / 10) → 10 ≤ n → n < 10 ^ 64 → after ≡ bytes ++ decimal n
 put_last bytes before after n last first low high = search (rules, decimal_digit, decimal_step_wide, append_assoc)
 
--- The bytes before a byte that is written are those that were there.
+-- Writing a byte keeps the bytes before it.
 pub same_before : (at : ℕ) (old new more : List ℕ) → at ≤ length old → at ≤ length new
     → take (at + 1) new ≡ take at old ++ more → take at new ≡ take at old
 same_before at old new more in_old in_new same =
@@ -28,7 +28,7 @@ some_decimal n h =
     decimal_by_steps_wide (λ n ds. 0 < length ds) (λ n small. lit< tt)
     (λ n ds big some. omega (arith, length-append ds ((48 + n % 10) ∷ []))) n h
 
--- a number is below 10 to the power of the number of its digits
+-- a number with k digits is below 10^k
 below_power : (n : ℕ) → n < 10 ^ 64 → n < 10 ^ length (decimal n)
 below_power = decimal_by_steps_wide (λ n ds. n < 10 ^ length ds) (λ n small. omega arith) (λ n ds big below.
     let longer : length (ds ++ (48 + n % 10) ∷ []) ≡ suc (length ds) =

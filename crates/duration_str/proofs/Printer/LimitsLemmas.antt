@@ -1,4 +1,4 @@
--- The steps of printing within limits, and the most bytes that it takes.
+-- Lemmas about the steps of printing within limits, and about the most bytes that a text has.
 use Rattle.duration_str.proofs.Common.{add_assoc, All, append_assoc, ap, arith, between, byte_len, cases_Bool, chars, chars_from_encodes, counts_within, decimal, div-le_self, drop, drop_more, encode_utf8_all, Format, inl, inr, IsPrintedWithin, IsUtf8, le-div_iff_mul-le, leb, leb-true, length, length-append, lengths_within, List, ltb, ltb-true, map, most_len, nanos_of, nat_tests, part_bytes, Printed, printed_row, rank_of, refl, row_of, rules, slice_index_or, Style, sym, take, take-append-add, text_within, TimeUnit, units, units_in, units_within, with_counts, with_gap, with_part, Year, zero-div, zero_unit, [], ℕ, ◌%◌, ◌*◌, ◌++◌, ◌+◌, ◌-◌, ◌∙◌, ◌/◌, ◌<◌, ◌==◌, ◌^◌, ◌∷◌, ◌≡◌, ◌≤◌, Bool, Day, Hour, list_all, true, and_parts, with_parts, Units}
 use Rattle.duration_str.proofs.Printer.SetLemmas.{chosen_in, chosen_none, chosen_out, hours_chosen}
 use Rattle.duration_str.specs.Limits.{chosen, is_in, up_to}
@@ -21,7 +21,7 @@ unit_skipped style u us bytes most nanos long = search rules
 abbrev is_days : TimeUnit → Bool
 is_days u = leb (nanos_of Day) (nanos_of u)
 
--- Units that are longer than the duration print nothing.
+-- Units of a day or longer print nothing of a duration below a day.
 without_days : (style : Style) (longer shorter : List TimeUnit) (bytes : List ℕ) (most nanos : ℕ)
     → list_all is_days longer ≡ true → nanos < nanos_of Day
     → with_parts style bytes shorter most nanos ≡ with_parts style bytes (longer ++ shorter) most nanos
@@ -36,7 +36,7 @@ pub below_day : (style : Style) (bytes : List ℕ) (most nanos : ℕ) → nanos 
     → with_parts style bytes (drop 5 units) most nanos ≡ with_parts style bytes units most nanos
 below_day style bytes most nanos h = without_days style (take 5 units) (drop 5 units) bytes most nanos refl h
 
--- The units of a set begin with those of a day or longer.
+-- The units that a set chooses from the units of a day or longer are a day or longer.
 days_chosen : (set : Units) (us : List TimeUnit) → list_all is_days us ≡ true
     → list_all is_days (chosen set us) ≡ true
 days_chosen set [] long = rw (chosen_none set)
@@ -64,7 +64,7 @@ chosen_below_day style set bytes most nanos h =
 
 -- ---- The parts
 
--- No parts are left to print.
+-- If no more parts are allowed, nothing is added to the bytes.
 pub with_none : (style : Style) (us : List TimeUnit) (bytes : List ℕ) (most nanos : ℕ) → most ≡ 0
     → bytes ≡ with_counts style bytes us (counts_within (map nanos_of us) most nanos)
 with_none style [] bytes most nanos none = refl
@@ -79,21 +79,21 @@ counts_grow style (u ∷ us) bytes (n ∷ counts) =
     search (rules, part_grows, counts_grow style us (with_part style bytes u n) counts)
 counts_grow style _ bytes _ = omega arith
 
--- Nothing is left to print.
+-- If no nanoseconds are left, nothing is added to the bytes.
 pub with_nothing : (style : Style) (us : List TimeUnit) (bytes : List ℕ) (most nanos : ℕ) → nanos ≡ 0
     → bytes ≡ with_counts style bytes us (counts_within (map nanos_of us) most nanos)
 with_nothing style [] bytes most nanos none = refl
 with_nothing style (u ∷ us) bytes most nanos none =
     search (rules, zero-div, with_nothing style us bytes most nanos none)
 
--- It fits if all parts do.
+-- If all parts fit into the room, the first one does.
 pub first_room : (style : Style) (u : TimeUnit) (us : List TimeUnit) (bytes : List ℕ) (most nanos room : ℕ)
     → 1 ≤ most → nanos_of u ≤ nanos
     → length (with_counts style bytes (u ∷ us) (counts_within (map nanos_of (u ∷ us)) most nanos)) ≤ room
     → length (with_part style bytes u (nanos / nanos_of u)) ≤ room
 first_room style u us bytes most nanos room left h fits = search (rules, counts_grow)
 
--- It is the only part if it leaves nothing.
+-- If the first part leaves nothing, it is the only part.
 pub only_part : (style : Style) (u : TimeUnit) (us : List TimeUnit) (bytes : List ℕ) (most nanos : ℕ)
     → 1 ≤ most → nanos_of u ≤ nanos → nanos % nanos_of u ≡ 0
     → with_part style bytes u (nanos / nanos_of u)
@@ -102,7 +102,7 @@ only_part style u us bytes most nanos left h nothing = search (rules, with_nothi
 
 -- ---- The most bytes
 
--- the most bytes that the parts of less than `limit` nanoseconds in these units can have, with a space after each
+-- the most bytes that the parts of less than `limit` nanoseconds in these units can have, with a space after each part
 abbrev most_bytes : Style → ℕ → List TimeUnit → ℕ
 most_bytes style limit [] = 0
 most_bytes style limit (u ∷ us) =
@@ -120,7 +120,7 @@ part_more style bytes u n most h small = search (rules, gap_more, length-append,
 short_length : (u : TimeUnit) → nanos_of u < 10 ^ 64
 short_length u = ltb-true (nanos_of u) (10 ^ 64) (all_units (λ v. ltb (nanos_of v) (10 ^ 64)) refl u)
 
--- The parts take no more than these bytes.
+-- The parts take no more than `most_bytes`.
 parts_fit : (style : Style) (us : List TimeUnit) (limit : ℕ) (bytes : List ℕ) (most nanos : ℕ)
     → nanos < limit → limit ≤ 10 ^ 64
     → length (with_gap style (with_counts style bytes us (counts_within (map nanos_of us) most nanos)))
@@ -152,7 +152,7 @@ parts_fit style (u ∷ us) limit bytes most nanos h small = elim (cases_Bool (mo
       ]
 ]
 
--- the most bytes of any of these units
+-- the most bytes of parts that begin with any of these units
 abbrev worst : Style → ℕ → List TimeUnit → ℕ
 worst style limit [] = 0
 worst style limit (u ∷ us) =
@@ -171,7 +171,7 @@ worst_fits : (style : Style) → worst style (2 ^ 64 * 10 ^ 9) units ≤ most_le
 unfolding digits
 worst_fits style = search (rules, leb-true)
 
--- The bytes fit if they do with what stands between two parts.
+-- If the bytes and a space after them fit, the bytes do.
 less_gap : (style : Style) (bytes : List ℕ) (most : ℕ) → length (with_gap style bytes) ≤ most + length (between style)
     → length bytes ≤ most
 less_gap style bytes most h = search (rules, length-append)
@@ -206,7 +206,7 @@ pub within_utf8 : (format : Format) (nanos : ℕ) → nanos < 10 ^ 64
     → IsUtf8 (encode_utf8_all (text_within format (counts_within (lengths_within format) format.parts nanos)))
 within_utf8 format nanos h = search (rules, IsUtf8-joined, within_short)
 
--- The bytes of such a text print the duration.
+-- If the bytes are the text of the counts within limits, they print the duration.
 pub printed_within : (format : Format) (nanos : ℕ) (bytes : List ℕ) → IsUtf8 bytes
     → bytes ≡ encode_utf8_all (text_within format (counts_within (lengths_within format) format.parts nanos))
     → IsPrintedWithin format nanos (chars bytes)
@@ -216,7 +216,7 @@ printed_within format nanos bytes utf8 same =
 
 -- ---- The table of what is printed of each unit
 
--- what stands beyond the end
+-- the row that stands for one beyond the end of the table
 abbrev pub beyond : Printed
 beyond = record { unit = Year; nanos = 0; reciprocal = 0; letters = []; width = 0 }
 
@@ -236,7 +236,7 @@ part_units a k rows = search (rules, drop-map, take-map)
 pub later_right : (a : ℕ) → All IsRight (drop a (map printed_row units))
 later_right a = All-drop IsRight a _ (rows_right units)
 
--- The row at a position, those from there on, and its length.
+-- The rows from a position on are the row there and the rows after it, and that row has its unit's length.
 pub row_from : (rows : List Printed) (at : ℕ) → at < length rows → All IsRight rows
     → (drop at rows ≡ slice_index_or rows at beyond ∷ drop (at + 1) rows)
     × ((slice_index_or rows at beyond).nanos ≡ nanos_of (slice_index_or rows at beyond).unit)
@@ -264,18 +264,18 @@ letters_len : (u : TimeUnit) → length (printed_row u).letters ≡ 4
 unfolding lib.Utf8.encode
 letters_len = each_unit (λ u. length (printed_row u).letters ≡ 4) assumption
 
--- The bytes written into a part of others.
+-- Bytes that are written into the middle of a buffer come after those before them.
 pub take_part : (at k end : ℕ) (bytes part : List ℕ) → at ≤ length bytes → end ≤ length part
     → take (at + end) (put_mid at k bytes part) ≡ take at bytes ++ take end part
 take_part at k end bytes part inside short = search (rules, take-append-add, take-append-le)
 
--- The name, copied with what follows it.
+-- Copying the four bytes of a row writes the name.
 pub name_copied : (at k : ℕ) (bytes : List ℕ) (u : TimeUnit) → at ≤ length bytes
     → take (at + length (encode_utf8_all (row_of u).printed)) (put_mid at k bytes (printed_row u).letters)
     ≡ take at bytes ++ encode_utf8_all (row_of u).printed
 name_copied at k bytes u inside = search (rules, letters_len, name_first, name_short, take_part)
 
--- The same with the space behind it.
+-- Copying the four bytes of a row also writes a space after the name.
 pub name_spaced : (at k : ℕ) (bytes : List ℕ) (u : TimeUnit) → at ≤ length bytes
     → take (at + length (encode_utf8_all (row_of u).printed) + 1) (put_mid at k bytes (printed_row u).letters)
     ≡ take at bytes ++ encode_utf8_all (row_of u).printed ++ 32 ∷ []
@@ -285,7 +285,7 @@ name_spaced at k bytes u inside =
     (take_part at k (width + 1) bytes (printed_row u).letters inside (omega (arith, letters_len u, name_short u))
     ∙ rw (name_space u, append_assoc))
 
--- The first unit, which goes into the duration.
+-- If the first unit is no longer than the duration, its part comes first, and the other parts print the remainder.
 pub first_taken : (style : Style) (u : TimeUnit) (us : List TimeUnit) (bytes : List ℕ) (most nanos : ℕ) → 1 ≤ most
     → nanos_of u ≤ nanos
     → with_parts style (with_part style bytes u (nanos / nanos_of u)) (u ∷ us) (most - 1) (nanos % nanos_of u)

@@ -1,11 +1,11 @@
--- The text of a fault is UTF-8, and its last byte is no line feed.
+-- The message of a fault is UTF-8, and its last byte is no line feed.
 use Rattle.duration_str.proofs.Common.{ap, arith, byte_text, caret_text, Cause, codes, encode_utf8_all, EndsInsideLine, IfSome, IsAscii-decimal, IsCharBoundary, IsCharBoundary-from_ascii, IsUtf8, IsUtf8-append, IsUtf8-from_ascii, last_or, line_of, List, lit<, Option, placed_text, refl, replicate, replicate-append-replicate, rules, Some, take, take-replicate, [], ℕ, ◌++◌, ◌-◌, ◌<◌, ◌^◌, ◌∙◌, ◌∷◌, ◌≡◌, ◌≢◌, ◌≤◌}
 use Rattle.std.proofs.lemmas.List.Elements.{All-replicate}
 use Rattle.std.proofs.lemmas.Str.Ascii.{IsAscii-from_all}
 use Rattle.duration_str.specs.Buffers.{IsInFront}
 use Rattle.duration_str.specs.Laws.{LastLine}
 
--- What holds of the bytes holds of the front of the buffer, if they are there.
+-- If the bytes are at the start of the buffer, what holds for them holds for the start of the buffer.
 pub front_has : (P : List ℕ → Type 0) (bytes : List ℕ) (result : Option ℕ) (buffer : List ℕ) → P bytes
     → IsInFront bytes result buffer → IfSome result (λ end. P (take end buffer))
 front_has P bytes result buffer h there = search rules
@@ -30,7 +30,7 @@ last_or-append : (o : Option ℕ) (xs ys : List ℕ) → last_or o (xs ++ ys) �
 last_or-append o [] ys = refl
 last_or-append o (x ∷ xs) ys = last_or-append (Some x) xs ys
 
--- Whatever stands before a line, its last byte is no line feed.
+-- The last byte of a line is no line feed, whatever stands before the line.
 line_last : (cause : Cause) (o : Option ℕ) → last_or o (encode_utf8_all (line_of cause)) ≢ Some 10
 unfolding lib.Utf8.encode
 line_last cause o = search rules
@@ -44,12 +44,12 @@ last_line_holds = search (rules, line_last, placed_ends)
 
 -- ---- Runs of spaces
 
--- one more run of 64
+-- one more run of 64 spaces
 pub run_longer : (n left : ℕ) → 64 < left → left ≤ n
     → ◌++◌ {A = ℕ} (replicate (n - left) 32) (replicate 64 32) ≡ replicate (n - (left - 64)) 32
 run_longer n left more h = replicate-append-replicate (n - left) 64 32 ∙ ap (λ (n : ℕ). replicate n 32) (omega arith)
 
--- the last run
+-- the last run of spaces
 pub run_last : (n left : ℕ) → left ≤ n → ◌++◌ {A = ℕ} (replicate (n - left) 32) (replicate left 32) ≡ replicate n 32
 run_last n left within = replicate-append-replicate (n - left) left 32 ∙ ap (λ (n : ℕ). replicate n 32) (omega arith)
 

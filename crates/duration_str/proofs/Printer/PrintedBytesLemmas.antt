@@ -23,7 +23,7 @@ some_part : (style : Style) (bytes : List ℕ) (n : ℕ) (u : TimeUnit) → n < 
     → 0 < length (bytes ++ part_bytes style n u)
 some_part style bytes n u h = search (rules, length-append, some_decimal)
 
--- After some bytes, each part follows what stands between two.
+-- If there are bytes already, each part comes after the space between two parts.
 parts_after : (style : Style) (us : List TimeUnit) (bytes counts : List ℕ) → 0 < length bytes → AreShort counts
     → with_counts style bytes us counts
     ≡ bytes ++ encode_utf8_all (flat_map (λ part. between style ++ part) (printed_parts style us counts))
@@ -31,7 +31,7 @@ parts_after style (u ∷ us) bytes (n ∷ counts) some short =
     search (rules, some_part, gap_some, encodes-append, encode_part, append_assoc, parts_after style us)
 parts_after style _ bytes _ some short = sym (append-nil bytes)
 
--- the bytes, or these if there are none
+-- the bytes, or `zero` if there are none
 abbrev pub ended : List ℕ → List ℕ → List ℕ
 ended zero [] = zero
 ended zero (b ∷ bytes) = b ∷ bytes
@@ -77,7 +77,7 @@ utf8_ended : (zero bytes : List ℕ) → IsUtf8 zero → IsUtf8 bytes → IsUtf8
 utf8_ended zero [] zero_utf8 utf8 = zero_utf8
 utf8_ended zero (b ∷ bytes) zero_utf8 utf8 = utf8
 
--- The text that prints short counts is UTF-8.
+-- The text of counts with at most 64 digits is UTF-8.
 pub IsUtf8-joined : (style : Style) (zero : TimeUnit) (us : List TimeUnit) (counts : List ℕ) → AreShort counts
     → IsUtf8 (encode_utf8_all (joined_parts style zero (printed_parts style us counts)))
 IsUtf8-joined style zero us counts short =

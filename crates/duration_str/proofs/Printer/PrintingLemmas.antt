@@ -9,12 +9,12 @@ abbrev pub kept : List TimeUnit → List ℕ → List (ℕ × TimeUnit)
 kept (u ∷ us) (n ∷ counts) = if n == 0 then kept us counts else (n, u) ∷ kept us counts
 kept _ _ = []
 
--- the counts, or none of this unit if there are none
+-- the counts, or a count of 0 of this unit if there are none
 abbrev pub or_zero : TimeUnit → List (ℕ × TimeUnit) → List (ℕ × TimeUnit)
 or_zero u [] = (0, u) ∷ []
 or_zero u (p ∷ ps) = p ∷ ps
 
--- the lexemes and terminals of counts
+-- the lexemes of counts with their units
 abbrev pub lexemes : Style → List (ℕ × TimeUnit) → List (List ℕ)
 lexemes style [] = []
 lexemes style (p ∷ ps) = decimal p.0 ∷ name_in style (p.0 == 1) p.1 ∷ lexemes style ps
@@ -23,7 +23,7 @@ abbrev pub terminals : List (ℕ × TimeUnit) → List Terminal
 terminals [] = []
 terminals (p ∷ ps) = number p.0 ∷ word (Some p.1) ∷ terminals ps
 
--- the counts in the printed text of a duration, and its lexemes
+-- the counts, with their units, in the printed text of a duration
 abbrev pub printed : ℕ → List (ℕ × TimeUnit)
 printed nanos = or_zero Second (kept units (counts_of unit_lengths nanos))
 
@@ -40,7 +40,7 @@ pub parts_kept : (style : Style) (us : List TimeUnit) (counts : List ℕ)
 parts_kept style (u ∷ us) (n ∷ counts) = search (rules, parts_kept style us counts)
 parts_kept style _ _ = refl
 
--- A part and what follows it.
+-- Lexemes that spell the rest, with the two lexemes of a part before them, spell the part and the rest.
 part_spelled : (style : Style) (blanks rest : List ℕ) (p : ℕ × TimeUnit) (ps : List (ℕ × TimeUnit)) → IsBlank blanks
     → Spells (lexemes style ps) rest → Spells (lexemes style (p ∷ ps)) (blanks ++ (part style p ++ rest))
 part_spelled style blanks rest p ps blank more = grind (arith, common_steps)
@@ -69,7 +69,7 @@ long_terminal : (o : Options) (lowercase cn_unit : Bool) (u : TimeUnit)
     → terminal_of (record o { lowercase = lowercase; cn_unit = cn_unit }) (name_in Long false u) ≡ word (Some u)
 long_terminal o lowercase cn_unit u = search rules
 
--- Each name is a name of its unit under all options.
+-- Each printed name is a name of its unit under all options.
 pub printed_terminal : (o : Options) (style : Style) (one : Bool) (u : TimeUnit)
     → terminal_of o (name_in style one u) ≡ word (Some u)
 printed_terminal o Short one = short_terminal o o.lowercase o.cn_unit

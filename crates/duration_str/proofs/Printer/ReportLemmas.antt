@@ -1,11 +1,11 @@
--- The columns of a text, and the length of a report.
+-- Lemmas about the columns of a text, and about the length of a report.
 use Rattle.duration_str.proofs.Common.{and_parts, ap, arith, caret_text, cases_Bool, Cause, chars, chars-append, chars_past_char, common_steps, cond, drop, encode_utf8, encode_utf8_all, encodes-chars, ForSome, inl, inr, IsCharBoundary, IsUtf8, IsUtf8-take, leb-true, len_utf8_bounds, length, length-append, length-encode, length-le-encodes, List, place_of, refl, sum_by-cons, Syntax, take, take-append-drop, ℕ, [], ◌*◌, ◌++◌, ◌+◌, ◌<◌, ◌^◌, ◌∷◌, ◌≡◌, ◌≤◌}
 use Rattle.duration_str.proofs.Printer.OneLineLemmas.{chars_of_none, one_line_short}
 use Rattle.duration_str.specs.OneLine.{one_line_of}
 use Rattle.std.proofs.lemmas.List.Sums.{count_by-le-length}
 use Rattle.duration_str.specs.Report.{columns_of, is_clear_text, is_wide, report_of}
 
--- A character is passed.
+-- Counting one more character keeps the total.
 pub columns_more : (rest after : List ℕ) (c n whole : ℕ) → IsUtf8 rest → rest ≡ encode_utf8 c ++ after
     → n + columns_of (chars rest) ≡ whole → (n + (1 + cond (is_wide c) 1 0)) + columns_of (chars after) ≡ whole
 columns_more rest after c n whole utf8 parts all =
@@ -15,7 +15,7 @@ columns_more rest after c n whole utf8 parts all =
       rw (chars_past_char rest after c utf8 parts) at all,
     )
 
--- The text ends.
+-- If no character is left, all columns are counted.
 pub columns_all : (rest : List ℕ) (n whole : ℕ) → length rest ≡ 0 → n + columns_of (chars rest) ≡ whole → n ≡ whole
 columns_all rest n whole none all = omega (arith, rw (chars_of_none rest none) at all)
 
@@ -23,7 +23,7 @@ columns_all rest n whole none all = omega (arith, rw (chars_of_none rest none) a
 columns_le : (text : List ℕ) → columns_of text ≤ 2 * length text
 columns_le text = omega (arith, count_by-le-length is_wide text)
 
--- The columns of a text that memory holds fit.
+-- The columns of a text that fits into memory are below 2^64.
 pub columns_fit : (text : List ℕ) → IsUtf8 text → length text < 2 ^ 63 → columns_of (chars text) < 2 ^ 64
 columns_fit text utf8 small =
     let bytes : length (chars text) ≤ length text = rw (encodes-chars text utf8) at (length-le-encodes (chars text)) in
@@ -34,7 +34,7 @@ bytes_le [] = omega arith
 bytes_le (c ∷ cs) =
     omega (arith, length-encode c, len_utf8_bounds c, length-append (encode_utf8 c) (encode_utf8_all cs), bytes_le cs)
 
--- What stands before a place takes at most two columns for each character of the text.
+-- The text before a place takes at most two columns for each character of the whole text.
 columns_before_le : (text : List ℕ) (place : ℕ) → IsUtf8 text → IsCharBoundary text place
     → columns_of (chars (take place text)) ≤ 2 * length (chars text)
 columns_before_le text place utf8 boundary =

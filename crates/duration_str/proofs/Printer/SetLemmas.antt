@@ -1,4 +1,4 @@
--- The units of a set, by the bits of its number.
+-- Lemmas about the units of a set, which its bits give.
 use Rattle.duration_str.proofs.Common.{drop, drop_all, drop_more, last_unit, length, slice_index_or, units_of, ALL, add-zero, and_parts, ap, Bool, suc, ℕ, zero, arith, cases_Bool, div-add-mod', eqb, eqb-true, false, inl, inr, leb, Hour, leb-true, length-drop, List, map, not-true, Printed, printed_row, nanos_of, nat_tests, not, rank_of, refl, rules, sym, TimeUnit, true, Units, Year, units, [], ◌%◌, ◌&&◌, ◌||◌, ◌*◌, ◌+◌, ◌/◌, ◌<◌, ◌^◌, ◌∙◌, ◌∷◌, ◌≡◌, ◌≢◌, ◌≤◌}
 use Rattle.duration_str.proofs.Characters.UnitLemmas.{Each, each_unit}
 use Rattle.duration_str.specs.Limits.{chosen, intersection, down_to, is_in, is_one_of, set_of, up_to, with_each, with_unit}
@@ -45,7 +45,7 @@ ranks_each : (u : TimeUnit) → Each (SameRank u) units
 ranks_each Year = assumption
 ranks_each u = assumption
 
--- A unit with as many longer ones is the same, and a unit with more longer ones is shorter.
+-- Units of the same rank are the same, and a unit of a higher rank is shorter.
 pub ranks : (u v : TimeUnit) → SameRank u v
 ranks u = each_unit (SameRank u) (ranks_each u)
 
@@ -140,7 +140,7 @@ out_skipped set us i inside h =
 suc_plus : (i : ℕ) → suc i ≡ i + 1
 suc_plus i = omega arith
 
--- None of the first i units is in the set.
+-- If none of the first i units is in the set, the set chooses the same units from the others.
 chosen_from : (set : Units) (us : List TimeUnit) (i : ℕ) → i ≤ length us
     → ((j : ℕ) → j < i → is_in set (slice_index_or us j Year) ≡ false) → chosen set us ≡ chosen set (drop i us)
 chosen_from set us zero inside none = refl
@@ -148,7 +148,7 @@ chosen_from set us (suc i) inside none =
     chosen_from set us i (omega arith) (λ j h. none j (omega arith))
     ∙ rw (suc_plus i) (sym (out_skipped set us i (omega arith) (none i (omega arith))))
 
--- The sets have the same of these units.
+-- If two sets have the same units among these, they choose the same ones.
 chosen_same : (a b : Units) (us : List TimeUnit)
     → ((j : ℕ) → j < length us → is_in a (slice_index_or us j Year) ≡ is_in b (slice_index_or us j Year))
     → chosen a us ≡ chosen b us
@@ -157,7 +157,7 @@ chosen_same a b [] same = refl
 chosen_same a b (u ∷ us) same =
     rw (same 0 (omega arith), chosen_same a b us (λ j h. same (suc j) (omega arith)))
 
--- A test passed by each number below a limit, from the greatest on.
+-- Whether each number below a limit passes a test. The greatest number is tested first.
 abbrev passes_below : (ℕ → Bool) → ℕ → Bool
 passes_below test zero = true
 passes_below test (suc n) = test n && passes_below test n
@@ -171,7 +171,7 @@ below test (suc n) j h small =
       | inr other ↦ below test n j parts.1 (grind (arith, nat_tests))
     ]
 
--- A unit has the place in the table that its rank says.
+-- A unit's index in the table is its rank.
 rank_at : (j : ℕ) → j < 11 → rank_of (slice_index_or units j Year) ≡ j
 rank_at j h =
     eqb-true (rank_of (slice_index_or units j Year)) j

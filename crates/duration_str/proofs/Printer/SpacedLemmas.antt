@@ -1,4 +1,4 @@
--- Parts that each have a space behind them, and the counts of less than a day.
+-- Lemmas about parts that each have a space after them, and about the counts of a duration below a day.
 use Rattle.duration_str.proofs.Common.{append_assoc, arith, counts_of, decimal, encode_utf8_all, length, length-append, length-decimal-le_wide, length-take-le, List, take-append_seam, row_of, rules, Short, sym, take, TimeUnit, unit_lengths, with_gap, with_part, [], ℕ, ◌%◌, ◌*◌, ◌++◌, ◌+◌, ◌-◌, ◌/◌, ◌<◌, ◌^◌, ◌∙◌, ◌∷◌, ◌≡◌, ◌≤◌, All, ap, drop, drop_more, get_or, with_counts, Year}
 use Rattle.duration_str.proofs.Printer.DigitLemmas.{some_decimal}
 use Rattle.std.proofs.lemmas.List.{take-take}
@@ -10,13 +10,13 @@ three_digits n h = length-decimal-le_wide 3 n (omega arith) (omega arith) (omega
 spaced_some : (bytes : List ℕ) → 0 < length bytes → with_gap Short bytes ≡ bytes ++ 32 ∷ []
 spaced_some bytes h = search rules
 
--- A part with a space behind it.
+-- Writing a part with a space after it gives the text with that part, and a space.
 pub spaced_part : (bytes : List ℕ) (u : TimeUnit) (n : ℕ) → 0 < n → n < 10 ^ 64
     → with_gap Short bytes ++ (decimal n ++ encode_utf8_all (row_of u).printed ++ 32 ∷ [])
     ≡ with_gap Short (with_part Short bytes u n)
 spaced_part bytes u n some short = search (rules, length-append, some_decimal, spaced_some, append_assoc)
 
--- The last space is left out.
+-- Without its last byte, a text that ends with a space is the text of the parts.
 pub last_space : (end : ℕ) (buffer bytes : List ℕ) → end ≤ length buffer → take end buffer ≡ with_gap Short bytes
     → take (end - 1) buffer ≡ bytes
 last_space end buffer [] inside same =
@@ -27,7 +27,7 @@ last_space end buffer (b ∷ bytes) inside same =
     omega (arith, ap length same, length-take-le end buffer inside, length-append whole (32 ∷ [])) in
     sym (take-take (end - 1) end buffer (omega arith)) ∙ rw (same, before) (take-append_seam whole (32 ∷ []))
 
--- The counts of less than a day.
+-- The counts of a duration below a day are these quotients.
 pub counts_below_day : (secs nanos : ℕ) → secs < 24 * 3600 → nanos < 10 ^ 9
     → counts_of unit_lengths (secs * 10 ^ 9 + nanos)
     ≡ 0 ∷ 0 ∷ 0 ∷ 0 ∷ 0 ∷ secs / 3600 ∷ secs / 60 % 60 ∷ secs % 60
@@ -82,7 +82,7 @@ six_short a b c d e f short_a short_b short_c short_d short_e short_f =
     (All-cons IsShort c (d ∷ e ∷ f ∷ []) short_c (All-cons IsShort d (e ∷ f ∷ []) short_d
     (All-cons IsShort e (f ∷ []) short_e (All-cons IsShort f [] short_f (All-nil IsShort))))))
 
--- They have at most three digits.
+-- These counts have at most three digits.
 pub counts_short : (secs nanos : ℕ) → secs < 24 * 3600 → nanos < 10 ^ 9
     → All IsShort
     (secs / 3600 ∷ secs / 60 % 60 ∷ secs % 60 ∷ nanos / 1000000 ∷ nanos / 1000 % 1000 ∷ nanos % 1000 ∷ [])
@@ -90,7 +90,7 @@ counts_short secs nanos day second =
     six_short (secs / 3600) (secs / 60 % 60) (secs % 60) (nanos / 1000000) (nanos / 1000 % 1000) (nanos % 1000)
     (omega arith) (omega arith) (omega arith) (omega arith) (omega arith) (omega arith)
 
--- The next part of several.
+-- After the next part, the parts that are left give the same text.
 pub next_part : (bytes : List ℕ) (us : List TimeUnit) (counts : List ℕ) (i j : ℕ) → j ≡ 5 + i → i < length counts
     → 5 + i < length us
     → with_counts Short (with_part Short bytes (get_or us j Year) (get_or counts i 0)) (drop (5 + (i + 1)) us)

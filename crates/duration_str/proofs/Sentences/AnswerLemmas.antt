@@ -1,4 +1,4 @@
--- A text is read or refused, not both, and the computed answer says which.
+-- A text is either read or refused, and the computed answer says which.
 use Rattle.duration_str.proofs.Common.{AllPlus, answer_with, AnswerIsReading, append-nil, arith, as_nanos, Bool, byte_len, Cause, chars, combination, CondUnit, early, early_fault, Err, Evaluates, evaluation_fault, expected_after, false, Fault, fault_of_terms, fault_or, first_fault, IfErr, if◌then◌else◌, inl, inr, is_same_operator, is_whole, IsFront, IsOkAnd, IsReadWith, IsRefusedAt, IsRefusedWith, IsSentence, IsSentenceWith, last_of, late, late_answer, late_fault, later_total, le-ltb, length, List, list_all, map, MatchResult, None, number, Ok, OneReading, operator, Option, Options, other, Overflow, ParsesWith, refl, Result, rules, Some, start_after, sum_of, sym, Syntax, syntax_fault, Term, Terminal, terminal_of, terminals_of, terms_of, TimeUnit, tokens_of, true, value_of, value_of_term, word, [], ℕ, ◌++◌, ◌<◌, ◌^◌, ◌↔◌, ◌∙◌, ◌∷◌, ◌≡◌, ◌≤◌, ◌⊎◌}
 use Rattle.duration_str.proofs.Sentences.FrontLemmas.{AreAllowed, complete_sentence, ends_by_table, expected_by_table, front_allowed, no_operators, one_expected, one_front, sentence_allowed, table_front}
 use Rattle.duration_str.proofs.Sentences.SpellingLemmas.{empty_no_sentence, sentence_terminals, tokens_spell}
@@ -65,7 +65,7 @@ sentence_front : (default_unit : Option TimeUnit) (no_calc : Bool) (terminals : 
     → IsFront default_unit no_calc terminals terminals []
 sentence_front default_unit no_calc terminals s = search rules
 
--- These terminals are a sentence, evaluate, and have this value.
+-- These terminals are a sentence that evaluates and has this value.
 pub record EvaluatesTo (default_unit : Option TimeUnit) (no_calc : Bool) (terminals : List Terminal) (nanos : ℕ)
     : Type 0 where
   pub sentence : IsSentence default_unit no_calc terminals
@@ -96,7 +96,7 @@ one_value : {default_unit : Option TimeUnit} {o : Options} {text : List ℕ} {m 
     → IsReadWith default_unit o text n → m ≡ n
 one_value r s = cc ((read_terminals r).value, (read_terminals s).value)
 
--- There is one cause for a front, its rest and the place of the rest.
+-- A front, its rest and the place of the rest determine the cause.
 one_cause_at : {default_unit : Option TimeUnit} {no_calc : Bool} {place : ℕ} {front rest : List Terminal} {c d : Cause}
     → IsRefusedAt default_unit no_calc place front rest c → IsRefusedAt default_unit no_calc place front rest d → c ≡ d
 one_cause_at (early h) (early k) = cc
@@ -121,7 +121,7 @@ place_free : {default_unit : Option TimeUnit} {no_calc : Bool} {p : ℕ} (q : �
     → IsRefusedAt default_unit no_calc p terminals [] cause → IsRefusedAt default_unit no_calc q terminals [] cause
 place_free q s h = search (rules, append-nil)
 
--- A text that a sentence spells is refused exactly if the terminals of the sentence are.
+-- If a text that a sentence spells is refused, so are the terminals of the sentence.
 pub refused_sentence : {default_unit : Option TimeUnit} (o : Options) (text : List ℕ) (lexemes : List (List ℕ))
     (cause : Cause) (place : ℕ)
     → IsSentenceWith default_unit o lexemes text → IsRefusedWith default_unit o text cause
@@ -159,12 +159,12 @@ module _ (default_unit : Option TimeUnit) (o : Options) where
 
 -- ---- The computed answer
 
--- the meaning of a result for a text
+-- what a result says about a text
 abbrev Means : Option TimeUnit → Options → List ℕ → Result ℕ Cause → Type 0
 Means default_unit o text (Ok nanos) = IsReadWith default_unit o text nanos
 Means default_unit o text (Err cause) = IsRefusedWith default_unit o text cause
 
--- the meaning of a result for a front and a rest that starts at byte `place`
+-- what a result says about a front and the rest, which starts at byte `place`
 abbrev MeansAt : Option TimeUnit → Bool → ℕ → List Terminal → List Terminal → Result ℕ Cause → Type 0
 MeansAt default_unit no_calc place front rest (Ok nanos) = (rest ≡ []) × EvaluatesTo default_unit no_calc front nanos
 MeansAt default_unit no_calc place front rest (Err cause) = IsRefusedAt default_unit no_calc place front rest cause
@@ -223,7 +223,7 @@ answer_means default_unit o (c ∷ text) =
     let f = table_front default_unit o.no_calc terminals in
     text_means default_unit o c text _ _ _ f (rw (front_allowed default_unit o.no_calc None terminals).1 (front_means default_unit o.no_calc _ _ _ f _ refl))
 
--- The result that means what is known of the text is its answer.
+-- Two results that are both true of a text are the same.
 only_meaning : (default_unit : Option TimeUnit) (o : Options) (text : List ℕ) (x y : Result ℕ Cause)
     → Means default_unit o text x → Means default_unit o text y → x ≡ y
 only_meaning default_unit o text x y h k = search (rules, one_value, not_both, one_cause)
@@ -252,7 +252,7 @@ answer_is_reading_holds = record {
 
 -- ---- A text that a sum spells is read as the sum if it is below 2^64, and otherwise refused as an overflow
 
--- The lexemes are a sentence of the options' grammar without `*`, and spell the text.
+-- The lexemes are a sentence without `*` under these options, and they spell the text.
 pub record IsSumOf (default_unit : Option TimeUnit) (o : Options) (lexemes : List (List ℕ)) (text : List ℕ)
     : Type 0 where
   pub sentence : IsSentenceWith default_unit o lexemes text
@@ -299,7 +299,7 @@ sum_overflows {default_unit} {o} {lexemes} {text} s f h =
 
 -- ---- The result of a call, in terms of the sentences of the text
 
--- The computed answer is what the text is read as.
+-- A result that is the computed answer is right for the text.
 pub reads_text : (default_unit : Option TimeUnit) (o : Options) (bytes : List ℕ) (r : Result ℕ Fault)
     → IsValueOrFault (λ nanos. answer_with default_unit o (chars bytes) ≡ Ok nanos) (λ cause. answer_with default_unit o (chars bytes) ≡ Err cause) bytes r
     → ReadsWith default_unit o bytes r
@@ -314,7 +314,7 @@ reads_text default_unit o bytes (Err f) h = record {
 abbrev IsDurationOf : Result ℕ Fault → Result Duration Fault → Type 0
 IsDurationOf n r = MatchResult n (λ nanos. IsOkAnd r (λ d. as_nanos d ≡ nanos)) (λ fault. r ≡ Err fault)
 
--- What holds of nanoseconds holds of them as a duration.
+-- If a result in nanoseconds is right, so is the same result as a duration.
 pub parses_text : (default_unit : Option TimeUnit) (o : Options) (bytes : List ℕ) (n : Result ℕ Fault)
     (r : Result Duration Fault) → IsDurationOf n r
     → ReadsWith default_unit o bytes n → ParsesWith default_unit o bytes r

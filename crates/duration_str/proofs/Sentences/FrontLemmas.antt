@@ -1,4 +1,4 @@
--- Sentences in terms of the table of what may follow a terminal, and the front of a list of terminals.
+-- Lemmas about sentences and fronts, in terms of the table of what can follow a terminal.
 use Rattle.duration_str.proofs.Common.{allows, and_from, and_parts, ap, arith, BeginsSentence, Bool, CanFollow, cases_Bool, complete_terminals, drop, drop_at, Expected, expected_after, false, front_after, front_of, is_some, IsFront, IsSentence, IsTrue, last_of, le_antisymm, le_of_suc-le-suc, length, length-append, List, None, not, not-true, not_from_false, not_from_true, number, operator, Option, Plus, refl, same_from_decides, Second, Some, suc, sym, take, take-append-drop, take_at, Terminal, TimeUnit, true, without_last_number, word, zero, zero-le, [], ℕ, ⊤, ◌++◌, ◌↔◌, ◌∷◌, ◌≡◌, ◌≤◌}
 
 -- The table allows each terminal after the one before it, and the first one after `last`.
@@ -7,12 +7,12 @@ AreAllowed default_unit no_calc last [] = ⊤
 AreAllowed default_unit no_calc last (t ∷ terminals) =
     IsTrue (allows (expected_after default_unit no_calc last) t) × AreAllowed default_unit no_calc (Some t) terminals
 
--- The table allows these terminals and then the end, where they come after `last`.
+-- The table allows the end after these terminals, which follow `last`.
 abbrev pub CanEnd : Option TimeUnit → Bool → Option Terminal → List Terminal → Type 0
 CanEnd default_unit no_calc last terminals =
     IsTrue (expected_after default_unit no_calc (last_of last terminals)).text_end
 
--- Only one set of kinds can follow a front.
+-- Which kinds can follow a front is determined by the front.
 pub one_expected : {default_unit : Option TimeUnit} {no_calc : Bool} {front : List Terminal} {a b : Expected}
     → CanFollow default_unit no_calc front a
     → CanFollow default_unit no_calc front b → a ≡ b
@@ -62,7 +62,8 @@ module _ (default_unit : Option TimeUnit) (no_calc : Bool) where
       → AreAllowed default_unit no_calc None front
   begins_allowed front b = ((allowed-append None front b.0).0 (sentence_allowed (front ++ b.0) b.1)).0
 
-  -- What the table allows begins a sentence, as a number completes what does not end, and is one exactly if it can end.
+  -- Terminals that the table allows one after another begin a sentence, and they are a sentence exactly if the table
+  -- allows the end after them.
   allowed_begins : (terminals : List Terminal) → AreAllowed default_unit no_calc None terminals
       → BeginsSentence default_unit no_calc terminals
       × (CanEnd default_unit no_calc None terminals ↔ IsSentence default_unit no_calc terminals)

@@ -37,7 +37,7 @@ module _ (o : Options) where
   tokens_spell text = tokens_spell_at 0 text (tokens_of o text) (tokens_are o 0 text)
 
 module _ (default_unit : Option TimeUnit) (o : Options) where
-  -- Two lexemes that the table allows after one another are not of one run.
+  -- Two lexemes are not of one run if the table allows one after the other.
   stops_before : (c : ℕ) (cs blanks w rest : List ℕ) → IsBlank blanks → IsLexeme o (c ∷ cs) → IsLexeme o w
       → IsTrue (allows (expected_after default_unit o.no_calc (Some (terminal_of o (c ∷ cs)))) (terminal_of o w))
       → goes_on o c (blanks ++ (w ++ rest)) ≡ false
@@ -46,7 +46,7 @@ module _ (default_unit : Option TimeUnit) (o : Options) where
   stops_before c cs [] (d ∷ ds) rest h p q a = false_from_ne_true _ (λ run.
       sorts_apart default_unit o.no_calc _ _ a (sym (lexeme_sort o c cs p) ∙ run_sort o c d run ∙ lexeme_sort o d ds q))
 
-  -- A run in a sentence ends where its lexeme ends.
+  -- A lexeme of a sentence is as long as possible: its run ends where it ends.
   ends_in_sentence : (w rest : List ℕ) (ws : List (List ℕ)) → IsLexeme o w
       → AreAllowed default_unit o.no_calc (Some (terminal_of o w)) (map (terminal_of o) ws) → Spells ws rest
       → EndsRun o w rest

@@ -16,7 +16,7 @@ fits-true n = (ltb-true n (2 ^ 64), lt-ltb n (2 ^ 64))
 pub is_same_operator-true : (op next : CondUnit) → (is_same_operator op next ≡ true) ↔ (next ≡ op)
 is_same_operator-true op next = grind arith
 
--- There is no fault: each number is below 2^64, and the operators are the same.
+-- rules that turn "there is no fault" into "each number is below 2^64, and the operators are the same"
 pub ruleset no_fault = (or_else-none, unless-none, fits-true, is_same_operator-true)
 
 pub term_below_no_fault : (place : Option ℕ) (t : Term) → 1 ≤ t.length → value_of_term t < 2 ^ 64
@@ -25,7 +25,7 @@ term_below_no_fault place t l h = simp no_fault (grind arith)
 
 -- ---- Terms that are added
 
--- Each term is added, and its length is above 0.
+-- Each term has the operator plus and a length above 0.
 abbrev pub AreAdded : List Term → Type 0
 AreAdded [] = ⊤
 AreAdded (t ∷ terms) = (t.operator ≡ Plus) × (1 ≤ t.length) × AreAdded terms
