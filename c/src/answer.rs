@@ -1,5 +1,5 @@
 // Made by tools/erase of crates/duration_str_c/src/answer.rt.
-//! Answers: the value of a text or everything about its fault, as a C struct.
+//! The answer to a text as a C struct: its value, or everything about its fault.
 
 use duration_str_core::{Cause, CondUnit, Expected, Fault, Options};
 
@@ -35,18 +35,20 @@ pub struct Answer {
     pub nanos: u64,
     /// The byte offset of the fault, if it has a place.
     pub place: usize,
-    /// For a syntax fault: the length in bytes of the token at the place; 0 at the end.
+    /// For a syntax fault: the length in bytes of the token at the place, or 0 at the end of the
+    /// text.
     pub found_length: usize,
-    /// 0 if the text is read, otherwise the number of the cause, from 1 for `Empty` to 7 for `NotText`; 8 if a bit is no
-    /// option's.
+    /// 0 if the text is read. Otherwise it is the number of the cause, from 1 for `Empty` to 7 for `NotText`, or 8 if a
+    /// bit belongs to no option.
     pub cause: u32,
-    /// For a syntax fault: what could stand at the place, as bits: 1 a number, 2 a unit, 4 an operator, 8 the end.
+    /// For a syntax fault: what could stand at the place, as bits. 1 is a number, 2 a unit, 4 an operator, and 8 the
+    /// end.
     pub expected: u32,
     /// 1 if the fault has a place, otherwise 0.
     pub has_place: u8,
-    /// For mixed operators: the one that came first, as its character.
+    /// For mixed operators: the operator that came first, as its character.
     pub first_operator: u8,
-    /// For mixed operators: the one that came later.
+    /// For mixed operators: the operator that came later, as its character.
     pub later_operator: u8,
 }
 
@@ -65,7 +67,7 @@ impl Answer {
         }
     }
 
-    /// The answer where a bit is no option's.
+    /// The answer if a bit belongs to no option.
     pub(crate) fn unknown_option() -> Answer {
         Answer {
             cause: UNKNOWN_OPTION,
@@ -95,7 +97,7 @@ pub(crate) fn refused(fault: &Fault<'_>, options: Options) -> Answer {
     Answer::refusal(fault.cause(), found_length(fault, options))
 }
 
-/// The length in bytes of the token at the place of a syntax fault; 0 without one.
+/// The length in bytes of the token at the place of a syntax fault, or 0 if there is none.
 fn found_length(fault: &Fault<'_>, options: Options) -> usize {
     match fault.found(options) {
         Some(token) => token.len(),
@@ -116,7 +118,7 @@ pub(crate) fn cause_number(cause: Cause) -> u32 {
     }
 }
 
-/// The bits of the kinds that could stand at the place of a syntax fault; 0 for other causes.
+/// The bits of the kinds that could stand at the place of a syntax fault, or 0 for other causes.
 fn expected_bits(cause: Cause) -> u32 {
     match cause {
         Cause::Syntax { expected, .. } => bits_of(expected),
@@ -133,7 +135,7 @@ fn bits_of(expected: Expected) -> u32 {
     number + unit + operator + end
 }
 
-/// The characters of the first and the later operator for mixed operators, otherwise 0.
+/// The characters of the first and the later operator if operators are mixed, and otherwise 0.
 fn signs_of(cause: Cause) -> (u8, u8) {
     match cause {
         Cause::Mixed { first, later } => (sign_code(first), sign_code(later)),

@@ -1,7 +1,7 @@
 // Made by tools/erase of crates/duration_str_c/src/lib.rt.
 //! The library for C: `include/duration_str.h` declares these functions.
 //!
-//! Nothing is allocated. Bytes that are not UTF-8 are refused.
+//! The functions allocate nothing. They refuse bytes that are not UTF-8.
 #![no_std]
 
 mod abi; // Written by hand, as the next.
@@ -30,7 +30,7 @@ const CN_UNIT: u32 = 4;
 
 const REQUIRE_UNIT: u32 = 8;
 
-/// The bits from this one on hold 0, or the number of the default unit plus 1.
+/// The bits from bit 16 on hold 0, or the default unit's index in `UNITS` plus 1.
 const DEFAULT_UNIT: u32 = 16;
 
 /// The bits of all options.
@@ -45,7 +45,8 @@ pub(crate) fn options_of_bits(bits: u32) -> Options {
     }
 }
 
-/// Whether each bit that is set is an option's. Another default unit has no operators, and leaves no unit to require.
+/// Whether each bit that is set belongs to an option. With a default unit among the bits, operators must be off, and
+/// units must not be required.
 pub(crate) fn are_options(bits: u32) -> bool {
     let number = bits >> DEFAULT_UNIT;
     bits & OPTIONS == bits
@@ -53,7 +54,7 @@ pub(crate) fn are_options(bits: u32) -> bool {
             || number as usize <= UNITS.len() && bits & NO_CALC != 0 && bits & REQUIRE_UNIT == 0)
 }
 
-/// The default unit: none if the bit is set that requires a unit, and the second if no unit is given.
+/// The default unit. There is none if the bit that requires a unit is set. It is the second if the bits hold no unit.
 fn default_unit_of_bits(bits: u32) -> Option<TimeUnit> {
     if bits & REQUIRE_UNIT != 0 {
         return None;
@@ -65,7 +66,8 @@ fn default_unit_of_bits(bits: u32) -> Option<TimeUnit> {
     UNITS.get(number as usize - 1).copied()
 }
 
-/// Reads a text with all options off into nanoseconds. Returns false if it is refused, and then `nanos` is unchanged.
+/// Reads a text with all options off, and writes its value in nanoseconds to `nanos`. Returns true if the text is read.
+/// If it is refused, returns false and leaves `nanos` unchanged.
 pub fn duration_str_parse(text: &[u8], nanos: &mut u64) -> bool {
     let Some(text) = text_of(text) else {
         return false;
@@ -79,8 +81,8 @@ pub fn duration_str_parse(text: &[u8], nanos: &mut u64) -> bool {
     }
 }
 
-/// Prints a duration of so many nanoseconds and a zero byte to the start of the buffer, and returns the length of the
-/// text, without the zero. The rest of the buffer is unchanged.
+/// Prints a duration of this many nanoseconds to the start of the buffer, with a zero byte after it. Returns the length
+/// of the text without the zero. The rest of the buffer is unchanged.
 pub fn duration_str_format(nanos: u64, buffer: &mut [u8; FORMAT_BUFFER_SIZE]) -> usize {
     let mut printed = [0; FORMAT_BUFFER_SIZE];
     put(
@@ -98,13 +100,15 @@ pub(crate) fn put(text: &str, buffer: &mut [u8]) -> usize {
     end
 }
 
-/// Reads a text under the options whose bits are set. Returns true if it is read.
+/// Reads a text under the options whose bits are set, and writes the answer. Returns true if the
+/// text is read.
 pub fn duration_str_parse_with(text: &[u8], options: u32, answer: &mut Answer) -> bool {
     let _ = refusal_of(text, options, answer);
     answer.cause == 0
 }
 
-/// The value of a text under the options whose bits are set, or its fault.
+/// Reads a text under the options whose bits are set. Returns its value in nanoseconds, or its
+/// fault.
 #[inline(always)]
 pub(crate) fn read_by(text: &str, bits: u32) -> Result<u64, Fault<'_>> {
     parse_nanos(text, options_of_bits(bits), default_unit_of_bits(bits))
@@ -115,7 +119,8 @@ pub fn duration_str_version() -> u32 {
     19_000
 }
 
-/// The bytes as a text, if they are UTF-8. Most are ASCII, which can be tested faster.
+/// Returns the bytes as a text if they are UTF-8. Most texts are ASCII, which takes less time to
+/// test.
 #[inline(always)]
 pub(crate) fn text_of(bytes: &[u8]) -> Option<&str> {
     if bytes.is_ascii() || is_utf8(bytes) {

@@ -5,12 +5,12 @@ use crate::put;
 use duration_str_core::{Format, STYLED_BUFFER_SIZE, Style, Units, write_within};
 use core::time::Duration;
 
-/// Prints a duration in the units of a set, in so many parts at most and in a style, and a zero byte, to the start of the
-/// buffer, and returns the length of the text, without the zero. The rest of the buffer is unchanged.
+/// Prints a duration in the units of a set, in at most `parts` parts and in a style, to the start of the buffer, with a
+/// zero byte after it. Returns the length of the text without the zero. The rest of the buffer is unchanged.
 ///
-/// The set is a number with the bit 2^n for the unit than which n are longer: 1 for the year, 1,024 for the nanosecond, and
-/// 2,047 for all. The styles are 0 short, 1 compact, 2 long. If `nanos` is a second or more, `units` above 2,047, or `style`
-/// above 2, it returns 0, and the text is empty.
+/// In the set the bit 2^n stands for the unit at index n of `UNITS`: 1 is the year, 1,024 is the nanosecond, and 2,047
+/// is all units. The styles are 0 for short, 1 for compact and 2 for long. If `nanos` is a second or more, `units` is
+/// above 2,047, or `style` is above 2, the call returns 0, and the text is empty.
 pub fn duration_str_format_styled(
     secs: u64,
     nanos: u32,
@@ -29,8 +29,8 @@ pub fn duration_str_format_styled(
     }
 }
 
-/// The format with the units of these bits, so many parts and the style with this number; `None` if a bit is above that of
-/// the last unit, or there is no such style.
+/// The format with the units of these bits, at most `parts` parts, and the style with this number. It is `None` if a
+/// bit is above that of the last unit, or if no style has this number.
 fn format_of(units: u32, parts: u32, style: u32) -> Option<Format> {
     let mut format = Format::whole()
         .parts(parts as usize)
@@ -39,7 +39,7 @@ fn format_of(units: u32, parts: u32, style: u32) -> Option<Format> {
     Some(format)
 }
 
-/// The set of the units of these bits; `None` if one is above that of the last unit.
+/// The set of the units of these bits, or `None` if a bit is above that of the last unit.
 fn units_of(bits: u32) -> Option<Units> {
     match u16::try_from(bits) {
         Ok(bits) => Units::from_bits(bits),

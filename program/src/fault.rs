@@ -1,5 +1,5 @@
 // Made by tools/erase of crates/durstr_run/src/fault.rt.
-//! Why a run ended before all was written.
+//! The reasons why a run ends early.
 
 use crate::outside::AllocError;
 

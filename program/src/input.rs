@@ -11,7 +11,7 @@ const LIMIT: usize = 1_048_576;
 /// The most bytes that one read requests.
 const CHUNK: usize = 65_536;
 
-/// Everything that the reader gives.
+/// Reads until the reader's end, and returns all bytes.
 pub fn read_all<A: Allocator, R: Read>(alloc: A, reader: &mut R) -> Result<Vec<u8, A>, RunFault> {
     let mut input = Vec::new(alloc);
     let mut chunk = [0u8; CHUNK];

@@ -6,7 +6,7 @@ fn line_end(bytes: &[u8]) -> Option<usize> {
     bytes.iter().position(|b| *b == b'\n')
 }
 
-/// The first line, and the bytes after its line feed.
+/// Returns the first line, and the bytes after its line feed.
 pub(crate) fn first_line(bytes: &[u8]) -> (&[u8], &[u8]) {
     match line_end(bytes) {
         Some(end) => (&bytes[..end], &bytes[end + 1..]),

@@ -1,5 +1,5 @@
 // Made by tools/erase of crates/durstr_run/src/output.rt.
-//! The output for the lines, and its writing.
+//! Makes the output for the lines, and writes it.
 
 use crate::fault::RunFault;
 use crate::lines::first_line;
@@ -8,7 +8,8 @@ use crate::outside::{AllocError, Allocator, String};
 use std::io::Write;
 use std::time::Duration;
 
-/// The bytes as a text, if they are UTF-8. Most are ASCII, which can be tested faster.
+/// Returns the bytes as a text if they are UTF-8. Most texts are ASCII, which takes less time to
+/// test.
 fn text_of(bytes: &[u8]) -> Option<&str> {
     if bytes.is_ascii() {
         // SAFETY: ASCII is UTF-8.
@@ -17,7 +18,7 @@ fn text_of(bytes: &[u8]) -> Option<&str> {
     core::str::from_utf8(bytes).ok()
 }
 
-/// Adds the nanoseconds, a space, the printed duration and a line feed.
+/// Adds a duration in nanoseconds, a space, the printed duration and a line feed.
 fn push_value<A: Allocator>(out: &mut String<A>, duration: Duration) -> Result<(), AllocError> {
     let nanos = duration.as_nanos() as u64;
     let mut buffer = [0; FORMAT_BUFFER_SIZE];
@@ -48,7 +49,7 @@ fn push_line<A: Allocator>(
     }
 }
 
-/// The output for the whole input, and whether every line was accepted.
+/// Returns the output for the whole input, and whether every line was accepted.
 pub fn output_of<A: Allocator>(
     alloc: A,
     input: &[u8],
@@ -66,7 +67,7 @@ pub fn output_of<A: Allocator>(
     Ok((out, all_accepted))
 }
 
-/// Writes all the bytes and flushes.
+/// Writes all the bytes, and flushes the writer.
 pub fn write_all<W: Write>(writer: &mut W, bytes: &[u8]) -> Result<(), RunFault> {
     let mut written = 0;
     while written < bytes.len() {

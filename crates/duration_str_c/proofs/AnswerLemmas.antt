@@ -1,4 +1,4 @@
--- What is told of a text.
+-- Lemmas about what a call's answer says about a text.
 use Rattle.std.proofs.Common.{ap, arith, inl, inr, IsUtf8, length, List, None, Option, refl, slice_get, slice_index_or, Some, subst, suc, zero, [], ℕ, ◌∷◌, ◌≡◌, ◌<◌, ◌≤◌, Bor}
 use Rattle.std.specs.Option.{option_copied}
 use Rattle.std.specs.Slice.{IsItemAt}

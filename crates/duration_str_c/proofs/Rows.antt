@@ -1,4 +1,4 @@
--- Worked examples, computed: which bits are options, and the default unit that they name.
+-- Examples that are computed: which bits are options, and which default unit they stand for.
 use Rattle.std.proofs.Common.{◌≡◌, false, None, Some, true}
 use Rattle.duration_str.specs.declared.unit.TimeUnit.TheVariants.{MilliSecond, NanoSecond, Second, Year}
 use Rattle.duration_str_c.specs.Answers.{are_options, default_unit_of_bits}

@@ -18,23 +18,24 @@ use Rattle.duration_str.specs.Units.{units}
 use Rattle.duration_str.specs.Reading.{IsReadWith, IsRefusedWith}
 use Rattle.duration_str_c.specs.declared.answer.Answer.{Answer}
 
--- whether a flag is set among the bits
+-- whether the bits have this flag
 abbrev pub has_flag : ℕ → ℕ → Bool
 has_flag bits flag = not (bit_and bits flag == 0)
 
--- the number in the bits from 16 on: 0, or that of the default unit plus 1
+-- the number in the bits from bit 16 on. It is 0, or the default unit's index in `units` plus 1
 abbrev pub unit_field : ℕ → ℕ
 unit_field bits = bits / 2 ^ 16
 
--- whether each bit that is set is an option's: 1, 2, 4, 8, and the four from 16 on. If these are not 0, they hold the
--- number of a unit plus 1, bit 1 is set, so that no operators are read, and bit 8 is not, which requires a unit
+-- whether each bit that is set belongs to an option. These are 1, 2, 4, 8, and the four bits from bit 16 on. The four
+-- bits are 0, or a unit's index plus 1. If they are not 0, the flag 1 must be set, so that no operators are read, and
+-- the flag 8 must not, which requires a unit
 abbrev pub are_options : ℕ → Bool
 are_options bits =
     bit_and bits 0xF000F == bits
     && (unit_field bits == 0
     || (nat_le (unit_field bits) (length units) && has_flag bits 1 && not (has_flag bits 8)))
 
--- Each bit that is set is an option's.
+-- Each bit that is set belongs to an option.
 abbrev pub AreOptions : ℕ → Type 0
 AreOptions bits = IsTrue (are_options bits)
 
@@ -42,7 +43,8 @@ AreOptions bits = IsTrue (are_options bits)
 abbrev pub options_of_bits : ℕ → Options
 options_of_bits bits = record { no_calc = has_flag bits 1; lowercase = has_flag bits 2; cn_unit = has_flag bits 4 }
 
--- the default unit: none if bit 8 is set, otherwise the one in the bits from 16 on, or the second if they are 0
+-- the default unit. There is none if the flag 8 is set. Otherwise it is the one in the bits from bit 16 on, or the
+-- second if they are 0
 abbrev pub default_unit_of_bits : ℕ → Option TimeUnit
 default_unit_of_bits bits =
     if has_flag bits 8 then None
@@ -65,7 +67,7 @@ bits_of e =
     (if e.number then 1 else 0) + (if e.unit_word then 2 else 0) + (if e.operator then 4 else 0)
     + (if e.text_end then 8 else 0)
 
--- the bits of the kinds that could stand at the place of a syntax fault; 0 for other causes
+-- the bits of the kinds that could stand at the place of a syntax fault, or 0 for other causes
 abbrev pub expected_bits : Cause → ℕ
 expected_bits (Syntax place expected) = bits_of expected
 expected_bits _ = 0
@@ -75,17 +77,17 @@ abbrev pub sign_code : CondUnit → ℕ
 sign_code Plus = 43
 sign_code Star = 42
 
--- the character of the first operator for mixed operators, otherwise 0
+-- the character of the first operator if operators are mixed, and otherwise 0
 abbrev pub first_sign : Cause → ℕ
 first_sign (Mixed first later) = sign_code first
 first_sign _ = 0
 
--- the character of the later operator for mixed operators, otherwise 0
+-- the character of the later operator if operators are mixed, and otherwise 0
 abbrev pub later_sign : Cause → ℕ
 later_sign (Mixed first later) = sign_code later
 later_sign _ = 0
 
--- the length of a token in bytes; 0 without one
+-- the length of a token in bytes, or 0 if there is none
 abbrev pub token_length : Option Token → ℕ
 token_length None = 0
 token_length (Some token) = byte_len token.characters
@@ -103,7 +105,7 @@ value_answer nanos = record {
   later_operator = 0;
 }
 
--- the answer where a bit is no option's
+-- the answer if a bit belongs to no option
 abbrev pub unknown_option_answer : Answer
 unknown_option_answer = record {
   nanos = 0;
@@ -129,7 +131,8 @@ refusal_answer cause found_length = record {
   later_operator = later_sign cause;
 }
 
--- The answer tells this cause of the bytes, whose place is a character boundary of them.
+-- The answer says that the bytes are refused for this cause. The cause's place is a character boundary within the
+-- bytes.
 abbrev pub TellsFault : Options → List ℕ → Cause → Answer → Type 0
 TellsFault o bytes cause answer =
     (answer ≡ refusal_answer cause (token_length (found_token o (chars bytes) cause)))
@@ -143,8 +146,8 @@ IsReadBy bits text nanos = IsReadWith (default_unit_of_bits bits) (options_of_bi
 abbrev pub IsRefusedBy : ℕ → List ℕ → Cause → Type 0
 IsRefusedBy bits text cause = IsRefusedWith (default_unit_of_bits bits) (options_of_bits bits) text cause
 
--- What is told of the bytes: that a bit is no option's; otherwise that they are not UTF-8; otherwise their value, or the
--- cause of their refusal, under the options whose bits are set.
+-- One of four cases applies, and the proposition for it holds. A bit belongs to no option; or the bytes are not UTF-8;
+-- or they are read as a value under the options whose bits are set; or they are refused for a cause.
 abbrev pub IsTold : Type 0 → Type 0 → (ℕ → Type 0) → (Cause → Type 0) → ℕ → List ℕ → Type 0
 IsTold Unknown NotUtf8 Value Refusal bits bytes =
     ((AreOptions bits → ⊥) × Unknown)
@@ -152,7 +155,7 @@ IsTold Unknown NotUtf8 Value Refusal bits bytes =
     ⊎ (AreOptions bits × IsUtf8 bytes × (nanos : ℕ) × IsReadBy bits (chars bytes) nanos × Value nanos)
     ⊎ (AreOptions bits × IsUtf8 bytes × (cause : Cause) × IsRefusedBy bits (chars bytes) cause × Refusal cause)
 
--- The answer tells that of the bytes.
+-- The answer is right for the bytes: it says which of the four cases applies.
 abbrev pub IsAnswerTo : ℕ → List ℕ → Answer → Type 0
 IsAnswerTo bits bytes answer =
     IsTold (answer ≡ unknown_option_answer) (answer ≡ refusal_answer (NotText false) 0)

@@ -1,4 +1,4 @@
--- Formats whose units are given by bits, and whose style is given by number.
+-- Formats whose units are given by bits, and whose style is given by a number.
 use Rattle.std.specs.Prelude.{ℕ, ◌==◌, if◌then◌else◌}
 use Rattle.duration_str.specs.declared.format.Format.{Format}
 use Rattle.duration_str.specs.declared.format.Style.{Style}
@@ -9,10 +9,10 @@ use Rattle.duration_str.specs.declared.format.Units.{Units}
 abbrev pub style_numbered : ℕ → Style
 style_numbered number = if number == 0 then Short else if number == 1 then Compact else Long
 
--- the set of the units of these bits
+-- the set of units that these bits stand for
 abbrev pub units_of : ℕ → Units
 units_of bits = record { bits = bits }
 
--- the format with the units of these bits, so many parts and this style
+-- the format with the units that these bits stand for, at most this many parts, and this style
 abbrev pub format_of : ℕ → ℕ → Style → Format
 format_of units parts style = record { units = units_of units; parts = parts; style = style }

@@ -1,6 +1,6 @@
 //! The library for C: `include/duration_str.h` declares these functions.
 //!
-//! Nothing is allocated. Bytes that are not UTF-8 are refused.
+//! The functions allocate nothing. They refuse bytes that are not UTF-8.
 #![tactic(auto)]
 
 ghost use Rattle.std.specs.Prelude.{◌≡◌, ℕ, ◌+◌, ◌<◌, ◌≤◌, ◌==◌, ◌∷◌, length, IsTrue, IsFalse, IfSome, IfNone, IfOk, IfErr, IsUtf8, take, drop};
@@ -33,7 +33,7 @@ const CN_UNIT: u32 = 4;
 
 const REQUIRE_UNIT: u32 = 8;
 
-/// The bits from this one on hold 0, or the number of the default unit plus 1.
+/// The bits from bit 16 on hold 0, or the default unit's index in `UNITS` plus 1.
 const DEFAULT_UNIT: u32 = 16;
 
 /// The bits of all options.
@@ -50,7 +50,8 @@ pub(crate) fn options_of_bits(bits: u32) -> Options
     }
 }
 
-/// Whether each bit that is set is an option's. Another default unit has no operators, and leaves no unit to require.
+/// Whether each bit that is set belongs to an option. With a default unit among the bits, operators must be off, and
+/// units must not be required.
 pub(crate) fn are_options(bits: u32) -> bool
     ensures { result ≡ are_options bits }
 {
@@ -60,7 +61,7 @@ pub(crate) fn are_options(bits: u32) -> bool
             || number as usize <= UNITS.len() && bits & NO_CALC != 0 && bits & REQUIRE_UNIT == 0)
 }
 
-/// The default unit: none if the bit is set that requires a unit, and the second if no unit is given.
+/// The default unit. There is none if the bit that requires a unit is set. It is the second if the bits hold no unit.
 fn default_unit_of_bits(bits: u32) -> Option<TimeUnit>
     ensures { result ≡ default_unit_of_bits bits }
 {
@@ -74,7 +75,8 @@ fn default_unit_of_bits(bits: u32) -> Option<TimeUnit>
     UNITS.get(number as usize - 1).copied()
 }
 
-/// Reads a text with all options off into nanoseconds. Returns false if it is refused, and then `nanos` is unchanged.
+/// Reads a text with all options off, and writes its value in nanoseconds to `nanos`. Returns true if the text is read.
+/// If it is refused, returns false and leaves `nanos` unchanged.
 pub fn duration_str_parse(text: &[u8], nanos: &mut u64) -> bool
     ensures read { IsTrue result → IsRead off (chars text.now) nanos.new }
     ensures accepts { IsUtf8 text.now
@@ -94,8 +96,8 @@ pub fn duration_str_parse(text: &[u8], nanos: &mut u64) -> bool
     }
 }
 
-/// Prints a duration of so many nanoseconds and a zero byte to the start of the buffer, and returns the length of the
-/// text, without the zero. The rest of the buffer is unchanged.
+/// Prints a duration of this many nanoseconds to the start of the buffer, with a zero byte after it. Returns the length
+/// of the text without the zero. The rest of the buffer is unchanged.
 pub fn duration_str_format(nanos: u64, buffer: &mut [u8; FORMAT_BUFFER_SIZE]) -> usize
     ensures text { IsPrinted nanos (chars (take result buffer.new)) }
     ensures utf8 { IsUtf8 (take result buffer.new) }
@@ -123,7 +125,8 @@ pub(crate) fn put(text: &str, buffer: &mut [u8]) -> usize
     end
 }
 
-/// Reads a text under the options whose bits are set. Returns true if it is read.
+/// Reads a text under the options whose bits are set, and writes the answer. Returns true if the
+/// text is read.
 pub fn duration_str_parse_with(text: &[u8], options: u32, answer: &mut Answer) -> bool
     ensures answers { IsAnswerTo options text.now answer.new }
     ensures read { result ≡ (answer.new.cause == 0) }
@@ -132,7 +135,8 @@ pub fn duration_str_parse_with(text: &[u8], options: u32, answer: &mut Answer) -
     answer.cause == 0
 }
 
-/// The value of a text under the options whose bits are set, or its fault.
+/// Reads a text under the options whose bits are set. Returns its value in nanoseconds, or its
+/// fault.
 #[inline(always)]
 pub(crate) fn read_by(text: &str, bits: u32) -> Result<u64, Fault<'_>>
     ensures { ReadsWith (default_unit_of_bits bits) (options_of_bits bits) text.now result }
@@ -147,7 +151,8 @@ pub fn duration_str_version() -> u32
     19_000
 }
 
-/// The bytes as a text, if they are UTF-8. Most are ASCII, which can be tested faster.
+/// Returns the bytes as a text if they are UTF-8. Most texts are ASCII, which takes less time to
+/// test.
 #[inline(always)]
 pub(crate) fn text_of(bytes: &[u8]) -> Option<&str>
     ensures text { IfSome result (λ text. (text.now ≡ bytes.now) × IsUtf8 bytes.now) }

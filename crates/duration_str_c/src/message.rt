@@ -1,4 +1,4 @@
-//! What is said about a refused text.
+//! The line and the report about a refused text.
 ghost use Rattle.std.specs.Prelude.{◌≡◌, ◌+◌, ◌<◌, ◌≤◌, ◌∷◌, length, take, drop, IsUtf8, IfOk, IfErr};
 ghost use Rattle.std.specs.Str.{chars};
 ghost use Rattle.duration_str.specs.declared.one_line.TheConstants.{MAX_ONE_LINE_LEN};
@@ -12,9 +12,9 @@ use crate::answer::{Answer, refused};
 use crate::{are_options, options_of_bits, put, read_by, text_of};
 use duration_str::{Cause, Fault, ONE_LINE_BUFFER_SIZE, REPORT_BUFFER_SIZE};
 
-/// Reads a text under the options whose bits are set, as `duration_str_parse_with` does, and writes what is wrong with
-/// a refused one in one line, and a zero byte, to the start of the buffer. Returns the length of the line in bytes,
-/// without the zero; the line is empty for a text that is read. The rest of the buffer is unchanged.
+/// Reads a text under the options whose bits are set, as `duration_str_parse_with` does, and writes a line to the start
+/// of the buffer, with a zero byte after it. The line says what is wrong with the text, and is empty if the text is
+/// read. Returns the length of the line in bytes, without the zero. The rest of the buffer is unchanged.
 pub fn duration_str_one_line(
     text: &[u8],
     options: u32,
@@ -34,8 +34,8 @@ pub fn duration_str_one_line(
     }
 }
 
-/// The same, with the report in place of the line: the text, a caret below the place of a syntax fault, and the line;
-/// or the line alone.
+/// Does what `duration_str_one_line` does, but writes the report: the text, a caret below the place of a syntax fault,
+/// and the line; or the line alone.
 pub fn duration_str_report(
     text: &[u8],
     options: u32,
@@ -55,7 +55,8 @@ pub fn duration_str_report(
     }
 }
 
-/// Reads a text and writes the answer. Returns the fault, or what is shown where there is none.
+/// Reads a text and writes the answer. Returns the fault; or, if the text has none, the line to
+/// show, which is empty if the text is read.
 #[inline(always)]
 pub(crate) fn refusal_of<'a>(
     bytes: &'a [u8],

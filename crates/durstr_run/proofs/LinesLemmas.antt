@@ -1,4 +1,4 @@
--- The first line of bytes.
+-- Lemmas about the first line of the bytes.
 use Rattle.std.proofs.Common.{◌≡◌, ℕ, ◌+◌, ◌<◌, Bool, false, ◌==◌, List, [], ◌∷◌, length, Some, refl, ap, ◌∙◌, arith, take, drop}
 use Rattle.std.specs.List.{slice_split, position, position_or_len, before_first, after_first, All}
 use Rattle.std.proofs.lemmas.List.Quantifiers.{position-Some}
@@ -16,7 +16,7 @@ without_empty_last-cons part [] h = absurd (omega arith)
 without_empty_last-cons [] (next ∷ parts) h = refl
 without_empty_last-cons (b ∷ part) (next ∷ parts) h = refl
 
--- A single part is kept if it is not empty.
+-- A part that is the only one is kept if it is not empty.
 without_empty_last-one : (part : List ℕ) → 0 < length part → without_empty_last (part ∷ []) ≡ part ∷ []
 without_empty_last-one [] h = absurd (omega arith)
 without_empty_last-one (b ∷ part) h = refl

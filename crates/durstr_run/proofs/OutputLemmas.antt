@@ -1,4 +1,4 @@
--- The output for the bytes, line by line.
+-- Lemmas about the output for the bytes, line by line.
 use Rattle.std.proofs.Common.{◌≡◌, ℕ, Bool, true, ◌&&◌, List, [], ◌∷◌, ◌++◌, length, refl, sym, ap, subst, ◌∙◌, append_assoc, append-nil, arith}
 use Rattle.std.proofs.Math.Bool.{and_assoc, and-true}
 use Rattle.duration_str.specs.declared.options.Options.{Options}
@@ -41,7 +41,7 @@ unfolding lines_of
 IsOutput-nil o [] e = (refl, refl)
 IsOutput-nil o (b ∷ bytes) e = absurd (omega arith)
 
--- Nothing is left, so what is written is the output.
+-- If nothing is left to read, the bytes that are written are the whole output.
 pub Continues-end : (o : Options) (input left written : List ℕ) (so_far : Bool)
     → Continues o input left written so_far → length left ≡ 0 → IsOutput o input written so_far
 Continues-end o input left written so_far before e =

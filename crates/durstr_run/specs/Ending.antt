@@ -12,7 +12,7 @@ status_of (Err faults.Write) = 2
 status_of (Err faults.TooLong) = 2
 status_of (Err faults.Memory) = 3
 
--- the line on standard error; empty if there is none
+-- the line on standard error, or the empty text if there is none
 abbrev pub error_line : Result Bool RunFault → List ℕ
 error_line (Ok accepted) = []
 error_line (Err faults.Read) = codes "durstr: read failed"

@@ -9,7 +9,7 @@ use Rattle.duration_str.specs.Printing.{IsPrinted}
 use Rattle.duration_str.specs.Messages.{message_of}
 use Rattle.durstr_run.specs.Lines.{lines_of}
 
--- An accepted line prints its value in nanoseconds, a space, and the value as a duration.
+-- For an accepted line its value in nanoseconds, a space, and the value as a duration are printed.
 pub record PrintsValue (o : Options) (line text : List ℕ) : Type 0 where
   pub nanos : ℕ
   pub human : List ℕ
@@ -18,14 +18,14 @@ pub record PrintsValue (o : Options) (line text : List ℕ) : Type 0 where
   pub human_printed : IsPrinted nanos human
   pub shown : text ≡ decimal nanos ++ (32 ∷ encode_utf8_all human)
 
--- A refused line prints its fault text.
+-- For a refused line the message of its fault is printed.
 pub record PrintsFault (o : Options) (line text : List ℕ) : Type 0 where
   pub cause : Cause
   pub utf8 : IsUtf8 line
   pub refused : IsRefused o (chars line) cause
   pub shown : text ≡ message_of line cause
 
--- Bytes that are not UTF-8 print a line that says so.
+-- For bytes that are not UTF-8 a text that says so is printed.
 abbrev pub PrintsNotUtf8 : List ℕ → List ℕ → Type 0
 PrintsNotUtf8 line text = (IsUtf8 line → ⊥) × (text ≡ codes "not UTF-8")
 

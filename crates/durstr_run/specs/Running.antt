@@ -1,4 +1,5 @@
--- How a run changes the bytes of its reader and its writer, where these are known.
+-- How a run changes the bytes of its reader and its writer. An `Option` is `None` if the bytes are not known, such as
+-- those of standard input.
 use Rattle.std.specs.Prelude.{ℕ, ◌<◌, ◌≤◌, Bool, List, length, take, Option}
 use Rattle.std.specs.Io.KnownBytes.{Keeps, Appends, Consumes, IsAtEnd}
 use Rattle.duration_str.specs.declared.options.Options.{Options}
@@ -10,7 +11,7 @@ use Rattle.durstr_run.specs.Output.{IsOutput}
 abbrev pub input_limit : ℕ
 input_limit = 1_048_576
 
--- The whole input was read: these bytes, which are not too many, and no more are left.
+-- The whole input was read. It is these bytes, there are not too many of them, and none are left.
 abbrev pub ReadsAll : Option (List ℕ) → Option (List ℕ) → List ℕ → Type 0
 ReadsAll source rest input = Consumes source rest input × IsAtEnd rest × (length input ≤ input_limit)
 
@@ -22,14 +23,14 @@ ReadsTooMuch source rest = (bytes : List ℕ) × Consumes source rest bytes × (
 abbrev pub WritesFront : Option (List ℕ) → Option (List ℕ) → List ℕ → Type 0
 WritesFront before after bytes = (n : ℕ) × Appends before after (take n bytes)
 
--- All was read, and its output was written; the flag says whether all lines are accepted.
+-- The whole input was read, and its output was written. The flag says whether all lines are accepted.
 abbrev pub WritesOutput : Options → Bool → Option (List ℕ) → Option (List ℕ) → Option (List ℕ) → Option (List ℕ)
     → Type 0
 WritesOutput o accepted source rest before after =
     (input out : List ℕ) × ReadsAll source rest input × IsOutput o input out accepted × Appends before after out
 
--- What is left after each fault: after `Write` all was read and a beginning of the output was written; otherwise
--- nothing was written, and `TooLong` happens only if too much was read.
+-- What each fault leaves. After `Write` the whole input was read, and a beginning of the output was written. After
+-- every other fault nothing was written. After `TooLong` too much was read.
 abbrev pub Leaves : Options → RunFault → Option (List ℕ) → Option (List ℕ) → Option (List ℕ) → Option (List ℕ) → Type 0
 Leaves o Read source rest before after = Keeps before after
 Leaves o TooLong source rest before after = Keeps before after × ReadsTooMuch source rest

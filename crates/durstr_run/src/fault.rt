@@ -1,4 +1,4 @@
-//! Why a run ended before all was written.
+//! The reasons why a run ends early.
 ghost use Rattle.std.specs.Prelude.{◌≡◌};
 ghost use Rattle.durstr_run.specs.declared.fault.RunFault.TheVariants.{Memory};
 

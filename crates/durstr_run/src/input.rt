@@ -12,7 +12,7 @@ const LIMIT: usize = 1_048_576;
 /// The most bytes that one read requests.
 const CHUNK: usize = 65_536;
 
-/// Everything that the reader gives.
+/// Reads until the reader's end, and returns all bytes.
 pub fn read_all<A: Allocator, R: Read>(alloc: A, reader: &mut R) -> Result<Vec<u8, A>, RunFault>
     ensures ok { IfOk result (λ input.
         ReadsAll (R.remaining reader.old) (R.remaining reader.new) input.items) }

@@ -1,4 +1,4 @@
-//! The output for the lines, and its writing.
+//! Makes the output for the lines, and writes it.
 ghost use Rattle.std.specs.Prelude.{◌≡◌, ℕ, ◌^◌, ◌<◌, List, [], ◌∷◌, ◌++◌, IfOk, OnOk, OnErr, IfSome, IfNone, IsUtf8, decimal, encode_utf8_all, string_bytes};
 ghost use Rattle.std.specs.Duration.{as_nanos};
 ghost use Rattle.std.specs.Io.KnownBytes.{Appends};
@@ -13,7 +13,8 @@ use std::alloc::{AllocError, Allocator};
 use std::io::Write;
 use std::time::Duration;
 
-/// The bytes as a text, if they are UTF-8. Most are ASCII, which can be tested faster.
+/// Returns the bytes as a text if they are UTF-8. Most texts are ASCII, which takes less time to
+/// test.
 fn text_of(bytes: &[u8]) -> Option<&str>
     ensures text { IfSome result (λ text. (text.now ≡ bytes.now) × IsUtf8 bytes.now) }
     ensures not_text { IfNone result (¬ (IsUtf8 bytes.now)) }
@@ -25,7 +26,7 @@ fn text_of(bytes: &[u8]) -> Option<&str>
     str::from_utf8(bytes).ok()
 }
 
-/// Adds the nanoseconds, a space, the printed duration and a line feed.
+/// Adds a duration in nanoseconds, a space, the printed duration and a line feed.
 fn push_value<A: Allocator>(out: &mut String<A>, duration: Duration) -> Result<(), AllocError>
     requires fits { as_nanos duration < 2 ^ 64 }
     ensures { OnOk result ((human : List ℕ) × IsPrinted (as_nanos duration) human
@@ -64,7 +65,7 @@ fn push_line<A: Allocator>(
     }
 }
 
-/// The output for the whole input, and whether every line was accepted.
+/// Returns the output for the whole input, and whether every line was accepted.
 pub fn output_of<A: Allocator>(
     alloc: A,
     input: &[u8],
@@ -84,7 +85,7 @@ pub fn output_of<A: Allocator>(
     Ok((out, all_accepted))
 }
 
-/// Writes all the bytes and flushes.
+/// Writes all the bytes, and flushes the writer.
 pub fn write_all<W: Write>(writer: &mut W, bytes: &[u8]) -> Result<(), RunFault>
     ensures ok { OnOk result (Appends (W.contents writer.old) (W.contents writer.new) bytes.now) }
     ensures err { OnErr result (WritesFront

@@ -4,7 +4,7 @@
 use std::alloc::{AllocError, Allocator};
 use std::cell::Cell;
 
-/// How many requests were made, and which one is refused.
+/// How many requests were made, and the number of the one that is refused.
 #[derive(Drop)]
 struct Requests {
     made: Cell<u64>,
@@ -19,7 +19,8 @@ impl Requests {
     }
 }
 
-/// Serves each request for memory from another allocator, except one. To grow or to shrink a block is a request too.
+/// Passes each request for memory on to another allocator, except one, which it refuses. Growing or shrinking a block
+/// is a request too.
 #[derive(Drop)]
 pub struct Refusing<B: Allocator> {
     inner: B,
@@ -27,7 +28,8 @@ pub struct Refusing<B: Allocator> {
 }
 
 impl<B: Allocator> Refusing<B> {
-    /// Refuses the request of that number, counted from 1; with 0 none.
+    /// Returns an allocator that refuses the request with this number, counted from 1. If the
+    /// number is 0, it refuses none.
     pub fn nth(inner: B, refused: u64) -> Refusing<B> {
         let made = Cell::new(0);
         Refusing {
@@ -36,7 +38,7 @@ impl<B: Allocator> Refusing<B> {
         }
     }
 
-    /// How many requests were made, with the refused one.
+    /// Returns how many requests were made, including the refused one.
     pub fn made(&self) -> u64 {
         self.requests.made.get()
     }

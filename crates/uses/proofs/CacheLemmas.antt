@@ -1,4 +1,4 @@
--- The canonical text of a value, and texts compared by their bytes.
+-- Lemmas about the canonical text of a value, and about comparing texts by their bytes.
 use Rattle.std.proofs.Common.{ap, Bool, chars, IsTrue, IsUtf8, List, refl, rules, sym, ℕ, ◌<◌, ◌^◌, ◌↔◌, ◌∙◌, ◌≡◌}
 use Rattle.std.specs.Str.{bytes_eq}
 use Rattle.duration_str.proofs.Common.{bytes_eq-Decides, counts_of, encodes, encodes-chars, EqualTexts, FitsDuration, GreatestBreakdown, IsPrintedIn, IsRead, off, ReadsBack, unit_lengths, Some}
@@ -6,7 +6,7 @@ use Rattle.duration_str.specs.declared.format.Style.{Style}
 use Rattle.uses.specs.Cache.{canonical_text, IsCanonical, IsKey}
 use Rattle.duration_str.specs.declared.unit.TimeUnit.TheVariants.{Second}
 
--- What a value prints as is its key.
+-- The text that a value prints as is the value's key.
 pub printed_is_key : GreatestBreakdown → EqualTexts → (style : Style) (nanos : ℕ) (key : List ℕ) → FitsDuration nanos
     → IsPrintedIn style nanos key → IsKey style nanos key
 printed_is_key greatest equal style nanos key fits printed = record {
@@ -15,7 +15,7 @@ printed_is_key greatest equal style nanos key fits printed = record {
   greatest = greatest nanos;
 }
 
--- A key is what its value prints as.
+-- A key is the text that its value prints as.
 pub key_is_printed : (style : Style) (nanos : ℕ) (key : List ℕ) → IsKey style nanos key → IsPrintedIn style nanos key
 key_is_printed style nanos key k = (counts_of unit_lengths nanos, k.greatest, k.one)
 
@@ -32,7 +32,8 @@ key_is_canonical back style text key nanos small read k = record {
 chars_tell : (a b : List ℕ) → IsUtf8 a → IsUtf8 b → chars a ≡ chars b → a ≡ b
 chars_tell a b ua ub e = sym (encodes-chars a ua) ∙ ap encodes e ∙ encodes-chars b ub
 
--- If the characters of two texts are equal exactly when two numbers are, so are their bytes.
+-- If two texts have equal characters exactly if two numbers are equal, they have equal bytes exactly if the numbers
+-- are.
 pub equal_by_chars : {m n : ℕ} (a b : List ℕ) (equal : Bool) → IsUtf8 a → IsUtf8 b → equal ≡ bytes_eq a b
     → (chars a ≡ chars b ↔ m ≡ n) → (IsTrue equal ↔ m ≡ n)
 equal_by_chars a b equal ua ub is same = search (rules, bytes_eq-Decides, chars_tell)

@@ -1,4 +1,4 @@
--- The names that most proofs cite and the library does not pass on, passed on from one place. Declares nothing.
+-- Exports the names that most proofs use and that the library does not export. It declares nothing.
 pub use Rattle.duration_str.proofs.Characters.CharacterLemmas.{run-not_blank}
 pub use Rattle.duration_str.specs.Iteration.{token_of}
 pub use Rattle.duration_str.specs.Tokens.{Token}

@@ -1,4 +1,4 @@
--- What can be typed at the place of a syntax fault.
+-- Lemmas about what can be typed at the place of a syntax fault.
 use Rattle.std.proofs.Common.{ap, append-nil, append_assoc, arith, codes, IsTrue, length, List, map, refl, Some, sym, take, [], ℕ, ◌++◌, ◌∙◌, ◌∷◌, ◌≡◌}
 use Rattle.duration_str.proofs.Common.{allows, AreTokens, BeginsSentence, byte_len, IsLexeme, IsRefused, IsSentence, lexemes_of, map-append, number, OneCut, OneSentence, operator, other, PlaceAndKinds, Spells, Terminal, terminal_of, tokens_of, word}
 use Rattle.uses.proofs.Common.{Expected, Options, Syntax, take-map, Token}
@@ -18,7 +18,7 @@ spells_one w = begins_with (32 ∷ []) [] refl (rw append-nil) refl
 abbrev stand_for : Options → List Token → List Terminal
 stand_for o tokens = map (terminal_of o) (lexemes_of tokens)
 
--- A text after a blank, and its lexemes, which end a sentence after these terminals.
+-- A text that can follow a blank, and its lexemes, which complete a sentence that begins with these terminals.
 record IsEnding (o : Options) (front : List Terminal) : Type 0 where
   lexemes : List (List ℕ)
   text : List ℕ
@@ -26,7 +26,8 @@ record IsEnding (o : Options) (front : List Terminal) : Type 0 where
   sentence : IsSentence (Some Second) o.no_calc (front ++ map (terminal_of o) lexemes)
 
 module _ (one : OneSentence) (cut : OneCut) (law : PlaceAndKinds) (o : Options) where
-  -- Nothing ends a sentence after a number or a word, and zero after an operator.
+  -- A sentence that begins with these terminals is completed by nothing after a number or a word, and by a zero after
+  -- an operator.
   ending_after : (front : List Terminal) (t : Terminal) (expected : Expected) → BeginsSentence (Some Second) o.no_calc
       (front ++ t ∷ [])
       → IsTrue (allows expected t) → IsEnding o (front ++ t ∷ [])
@@ -54,7 +55,7 @@ module _ (one : OneSentence) (cut : OneCut) (law : PlaceAndKinds) (o : Options) 
       }
   ending_after front other expected b a = cc a
 
-  -- What the table allows can be typed.
+  -- A lexeme that the table allows can be typed.
   allowed_typed : (kept w : List ℕ) (tokens : List Token) (expected : Expected) → AreTokens o 0 kept tokens
       → BeginsSentence (Some Second) o.no_calc (stand_for o tokens ++ terminal_of o w ∷ [])
       → IsTrue (allows expected (terminal_of o w)) → BeginsExpression o (kept ++ (codes " " ++ w))
@@ -67,7 +68,7 @@ module _ (one : OneSentence) (cut : OneCut) (law : PlaceAndKinds) (o : Options) 
       let whole = spells_both typed e.lexemes (kept ++ 32 ∷ w) (32 ∷ e.text) spells e.spells in
       (e.text, (typed ++ e.lexemes, (simp map-append e.sentence, whole)))
 
-  -- What can be typed goes on with the beginning of a sentence.
+  -- A lexeme that can be typed continues the beginning of a sentence.
   typed_begins : (kept w : List ℕ) (tokens : List Token) → AreTokens o 0 kept tokens → IsLexeme o w
       → BeginsExpression o (kept ++ (codes " " ++ w)) → BeginsSentence (Some Second) o.no_calc
       (stand_for o tokens ++ terminal_of o w ∷ [])

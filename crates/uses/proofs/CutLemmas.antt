@@ -1,4 +1,4 @@
--- How a text is cut that is split at a token, or joined at a blank.
+-- Lemmas about the tokens of a text that is split at a token, or joined at a blank.
 use Rattle.std.proofs.Common.{ap, append-nil, append_assoc, arith, List, refl, rules, suc, take, zero, [], ℕ, ◌++◌, ◌+◌, ◌∙◌, ◌∷◌, ◌≡◌}
 use Rattle.duration_str.proofs.Common.{AreTokens, byte_len, EndsRun, false_from_ne_true, IsLexeme, lexemes_of, map-append, start_after, tokens_from, tokens_of}
 use Rattle.uses.proofs.Common.{Options, run-not_blank, Token}
@@ -6,7 +6,7 @@ use Rattle.duration_str.proofs.Characters.CharacterLemmas.{byte_len-append}
 use Rattle.duration_str.proofs.Cutting.PositionLemmas.{blanks_no_token}
 use Rattle.duration_str.proofs.Cutting.TokenLemmas.{tokens_step}
 
--- The text up to the token after the first n, and the rest. The text starts at byte `at` and ends at byte `end`.
+-- The text is split before the token after the first n tokens. It starts at byte `at` and ends at byte `end`.
 pub record IsSplit (o : Options) (at end : ℕ) (text : List ℕ) (tokens : List Token) (n : ℕ) : Type 0 where
   pub front : List ℕ
   pub rest : List ℕ
@@ -68,7 +68,7 @@ module _ (o : Options) where
   joined at text more (token ∷ tokens) (rest, next, are) =
       search (rules, append_assoc, tokens_step, ends_at_blank, joined (token.start + byte_len token.characters) rest more tokens)
 
-  -- The lexemes of a text, a blank, a lexeme, a blank and more.
+  -- The lexemes of a text, a blank, a lexeme, a blank and more text are those of its pieces.
   pub typed_lexemes : (text w more : List ℕ) (tokens : List Token) → AreTokens o 0 text tokens → IsLexeme o w
       → (others : List (List ℕ))
       × (lexemes_of (tokens_of o (text ++ 32 ∷ (w ++ 32 ∷ more))) ≡ lexemes_of tokens ++ w ∷ others)

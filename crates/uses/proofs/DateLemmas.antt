@@ -1,4 +1,4 @@
--- What a text moves a moment to, from the contract of the calls for dates.
+-- Lemmas about the instant to which a text moves a moment, from the contract of the calls for dates.
 use Rattle.std.proofs.Common.{chars, Err, inl, inr, List, Ok, Result, Some, ℕ, ℤ}
 use Rattle.std.specs.Int.Signed.{clash_ℤ}
 use Rattle.duration_str.proofs.Common.{off, OneReading}

@@ -1,4 +1,4 @@
--- What the law `place_and_kinds` says of one more terminal.
+-- Lemmas from the law `place_and_kinds` about one more terminal.
 use Rattle.std.proofs.Common.{append-nil, Bool, IsTrue, le_of_suc-le-suc, length, length-take, List, None, Option, refl, rules, Some, suc-le-suc, [], ◌++◌, ◌↔◌, ◌∷◌, ◌≡◌, ◌≤◌}
 use Rattle.duration_str.proofs.Common.{allows, BeginsSentence, cases_Bool, expected_after, front_after, front_of, IsSentence, last_of, number, operator, PlaceAndKinds, Terminal}
 use Rattle.uses.proofs.Common.{CondUnit, take_all}
@@ -10,11 +10,11 @@ last_of_pushed last [] t = refl
 last_of_pushed last (s ∷ front) t = last_of_pushed (Some s) front t
 
 module _ (law : PlaceAndKinds) (no_calc : Bool) where
-  -- Terminals begin a sentence exactly if the table's front is all of them.
+  -- Terminals begin a sentence exactly if the front that the table finds is all of them.
   begins_whole : (ts : List Terminal) → (BeginsSentence (Some Second) no_calc ts ↔ length ts ≤ front_of (Some Second) no_calc ts)
   begins_whole ts = search (rules, append-nil, length-take, take_all)
 
-  -- The table finds one more terminal exactly if it allows it after the last.
+  -- The front that the table finds is one terminal longer exactly if the table allows that terminal after the last one.
   pushed : (last : Option Terminal) (front : List Terminal) (t : Terminal)
       → length front ≤ front_after (Some Second) no_calc last front
       → (IsTrue (allows (expected_after (Some Second) no_calc (last_of last front)) t)
@@ -22,7 +22,7 @@ module _ (law : PlaceAndKinds) (no_calc : Bool) where
   pushed last [] t h = search (rules, cases_Bool)
   pushed last (s ∷ front) t h = search (rules, cases_Bool, le_of_suc-le-suc, suc-le-suc, pushed (Some s) front t)
 
-  -- One more terminal goes on with the beginning of a sentence exactly if the table allows it.
+  -- One more terminal continues the beginning of a sentence exactly if the table allows that terminal there.
   pub follows : (front : List Terminal) (t : Terminal) → BeginsSentence (Some Second) no_calc front
       → (IsTrue (allows (expected_after (Some Second) no_calc (last_of None front)) t) ↔ BeginsSentence (Some Second) no_calc (front ++ t ∷ []))
   follows front t b =
@@ -35,7 +35,7 @@ module _ (law : PlaceAndKinds) (no_calc : Bool) where
   ends front t b h =
       ((law.kinds (Some Second) no_calc (front ++ t ∷ []) _ b).1 refl).end_expected.0 (rw (last_of_pushed None front t) h)
 
-  -- After an operator, zero ends a sentence.
+  -- After an operator, a zero completes a sentence.
   pub zero_ends : (front : List Terminal) (op : CondUnit) → BeginsSentence (Some Second) no_calc (front ++ operator op ∷ [])
       → IsSentence (Some Second) no_calc ((front ++ operator op ∷ []) ++ number 0 ∷ [])
   zero_ends front op b =

@@ -1,4 +1,4 @@
--- Lines and their texts are spelled by the same sentences.
+-- The same sentences spell a line and the line's text.
 use Rattle.std.proofs.Common.{ap, append-nil, inl, inr, IsUtf8, List, refl, rules, Some, [], ℕ, ◌+◌, ◌∙◌, ◌∷◌, ◌≡◌}
 use Rattle.duration_str.proofs.Common.{BlanksFree, cases_Bool, chars-append, goes_on, IsSentenceOf, lexemes_of, OneSentence, Spells, tokens_from, width}
 use Rattle.uses.proofs.Common.{IsReadAsBefore, Options, run-not_blank, true≢false, with_line_feed}
@@ -10,7 +10,7 @@ chars_line : (bytes : List ℕ) → IsUtf8 bytes → chars (with_line_feed bytes
 unfolding chars
 chars_line bytes utf8 = chars-append bytes (10 ∷ []) utf8
 
--- A text that the same sentences spell is read as before.
+-- If the same sentences spell a new text, it is read as the old one.
 read_as_before : BlanksFree → (old new : List ℕ)
     → ((o : Options) (lexemes : List (List ℕ)) → IsSentenceOf o lexemes old → Spells lexemes new)
     → IsReadAsBefore old new

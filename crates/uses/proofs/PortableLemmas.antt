@@ -1,4 +1,4 @@
--- Texts whose characters mean the same under several choices of options.
+-- Lemmas about texts whose characters mean the same under several choices of options.
 use Rattle.std.proofs.Common.{arith, Bool, false, IsTrue, List, not, refl, subst, sym, true, ℕ, ◌&&◌, ◌||◌, ◌↔◌, ◌≡◌, Some}
 use Rattle.duration_str.proofs.Common.{HasNoCapital, HasNoChinese, HasNoOperator, is_ascii_uppercase, is_operator, IsRead, IsRefused, list_all, NoCalcAgrees, OptionsIdle, rules}
 use Rattle.uses.proofs.Common.{Options}
@@ -7,7 +7,8 @@ use Rattle.duration_str.proofs.Characters.CharacterLemmas.{all_weaker}
 use Rattle.uses.specs.Portable.{HasSameCause, HasSameValue, is_unaffected}
 use Rattle.duration_str.specs.declared.unit.TimeUnit.TheVariants.{Second}
 
--- What holds of one choice of a flag holds of the other, if they are the same or each implies the other.
+-- A property holds for `b` exactly if it holds for `d`, if it holds for `true` exactly if it holds for `false` whenever
+-- `b` and `d` differ.
 either_way : (P : Bool → Type 0) (b d : Bool) → (beq b d ≡ false → (P true ↔ P false)) → (P b ↔ P d)
 either_way P true true ways = (λ h. h, λ h. h)
 either_way P true false ways = ways refl
@@ -28,7 +29,7 @@ module _ (o p : Options) (text : List ℕ) (h : IsTrue (list_all (is_unaffected 
   no_chinese : beq o.cn_unit p.cn_unit ≡ false → HasNoChinese text
   no_chinese differ = search (rules, all_weaker, last_passes)
 
-  -- `lowercase` and then `cn_unit` are changed, each where it has to be.
+  -- First `lowercase` and then `cn_unit` is changed, each if the two choices differ in it.
   others_changed : (P : Options → Type 0)
       → ((q : Options) → HasNoCapital text → (P (record q { lowercase = true }) ↔ P (record q { lowercase = false })))
       → ((q : Options) → HasNoChinese text → (P (record q { cn_unit = true }) ↔ P (record q { cn_unit = false })))

@@ -1,4 +1,4 @@
--- Texts that multiply two parts, in either order.
+-- Lemmas about texts that multiply two parts, in either order.
 use Rattle.std.proofs.Common.{arith, inl, inr, List, mul_comm, refl, rules, ℕ, ◌*◌, ◌/◌, ◌<◌, ◌^◌, ◌↔◌, ◌≡◌, Some}
 use Rattle.duration_str.proofs.Common.{IsRead, nanos_of, second, TwoFactors}
 use Rattle.uses.proofs.Common.{MultipliesInEitherOrder, nanos_in, Options, Part, Plus, Star, term_of_part}
@@ -7,12 +7,12 @@ use Rattle.duration_str.specs.declared.unit.TimeUnit.TheVariants.{Year}
 use Rattle.uses.specs.Product.{Multiplies}
 use Rattle.duration_str.specs.declared.unit.TimeUnit.TheVariants.{Second}
 
--- A part whose length is below 2^64 has such a number.
+-- If a part's length is below 2^64, so is its number.
 number_below : (n : ℕ) (u : TimeUnit) → n * nanos_of u < 2 ^ 64 → n < 2 ^ 64
 number_below n Year h = omega arith
 number_below n _ h = omega arith
 
--- The number is the product, in seconds, of the two lengths, and all are below 2^64 nanoseconds.
+-- `nanos` is the product of the two lengths in seconds, in nanoseconds, and all three are below 2^64.
 pub record IsProduct (a b nanos : ℕ) : Type 0 where
   pub length : a < 2 ^ 64
   pub other_length : b < 2 ^ 64
@@ -37,7 +37,7 @@ in_order law o text a b nanos m =
       ),
     )
 
--- The text is read exactly as the product.
+-- The text is read as a value exactly if that value is the product.
 pub read_as_product : TwoFactors → (o : Options) (text : List ℕ) (a b : Part) (nanos : ℕ)
     → MultipliesInEitherOrder o a b text → (IsRead o text nanos ↔ IsProduct (nanos_in a) (nanos_in b) nanos)
 read_as_product law o text a b nanos (inl m) = in_order law o text a b nanos m

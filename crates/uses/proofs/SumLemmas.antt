@@ -1,4 +1,4 @@
--- Sums whose parts are exchanged.
+-- Lemmas about sums whose parts are exchanged.
 use Rattle.std.proofs.Common.{if◌then◌else◌, List, map, refl, rules, [], ℕ, ◌==◌, ◌∷◌, ◌≡◌}
 use Rattle.std.specs.List.{sum_by}
 use Rattle.duration_str.proofs.Common.{IsRead, Reorder, times_in, value_of_term}
@@ -6,7 +6,7 @@ use Rattle.uses.proofs.Common.{IsPermutation, nanos_in, Options, Part, Plus, sum
 use Rattle.std.proofs.lemmas.List.Sums.{sum_by-cons}
 use Rattle.uses.specs.Sum.{Adds}
 
--- how often the list of a part alone has the length n
+-- how often the list that has only this part has the length n
 abbrev is_times : ℕ → Part → ℕ
 is_times n part = if nanos_in part == n then 1 else 0
 
@@ -15,7 +15,7 @@ times_in_parts : (n : ℕ) (parts : List Part)
 times_in_parts n [] = refl
 times_in_parts n (part ∷ parts) = rw (sum_by-cons, ← times_in_parts n parts)
 
--- Sums of the same parts in another order are read alike.
+-- A sum of the same parts in another order is read as the same value.
 pub permuted_read : Reorder → (o : Options) (xs ys : List Part) (a b : List ℕ) (nanos : ℕ) → IsPermutation xs ys
     → Adds o xs a → Adds o ys b → IsRead o a nanos → IsRead o b nanos
 permuted_read law o xs ys a b nanos p s t = search (rules, times_in_parts, sum_by-IsPermutation)

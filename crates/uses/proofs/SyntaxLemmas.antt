@@ -1,12 +1,12 @@
--- What is known of a text that is refused for its syntax.
+-- Lemmas about a text that is refused for a syntax fault.
 use Rattle.std.proofs.Common.{ap, Bool, List, rules, Some, ℕ, ◌++◌, ◌∙◌, ◌≡◌}
 use Rattle.duration_str.proofs.Common.{CanFollow, early, IsRefusedAt, late, syntax_fault, Terminal}
 use Rattle.duration_str.proofs.OnePass.PlaceLemmas.{early_stands, late_stands}
 use Rattle.uses.proofs.Common.{Cause, Expected, Syntax}
 use Rattle.duration_str.specs.declared.unit.TimeUnit.TheVariants.{Second}
 
--- A syntax fault stands after the front, and its kinds are those that can follow. The faults of the evaluation are
--- none.
+-- A syntax fault is at the place after the front, and its kinds are those that can follow the front. No other fault of
+-- a text is a syntax fault.
 pub refused_at : (no_calc : Bool) (at : ℕ) (front rest : List Terminal) (cause : Cause) (place : ℕ)
     (expected : Expected)
     → IsRefusedAt (Some Second) no_calc at front rest cause → cause ≡ Syntax place expected

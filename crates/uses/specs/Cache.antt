@@ -1,26 +1,26 @@
--- The one text of a value, and what printed texts are read as.
+-- The canonical text of a value, and how it is read back.
 use Rattle.std.specs.Prelude.{◌≡◌, ℕ, List, Result, Ok, Err, chars}
 use Rattle.uses.specs.Common.{Duration, as_nanos, Options, Cause, Fault, off, unit_lengths, IsRead, IsRefused, IsGreatestBreakdown, counts_of, printed_counts}
 use Rattle.duration_str.specs.declared.format.Style.{Style}
 
--- the text that prints how often each unit goes into what the longer units leave
+-- the text with the count of each unit that goes into what the longer units leave
 abbrev pub canonical_text : Style → ℕ → List ℕ
 canonical_text style nanos = printed_counts style (counts_of unit_lengths nanos)
 
--- The key prints how often each unit goes into what the longer units leave, and no other breakdown of the value begins
--- with larger counts.
+-- The key is the canonical text of the value, and no other breakdown of the value begins with larger counts.
 pub record IsKey (style : Style) (nanos : ℕ) (key : List ℕ) : Type 0 where
   pub one : key ≡ canonical_text style nanos
   pub greatest : IsGreatestBreakdown unit_lengths nanos (counts_of unit_lengths nanos)
 
--- The text is read as a value, whose key this is; the key is read as the same value under every choice of options.
+-- The text is read as a value, and this is that value's key. Under every choice of options, the key is read as the same
+-- value.
 pub record IsCanonical (style : Style) (text key : List ℕ) : Type 0 where
   pub nanos : ℕ
   pub read : IsRead off text nanos
   pub is_key : IsKey style nanos key
   pub read_back : (o : Options) → IsRead o key nanos
 
--- The fault is the refusal of this text.
+-- The fault has this text, and a cause for which the text is refused.
 abbrev pub Refuses : List ℕ → Fault → Type 0
 Refuses text fault = (fault.text.now ≡ text) × IsRefused off (chars text) fault.cause
 

@@ -11,7 +11,7 @@ abbrev pub BeginsExpression : Options → List ℕ → Type 0
 BeginsExpression o text = (more : List ℕ) × IsExpression o (text ++ (codes " " ++ more))
 
 -- `front` is the text up to the place. A number, a word or a sign can be typed there, after a blank, exactly if it is
--- of an expected kind; and nothing need be typed there exactly if the end is expected.
+-- of an expected kind. The front is an expression already exactly if the end is expected.
 pub record IsCompletion (o : Options) (text : List ℕ) (place : ℕ) (expected : Expected) : Type 0 where
   pub front : List ℕ
   pub rest : List ℕ

@@ -1,19 +1,19 @@
--- The duration in a required field, or the error for its refusal.
+-- The duration in a required field, or the error that says why there is none.
 use Rattle.std.specs.Prelude.{◌≡◌, ℕ, List, Option, Result, Ok, Err, false, chars}
 use Rattle.uses.specs.Common.{Duration, as_nanos, Cause, Overflow, NotText, IsRead, IsRefused, off}
 use Rattle.serde_json.specs.Data.{Data, string}
 use Rattle.duration_str.specs.declared.error.DError.{DError}
 use Rattle.duration_str.specs.Messages.{IsErrorOf}
 
--- The value is a text that is read as the duration, or refused for a cause whose error this is; or it is no text, and
--- the error says so.
+-- The value is a text that is read as the duration; or it is a text that is refused for a cause, and this is the
+-- cause's error; or it is no text, and the error says so.
 abbrev pub IsConfigured : {A : Type 0} → Data → Result Duration (DError A) → Type 0
 IsConfigured (string text) (Ok d) = IsRead off (chars text) (as_nanos d)
 IsConfigured (string text) (Err error) = (cause : Cause) × IsRefused off (chars text) cause × IsErrorOf cause error
 IsConfigured _ (Ok d) = ⊥
 IsConfigured _ (Err error) = IsErrorOf (NotText false) error
 
--- The value is a text that overflows.
+-- The value is a text that is refused as an overflow.
 pub record Overflows (value : Data) : Type 0 where
   pub text : List ℕ
   pub place : Option ℕ

@@ -10,13 +10,13 @@ use Rattle.duration_str.specs.Reading.{IsRead}
 use Rattle.duration_str.specs.Units.{unit_lengths}
 use Rattle.duration_str.specs.Options.{off}
 
--- two parts at most, and none of a unit below the second
+-- at most two parts, and no unit shorter than the second
 abbrev pub coarse : Format
 coarse = record whole_format { units = down_to Second ALL; parts = 2 }
 
--- The text shows a time that is not more than what is left, and that has at most two parts; what is left is shown
--- exactly if it has so few itself. It is read as that time below 2^64 nanoseconds, which is shown as the same text
--- again.
+-- The text shows the time `shown`, which is not more than the time that is left, and has at most two parts. If the time
+-- that is left fits into the format itself, it is shown exactly. If `shown` is below 2^64 nanoseconds, the text is read
+-- as `shown`. And `shown` prints as the same text.
 pub record IsShown (left : ℕ) (text : List ℕ) (shown : ℕ) : Type 0 where
   pub never_more : shown ≤ left
   pub few : (counts : List ℕ) × IsGreatestBreakdown unit_lengths shown counts × (part_count counts ≤ 2)

@@ -1,13 +1,13 @@
--- What a text moves a moment to.
+-- The instant to which a text moves a moment.
 use Rattle.std.specs.Prelude.{◌≡◌, ℕ, ℤ, List, Result, IsOkAnd, IsErrAnd, chars}
 use Rattle.uses.specs.Common.{Cause, OutOfRange, Fault, off, IsInRange, IsOutOfRange, IsRead, IsRefused}
 
--- The fault is of these bytes, for this cause.
+-- The fault has these bytes and this cause.
 abbrev pub IsFaultOf : List ℕ → Cause → Fault → Type 0
 IsFaultOf bytes cause fault = (fault.text.now ≡ bytes) × (fault.cause ≡ cause)
 
--- If the text is read, and its value reaches an instant in range, the result shows it; if the instant is out of range,
--- the result says so; if the text is refused, the result is its refusal.
+-- If the text is read, and its value reaches an instant in range, `shows` holds for that instant and the result. If the
+-- instant is out of range, the result says so. If the text is refused, the result is its refusal.
 pub record MovesTo {T : Type 0} (shows : ℤ → T → Type 0) (reached : ℕ → ℤ) (bytes : List ℕ)
     (result : Result T Fault) : Type 0 where
   pub shown : (nanos : ℕ) → IsRead off (chars bytes) nanos → IsInRange (reached nanos)

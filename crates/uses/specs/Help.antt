@@ -1,14 +1,14 @@
--- What the text of an example is read as or refused for.
+-- The only answer to the text of an example.
 use Rattle.std.specs.Prelude.{◌≡◌, ℕ, List, ◌↔◌, Result, Ok, Err, None}
 use Rattle.duration_str.specs.Units.{unit_of_word}
 use Rattle.uses.specs.Common.{Duration, as_nanos, Options, Cause, IsRead, IsRefused}
 
--- the answer with its duration in nanoseconds
+-- the answer, with the duration in nanoseconds
 abbrev pub in_nanos : Result Duration Cause → Result ℕ Cause
 in_nanos (Ok d) = Ok (as_nanos d)
 in_nanos (Err cause) = Err cause
 
--- The text is read as the value in `Ok` and no other, or refused for the cause in `Err` and no other.
+-- The text is read as the value in `Ok` and as no other, or refused for the cause in `Err` and for no other.
 pub record IsOnlyAnswerTo (o : Options) (text : List ℕ) (answer : Result Duration Cause) : Type 0 where
   pub read : (nanos : ℕ) → (IsRead o text nanos ↔ in_nanos answer ≡ Ok nanos)
   pub refused : (cause : Cause) → (IsRefused o text cause ↔ in_nanos answer ≡ Err cause)

@@ -4,18 +4,18 @@ use Rattle.std.specs.Bool.{beq}
 use Rattle.std.specs.Char.{is_ascii_uppercase}
 use Rattle.uses.specs.Common.{Options, Cause, is_operator, is_chinese, IsRead, IsRefused}
 
--- whether the character means the same under both choices: an operator if `no_calc` is the same, an ASCII capital if
--- `lowercase` is, one of the Chinese characters of the units if `cn_unit` is, and any other character
+-- whether the character means the same under both choices. An operator does if `no_calc` is the same, an ASCII capital
+-- if `lowercase` is, and a Chinese character of the units if `cn_unit` is. Any other character does
 abbrev pub is_unaffected : Options → Options → ℕ → Bool
 is_unaffected o p c =
     (beq o.no_calc p.no_calc || not (is_operator c))
     && (beq o.lowercase p.lowercase || not (is_ascii_uppercase c))
     && (beq o.cn_unit p.cn_unit || not (is_chinese c))
 
--- The text has the same values under both choices.
+-- The text is read as the same value under both choices, or under neither.
 abbrev pub HasSameValue : Options → Options → List ℕ → Type 0
 HasSameValue o p text = (nanos : ℕ) → (IsRead o text nanos ↔ IsRead p text nanos)
 
--- The text is refused for the same causes under both choices.
+-- The text is refused for the same cause under both choices, or under neither.
 abbrev pub HasSameCause : Options → Options → List ℕ → Type 0
 HasSameCause o p text = (cause : Cause) → (IsRefused o text cause ↔ IsRefused p text cause)

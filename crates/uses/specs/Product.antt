@@ -4,7 +4,7 @@ use Rattle.uses.specs.Common.{Options, Plus, Star, nanos_of, IsSentenceOf, Term,
 use Rattle.duration_str.specs.declared.operator.CondUnit.{CondUnit}
 use Rattle.uses.specs.declared.product.Part.{Part}
 
--- the length in nanoseconds
+-- the length of a part in nanoseconds
 abbrev pub nanos_in : Part → ℕ
 nanos_in part = part.number * nanos_of part.unit
 
@@ -12,12 +12,12 @@ nanos_in part = part.number * nanos_of part.unit
 abbrev pub term_of_part : CondUnit → Part → Term
 term_of_part op part = record { operator = op; number = part.number; length = nanos_of part.unit }
 
--- The text is an expression whose terms are these two, joined by `*`.
+-- The text is an expression whose terms are these two parts, joined by `*`.
 pub record Multiplies (o : Options) (first later : Part) (text : List ℕ) : Type 0 where
   pub lexemes : List (List ℕ)
   pub spells : IsSentenceOf o lexemes text
   pub terms : written_terms o lexemes ≡ term_of_part Plus first ∷ term_of_part Star later ∷ []
 
--- The same in one order or the other.
+-- The text multiplies the two parts in one order or the other.
 abbrev pub MultipliesInEitherOrder : Options → Part → Part → List ℕ → Type 0
 MultipliesInEitherOrder o rate length text = Multiplies o rate length text ⊎ Multiplies o length rate text

@@ -11,11 +11,12 @@ use duration_str::laws::{equal_texts, greatest_breakdown, one_sentence, reads_ba
 use duration_str::{Cause, Fault, STYLED_BUFFER_SIZE, Style, TimeUnit, parse};
 use std::time::Duration;
 
-/// The first number of nanoseconds that is not read.
+/// The least number of nanoseconds that no text is read as.
 const LIMIT: u128 = 1 << 64;
 
-/// The key of a duration, in the caller's buffer: its printed text in a style. It is the only text of this duration in
-/// that style, and no other breakdown into units begins with larger counts of the longer ones.
+/// Writes the key of a duration to the caller's buffer, and returns it: the duration's printed text in a style. It is
+/// the only text of this duration in that style, and no other breakdown into units begins with larger counts of the
+/// longer units.
 pub fn key<'b>(length: Duration, style: Style, buffer: &'b mut [u8; STYLED_BUFFER_SIZE]) -> &'b str
     ensures { IsKey style (as_nanos length) (chars result.now) }
 {
@@ -24,8 +25,8 @@ pub fn key<'b>(length: Duration, style: Style, buffer: &'b mut [u8; STYLED_BUFFE
     in_parts(&length, 11, style, buffer)
 }
 
-/// The canonical text of an expression, in the caller's buffer: the key of its value. It is read back as this value
-/// under every choice of options.
+/// Writes the canonical text of an expression to the caller's buffer, and returns it: the key of the expression's
+/// value. The text is read back as this value under every choice of options.
 ///
 /// ```text
 /// canonical("30 + 1m", Style::Short, &mut buffer) // Ok("1min 30s")
@@ -43,7 +44,7 @@ pub fn canonical<'a, 'b>(
     Ok(key(parse(text)?, style, buffer))
 }
 
-/// Whether two expressions share an entry of the cache, since they have one value. Their keys are compared.
+/// Returns whether two expressions have the same value, and so share an entry of the cache. It compares their keys.
 pub fn share_entry<'a>(text: &'a str, other: &'a str) -> Result<bool, Fault<'a>>
     ensures same { IfOk result (λ same. (m n : ℕ) → IsRead off (chars text.now) m
         → IsRead off (chars other.now) n → (IsTrue same ↔ (m ≡ n))) }
@@ -59,8 +60,8 @@ pub fn share_entry<'a>(text: &'a str, other: &'a str) -> Result<bool, Fault<'a>>
     )
 }
 
-/// What reading the printed text of a duration, in any style, answers under every choice of options. The text is
-/// neither made nor read, so a program can ask before it stores a duration as its text.
+/// Returns what reading the printed text of a duration, in any style and under any options, would return. The text is
+/// neither made nor read, so a program can ask this before it stores a duration as its text.
 ///
 /// ```text
 /// read_back(Duration::new(18_446_744_073, 709_551_615)) // Ok, the same duration

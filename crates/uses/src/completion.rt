@@ -1,4 +1,4 @@
-//! What a person may type next.
+//! What a person can type next.
 #![tactic(auto, using(crate::proofs::CompletionLemmas::refused_completion))]
 
 ghost use Rattle.std.specs.Prelude.{◌≡◌, ◌↔◌, ℕ, length, IsTrue, IfSome, IfNone, chars};
@@ -8,18 +8,19 @@ ghost use Rattle.uses.specs.Completion.{IsCompletion};
 use duration_str::laws::{one_sentence, place_and_kinds};
 use duration_str::{Cause, Expected, Options, parse_with};
 
-/// Where a text stops being the beginning of an expression, and what may be typed there.
+/// Where a text stops being the beginning of an expression, and what can be typed there.
 #[derive(Clone, Copy, Debug, PartialEq, Eq)]
 pub struct Completion {
     /// The byte up to which the text is kept.
     pub place: usize,
-    /// What may be typed after it.
+    /// What can be typed after that byte.
     pub expected: Expected,
 }
 
-/// What a person may type at the place of a syntax fault; `None` for a text without one. If a blank and a number, a
-/// unit's name or an operator of an expected kind follow the text before the place, they begin an expression; with any
-/// other token they do not. If the end is expected, the text before the place is an expression already.
+/// Returns what a person can type at the place of a syntax fault, or `None` for a text without one. If a blank and a
+/// token of an expected kind (a number, a unit's name or an operator) follow the text before the place, the whole
+/// begins an expression. With any other token it does not. If the end is expected, the text before the place is an
+/// expression already.
 ///
 /// ```text
 /// complete("1m 3-5", Options::off()) // after `1m 3`: a unit, an operator or nothing more
@@ -41,7 +42,8 @@ pub fn complete(text: &str, o: Options) -> Option<Completion>
     }
 }
 
-/// Whether a text is refused only because it ends too early, so that a prompt waits for more.
+/// Returns whether a text is refused only because it ends too early, so that a prompt should wait
+/// for more.
 ///
 /// ```text
 /// is_unfinished("1m +", Options::off()) // true

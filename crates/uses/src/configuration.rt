@@ -1,4 +1,4 @@
-//! A duration in a configuration, whose refusal is handed on as an error.
+//! A duration in a configuration. If it is refused, the refusal is passed on as an error.
 ghost use Rattle.std.specs.Prelude.{IfOk, IsOk};
 ghost use Rattle.serde_json.specs.View.{view};
 ghost use Rattle.uses.specs.Configuration.{IsConfigured, Overflows};
@@ -9,8 +9,8 @@ use serde_json::Value;
 use std::alloc::{AllocError, Allocator};
 use std::time::Duration;
 
-/// The duration in a required field, or the error that says why there is none. Fails only if memory is refused, and not
-/// for a duration that overflows.
+/// Returns the duration in a required field, or the error that says why there is none. The call fails only if memory is
+/// refused, and never for a duration that overflows.
 pub fn configured<A: Allocator>(
     value: &Value,
     alloc: A,

@@ -1,12 +1,13 @@
-//! What reading a text costs, for a service that charges for it.
+//! The price of reading a text, for a service that charges for it.
 ghost use Rattle.std.specs.Prelude.{◌≡◌, ◌≤◌, ◌*◌, ℕ, length, take, chars};
 ghost use Rattle.uses.specs.Common.{IsRead, IsRefused, Syntax, Expected};
 
 use duration_str::laws::one_sentence;
 use duration_str::{Options, parse_looked};
 
-/// The price of reading a text, at a price per look: one look per character if the text is accepted; for a syntax fault
-/// at least one per character before its place; never more than one per character. So a sender knows it beforehand.
+/// Returns the price of reading a text, at a price per look. An accepted text takes one look per character. A text with
+/// a syntax fault takes at least one look per character before the fault's place. No text takes more than one look per
+/// character. So a sender knows beforehand how much it can be.
 ///
 /// ```text
 /// price("1m 3-5", 2, Options::off()) // at least 8, at most 12

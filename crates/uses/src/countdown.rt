@@ -1,4 +1,4 @@
-//! The time that is left, as it is shown.
+//! Shows the time that is left.
 #![tactic(auto)]
 
 ghost use Rattle.std.specs.Prelude.{◌≤◌, ℕ, chars};
@@ -9,8 +9,8 @@ use duration_str::laws::{all_parts, never_more};
 use duration_str::{Format, STYLED_BUFFER_SIZE, Style, TimeUnit, write_within};
 use std::time::Duration;
 
-/// The time that is left, in the caller's buffer: in two parts at most, and in no unit below the second; never more
-/// than is left.
+/// Writes the time that is left to the caller's buffer, and returns the text. It has at most two parts, and no unit
+/// shorter than the second. It never shows more than is left.
 ///
 /// ```text
 /// time_left(&Duration::new(5_400, 999_999_999), &mut buffer) // "1h 30min"
@@ -27,8 +27,8 @@ pub fn time_left<'b>(left: &Duration, buffer: &'b mut [u8; STYLED_BUFFER_SIZE]) 
     )
 }
 
-/// The duration in so many parts at most and in a style, in the caller's buffer. From eleven parts on all of it is
-/// printed.
+/// Writes the duration to the caller's buffer, in at most `parts` parts and in a style, and returns the text. With
+/// eleven parts or more, the whole duration is printed.
 pub fn in_parts<'b>(
     length: &Duration,
     parts: usize,

@@ -10,7 +10,7 @@ use duration_str::{Fault, after_naive_date_time, before_naive_date_time};
 use jiff::Timestamp;
 use jiff::civil::DateTime;
 
-/// The date and time before which files are deleted, if they are kept this long.
+/// Returns the date and time before which files are deleted, if files are kept this long.
 pub fn cut_off(now: Timestamp, kept: &str) -> Result<DateTime, Fault<'_>>
     ensures { MovesTo IsCivil (λ nanos. now.nanosecond -ℤ pos nanos) kept.now result }
 {
@@ -18,7 +18,7 @@ pub fn cut_off(now: Timestamp, kept: &str) -> Result<DateTime, Fault<'_>>
     before_naive_date_time(now, kept)
 }
 
-/// The date and time at which a job is due, if it is delayed this long.
+/// Returns the date and time at which a job is due, if it is delayed this long.
 pub fn due(now: Timestamp, delay: &str) -> Result<DateTime, Fault<'_>>
     ensures { MovesTo IsCivil (λ nanos. now.nanosecond +ℤ pos nanos) delay.now result }
 {

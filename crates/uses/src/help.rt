@@ -30,7 +30,7 @@ const CN_UNIT: Options = Options {
     ..OFF
 };
 
-/// The fault of a number of one digit and a word that names no unit.
+/// The cause of the refusal of a text that has one digit and then a word that names no unit.
 const NO_UNIT: Cause = Cause::Syntax {
     place: 1,
     expected: Expected {
@@ -41,8 +41,8 @@ const NO_UNIT: Cause = Cause::Syntax {
     },
 };
 
-/// The examples of a help page. Each text has this answer and no other. The answers are constants: no text is read to
-/// show them, and the prover refuses a wrong one.
+/// Returns the examples of a help page. Each text has this answer and no other. The answers are constants: no text is
+/// read to show them, and the prover refuses a wrong answer.
 ///
 /// ```text
 /// examples()[0] // `3m + 13s + 29ms`, with all options off, is 193,029 ms
@@ -60,8 +60,8 @@ pub fn examples() -> [Example; 5]
     ]
 }
 
-/// Words of a help page that people write for units and that are none, under any options: for each the line of a fault
-/// says what to write.
+/// Returns words for a help page that people write for units, but that name no unit under any options. For each of
+/// them, the line of a fault says what to write instead.
 ///
 /// ```text
 /// refused_words()[1] // `mins`

@@ -1,4 +1,4 @@
-//! The message of a fault as an entry of a log.
+//! Writes the message of a fault as an entry of a log.
 ghost use Rattle.std.specs.Prelude.{◌≡◌, ◌++◌, codes, string_bytes, OnOk};
 ghost use Rattle.duration_str.specs.Messages.{EndsInsideLine, message_of};
 

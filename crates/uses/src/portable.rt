@@ -8,10 +8,11 @@ ghost use Rattle.uses.specs.Portable.{is_unaffected, HasSameValue, HasSameCause}
 use duration_str::laws::{no_calc_agrees, options_idle};
 use duration_str::{CondUnit, Options};
 
-/// Whether a text keeps its value when a program changes its options from `before` to `after`: it is read under the one
-/// choice exactly if under the other, as the same value, and if `no_calc` stays, it is refused for the same cause. Only
-/// its characters are looked at: it has no operator if `no_calc` changes, no ASCII capital if `lowercase` does, and no
-/// Chinese character if `cn_unit` does. Of a text with such a character nothing is promised.
+/// Returns whether a text certainly keeps its value when a program changes its options from `before` to `after`. If so,
+/// both choices read it as the same value, or both refuse it; and if `no_calc` does not change, they refuse it for the
+/// same cause. The call looks only at the characters. It returns true if the text has no operator if `no_calc` changes,
+/// no ASCII capital if `lowercase` changes, and no Chinese character of the units if `cn_unit` changes. If it returns
+/// false, the text may keep its value or not.
 ///
 /// ```text
 /// let off = Options::off();
@@ -45,7 +46,7 @@ fn is_unaffected(c: char, before: Options, after: Options) -> bool
         && (before.cn_unit == after.cn_unit || !is_chinese(c))
 }
 
-/// Whether it is a letter of the Chinese names of units.
+/// Whether a character is a letter of the Chinese names of units.
 fn is_chinese(c: char) -> bool
     ensures { result ≡ is_chinese c }
 {

@@ -1,4 +1,4 @@
-//! A rate times a length.
+//! Multiplies a rate by a length.
 ghost use Rattle.std.specs.Prelude.{◌≡◌, ℕ, ◌^◌, ◌≤◌, List, IfSome, IfNone};
 ghost use Rattle.uses.specs.Common.{as_nanos, Options as Choice, IsRead};
 
@@ -20,7 +20,7 @@ pub struct Part {
 impl Part {
     ghost use Rattle.uses.specs.Product.{nanos_in};
 
-    /// The length in nanoseconds; `None` from 2^64 on.
+    /// Returns the length in nanoseconds, or `None` if it is 2^64 or more.
     pub fn nanos(self) -> Option<u64>
         ensures some { IfSome result (λ nanos. nanos ≡ nanos_in self) }
         ensures none { IfNone result (2 ^ 64 ≤ nanos_in self) }
@@ -28,7 +28,7 @@ impl Part {
         self.number.checked_mul(self.unit.nanos())
     }
 
-    /// The length in nanoseconds, whatever it is.
+    /// The length in nanoseconds, which may be 2^64 or more.
     pub(crate) fn wide_nanos(self) -> u128
         ensures { result ≡ nanos_in self }
     {
@@ -38,8 +38,8 @@ impl Part {
 
 ghost use Rattle.uses.specs.Product.{MultipliesInEitherOrder};
 
-/// The duration that the product of the two is read as, written in either order and under every choice of options;
-/// `None` if no such text is accepted. So a program can test for an overflow before it makes the text.
+/// Returns the duration that a text of the product of the two is read as, in either order and under all options with
+/// operators. It is `None` if no such text is accepted. So a program can test for an overflow before it makes the text.
 ///
 /// ```text
 /// let rate = Part { number: 10, unit: TimeUnit::MilliSecond };

@@ -10,8 +10,9 @@ use duration_str::laws::{older_texts, one_sentence};
 use duration_str::{Fault, Options, TimeUnit, Tokens, What, parse_with};
 use std::time::Duration;
 
-/// The duration of a text that was stored before the quarter became a unit. What an older version accepted is accepted,
-/// with the same value, and what its evaluation refused is refused for the same cause.
+/// Reads a text that was stored before the quarter became a unit, and returns its duration. A text that an older
+/// version accepted is accepted with the same value. A text whose evaluation an older version refused is refused for
+/// the same cause.
 ///
 /// ```text
 /// stored_duration("1y 2mon", Options::off()) // 425 days, as before
@@ -27,8 +28,8 @@ pub fn stored_duration(text: &str, o: Options) -> Result<Duration, Fault<'_>>
     parse_with(text, o)
 }
 
-/// The unit in which the first number of a stored text is written, to show the duration as its author did; `None` if it
-/// is left out. It is the unit that an older version found there.
+/// Returns the unit in which the first number of a stored text is written, or `None` if the unit is left out. With it a
+/// program can show the duration as its author wrote it. It is the unit that an older version found there.
 ///
 /// ```text
 /// first_unit("90 min + 1h", Options::off()) // Some(TimeUnit::Minute)

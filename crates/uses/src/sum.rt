@@ -1,4 +1,4 @@
-//! Sums of durations, added without being written, and written in another order.
+//! Sums of durations: their value without writing them, and their terms in another order.
 ghost use Rattle.std.specs.Prelude.{◌≡◌, ◌↔◌, ℕ, false, ◌==◌, ◌++◌, None, List, not, codes, reverse, IfSome, IfNone, chars};
 ghost use Rattle.uses.specs.Common.{as_nanos, list_all, Options as Choice, HasNoStar, IsRead, IsRefused, Overflow};
 ghost use Rattle.std.specs.List.Sorted.{IsPermutation, IsNonDecreasingBy};
@@ -10,8 +10,8 @@ use duration_str::laws::{one_sentence, reorder, sum_of_texts};
 use duration_str::{Options, parse_with};
 use std::time::Duration;
 
-/// Sorts the terms of a sum in place, the longest first, as a list of laps or of items on a bill is shown. The sum that
-/// they write is accepted exactly as before, with the same value.
+/// Sorts the terms of a sum in place, the longest first, as a list of laps is often shown. The sorted sum is accepted
+/// exactly if the old one is, and has the same value.
 ///
 /// ```text
 /// // 29ms + 3min + 13s is written as 3min + 13s + 29ms
@@ -27,8 +27,9 @@ pub fn longest_first(parts: &mut [Part])
     parts.reverse();
 }
 
-/// The duration that two texts, joined by a plus, are read as under these options; `None` if one of them is refused or
-/// has a `*`, if operators are not read, or if the joined text is refused because the sum is 2^64 nanoseconds or more.
+/// Returns the duration that two texts, joined by a plus, are read as under these options. It is `None` if one of them
+/// is refused or has a `*`, if operators are not read, or if the joined text is refused because the sum is 2^64
+/// nanoseconds or more.
 ///
 /// ```text
 /// total_of("1m 2s", "3", Options::off()) // Some(Duration::from_secs(65))

@@ -5,7 +5,7 @@ use Rattle.uses.proofs.countdown.time_left.Goals as goal
 use Rattle.duration_str.specs.declared.unit.TimeUnit.TheVariants.{Second}
 use Rattle.std.proofs.Common.{Some}
 
--- With all shorter ones its units are all.
+-- The format's units and all shorter ones are all units.
 all_lengths : map nanos_of (units_within coarse ++ shorter_units (units_within coarse)) ≡ unit_lengths
 unfolding chosen is_in
 all_lengths = refl
