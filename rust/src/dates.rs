@@ -1,6 +1,6 @@
-//! Moments after and before another one, by chrono's own checked arithmetic.
+//! Moments that lie before or after another moment, computed by chrono's own checked arithmetic.
 //!
-//! All calls are also at the root of the crate, where `duration-str` 0.19.0 has those that start
+//! All calls are also at the root of the crate, where `duration-str` 0.19.0 has the four that start
 //! from now. They need the feature `chrono`.
 use crate::fault::Fault;
 use crate::parser::{FEATURES, chrono_of, parse_with};
@@ -8,11 +8,11 @@ use alloc::string::String;
 use chrono::{NaiveDate, NaiveDateTime, Utc};
 use duration_str_core::{Cause, Options};
 
-/// The given moment plus the value of a text. Both are in the same time zone,
-/// such as UTC.
+/// Adds the value of a text to the given moment, and returns the moment in the same time zone, such
+/// as UTC.
 ///
-/// The text is read first, and its fault comes first. If chrono has no such moment, the cause is
-/// [`Cause::OutOfRange`].
+/// If the text is refused, its fault is returned. Otherwise, if chrono can't represent the moment,
+/// the cause is [`Cause::OutOfRange`].
 ///
 /// # Errors
 ///
@@ -38,8 +38,8 @@ pub fn moment_after(
         .ok_or(Fault::of(input, Cause::OutOfRange, options))
 }
 
-/// The given moment minus the value of a text. It is otherwise like
-/// [`moment_after`].
+/// Subtracts the value of a text from the given moment, and returns the moment in the same time
+/// zone. It refuses as [`moment_after`] does.
 ///
 /// # Errors
 ///
@@ -65,8 +65,8 @@ pub fn moment_before(
         .ok_or(Fault::of(input, Cause::OutOfRange, options))
 }
 
-/// The moment in UTC that comes after now by the value of a text, which [`parse`](crate::parse)
-/// reads.
+/// Adds the value of a text to the present moment, and returns the moment in UTC.
+/// [`parse`](crate::parse) reads the text.
 ///
 /// # Errors
 ///
@@ -84,8 +84,8 @@ pub fn after_naive_date_time(input: impl AsRef<str>) -> Result<NaiveDateTime, St
     moment_after(now(), input.as_ref(), FEATURES).map_err(|fault| fault.message())
 }
 
-/// The moment in UTC that comes before now by the value of a text, which [`parse`](crate::parse)
-/// reads.
+/// Subtracts the value of a text from the present moment, and returns the moment in UTC.
+/// [`parse`](crate::parse) reads the text.
 ///
 /// # Errors
 ///
@@ -103,7 +103,7 @@ pub fn before_naive_date_time(input: impl AsRef<str>) -> Result<NaiveDateTime, S
     moment_before(now(), input.as_ref(), FEATURES).map_err(|fault| fault.message())
 }
 
-/// The date of [`after_naive_date_time`].
+/// Returns the date of what [`after_naive_date_time`] returns.
 ///
 /// # Errors
 ///
@@ -117,7 +117,7 @@ pub fn after_naive_date(input: impl AsRef<str>) -> Result<NaiveDate, String> {
     after_naive_date_time(input).map(|moment| moment.date())
 }
 
-/// The date of [`before_naive_date_time`].
+/// Returns the date of what [`before_naive_date_time`] returns.
 ///
 /// # Errors
 ///

@@ -1,14 +1,14 @@
-//! Reading, where a number without a unit counts another unit than the second, or is refused.
+//! The calls for which a number without a unit counts another unit than the second, or is refused.
 use crate::error::DurationError;
 use crate::fault::Fault;
 use crate::parser::ADDITIONS;
 use core::time::Duration;
 use duration_str_core::{self as proved, Options, TimeUnit};
 
-/// Reads a text under these options. A number without a unit counts the default unit; with `None`
-/// it is refused.
+/// Reads a text under these options, and returns its duration. A number without a unit counts the
+/// default unit. If that is `None`, such a number is refused.
 ///
-/// A factor is a number too, so it also counts that unit. If your program's numbers are
+/// A factor without a unit counts the default unit too. So if your program's numbers are
 /// milliseconds, operators make no sense: turn on `no_calc`, or call [`parse_in`], which turns it
 /// on.
 ///
@@ -43,8 +43,8 @@ pub fn parse_with_default_unit(
     }
 }
 
-/// Reads a text as [`parse_duration`](crate::parse_duration) does, but a number without a unit
-/// counts this unit, and `+` and `*` are not read.
+/// Reads a text as [`parse_duration`](crate::parse_duration) does, except that a number without a
+/// unit counts this unit, and that `+` and `*` are not read.
 ///
 /// This is for texts that used to be plain numbers, such as milliseconds in a configuration file.
 ///

@@ -4,7 +4,8 @@ use crate::fault::Fault;
 use alloc::string::String;
 use core::fmt;
 
-/// The error type of `duration-str` 0.19.0: a cause in words, without the text.
+/// The error type of `duration-str` 0.19.0. It says in words why a text is refused, and does not
+/// contain the text.
 ///
 /// ```
 /// use duration_str::{parse_with, DError, DResult, Options};
@@ -21,7 +22,7 @@ use core::fmt;
 pub enum DError {
     /// Any fault except an overflow, with the last line of its message.
     ParseError(String),
-    /// A term, a step or the value is 2^64 nanoseconds or more.
+    /// A term, a step of the evaluation or the value is 2^64 nanoseconds or more.
     OverflowError,
 }
 

@@ -1,4 +1,4 @@
-//! A refused text that the error owns.
+//! An error that owns the text that was refused.
 use crate::fault::Fault;
 use alloc::string::{String, ToString};
 use core::fmt;
@@ -7,7 +7,7 @@ use duration_str_core::{Cause, Expected, Options};
 /// The error of [`parse_duration`](crate::parse_duration) and of `str::parse`: a [`Fault`] that
 /// owns its text.
 ///
-/// It displays as one line, like a [`Fault`].
+/// It displays as one line, as a [`Fault`] does.
 ///
 /// ```
 /// use duration_str::parse_duration;
@@ -33,7 +33,7 @@ impl DurationError {
         }
     }
 
-    /// The fault, which borrows the text.
+    /// Returns the fault, which borrows the text from this error.
     ///
     /// ```
     /// use duration_str::{Options, parse_with};
@@ -46,7 +46,7 @@ impl DurationError {
         Fault::of(&self.text, self.cause, self.options)
     }
 
-    /// The whole text that was read.
+    /// Returns the whole text that was read.
     ///
     /// ```
     /// assert_eq!("1x".parse::<duration_str::HumanDuration>().unwrap_err().text(), "1x");
@@ -56,7 +56,7 @@ impl DurationError {
         &self.text
     }
 
-    /// Why the text is refused.
+    /// Returns why the text is refused.
     ///
     /// ```
     /// use duration_str::{Cause, HumanDuration};
@@ -68,7 +68,7 @@ impl DurationError {
         self.cause
     }
 
-    /// The byte at which the fault is, as in [`Fault::place`].
+    /// Returns the byte at which the fault is, as [`Fault::place`] does.
     ///
     /// ```
     /// assert_eq!("1x".parse::<duration_str::HumanDuration>().unwrap_err().place(), Some(1));
@@ -78,7 +78,7 @@ impl DurationError {
         self.cause.place()
     }
 
-    /// What could stand at the place of a syntax fault, as in [`Fault::expected`].
+    /// Returns what could stand at the place of a syntax fault, as [`Fault::expected`] does.
     ///
     /// ```
     /// let expected = duration_str::parse_duration("1m+").unwrap_err().expected();
@@ -89,7 +89,7 @@ impl DurationError {
         self.as_fault().expected()
     }
 
-    /// The token at the place of a syntax fault, as in [`Fault::found`].
+    /// Returns the token at the place of a syntax fault, as [`Fault::found`] does.
     ///
     /// ```
     /// let error = duration_str::parse_duration("5 mins").unwrap_err();
@@ -101,7 +101,7 @@ impl DurationError {
         self.as_fault().found()
     }
 
-    /// The text, a caret and the line, as in [`Fault::report`].
+    /// Returns the text, a caret and the line, as [`Fault::report`] does.
     ///
     /// ```
     /// let error = "600y".parse::<duration_str::HumanDuration>().unwrap_err();
@@ -113,14 +113,14 @@ impl DurationError {
     }
 }
 
-/// One line, as of a [`Fault`].
+/// Prints one line, as a [`Fault`] does.
 impl fmt::Display for DurationError {
     fn fmt(&self, f: &mut fmt::Formatter<'_>) -> fmt::Result {
         self.as_fault().fmt(f)
     }
 }
 
-/// The same line, since `main` and `unwrap` print it.
+/// Prints `DurationError` and the same line in parentheses, since `main` and `unwrap` print this.
 impl fmt::Debug for DurationError {
     fn fmt(&self, f: &mut fmt::Formatter<'_>) -> fmt::Result {
         write!(f, "DurationError({self})")

@@ -1,4 +1,4 @@
-//! A refused text, with the options under which it was read.
+//! A refused text, with its cause and the options under which it was read.
 use crate::derror::DError;
 use crate::error::DurationError;
 use alloc::string::{String, ToString};
@@ -7,10 +7,10 @@ use duration_str_core::{self as proved, Cause, Expected, Options};
 
 /// Why and where a text is refused.
 ///
-/// It displays as one line, for terminals and logs. The line says what is wrong, and for a syntax
-/// fault at which column, counted in characters from 1. It quotes at most 40 characters of the
-/// text, and escapes those that are not safe within one line. [`Fault::report`] also has the text
-/// and a caret.
+/// It displays as one line, for terminals and logs. The line says what is wrong. For a syntax fault
+/// it also says at which column, counted in characters from 1. It quotes at most 40 characters of
+/// the text, and escapes those that are not safe within one line. [`Fault::report`] also shows the
+/// text and a caret.
 ///
 /// ```
 /// use duration_str::{Cause, Options, parse_with};
@@ -23,7 +23,7 @@ use duration_str_core::{self as proved, Cause, Expected, Options};
 /// assert_eq!(format!("{fault:?}"), format!("Fault({fault})"));
 /// ```
 ///
-/// It borrows the text. [`Fault::into_owned`] gives an error that outlives the text.
+/// A fault borrows the text. [`Fault::into_owned`] returns an error that outlives the text.
 #[derive(Clone, Copy, PartialEq, Eq, Hash)]
 pub struct Fault<'a> {
     fault: proved::Fault<'a>,
@@ -36,13 +36,13 @@ impl<'a> Fault<'a> {
         Fault { fault, options }
     }
 
-    /// The fault of a text for a cause that is known to have its place there.
+    /// Makes the fault of a text for a cause whose place is known to be within the text.
     pub(crate) fn of(text: &'a str, cause: Cause, options: Options) -> Fault<'a> {
         let fault = proved::Fault::new(text, cause).expect("the place is one of this text");
         Fault::new(fault, options)
     }
 
-    /// The whole text that was read.
+    /// Returns the whole text that was read.
     ///
     /// ```
     /// use duration_str::{Options, parse_with};
@@ -54,7 +54,7 @@ impl<'a> Fault<'a> {
         self.fault.text()
     }
 
-    /// Why the text is refused.
+    /// Returns why the text is refused.
     ///
     /// ```
     /// use duration_str::{Cause, Options, parse_with};
@@ -66,7 +66,8 @@ impl<'a> Fault<'a> {
         self.fault.cause()
     }
 
-    /// The byte of the text at which the fault is, from 0, or `None` if it has no place.
+    /// Returns the byte of the text at which the fault is, counted from 0, or `None` if the fault
+    /// has no place.
     ///
     /// ```
     /// use duration_str::{Options, parse_with};
@@ -78,7 +79,7 @@ impl<'a> Fault<'a> {
         self.cause().place()
     }
 
-    /// For a syntax fault: what could stand at its place.
+    /// Returns what could stand at the place of a syntax fault, or `None` for any other fault.
     ///
     /// ```
     /// use duration_str::{Options, parse_with};
@@ -94,7 +95,8 @@ impl<'a> Fault<'a> {
         }
     }
 
-    /// For a syntax fault: the token at its place, or `None` at the end of the text.
+    /// Returns the token at the place of a syntax fault. It is `None` at the end of the text, and
+    /// for any other fault.
     ///
     /// ```
     /// use duration_str::{Options, parse_with};
@@ -109,7 +111,7 @@ impl<'a> Fault<'a> {
     /// The length of the buffer that [`Fault::write_one_line`] writes to.
     pub const BUFFER_LEN: usize = duration_str_core::ONE_LINE_BUFFER_SIZE;
 
-    /// Writes the line to the start of a buffer. Allocates nothing.
+    /// Writes the line to the start of a buffer, and returns it. The call allocates nothing.
     ///
     /// ```
     /// use duration_str::{Fault, Options, parse_with};
@@ -123,11 +125,11 @@ impl<'a> Fault<'a> {
         self.fault.write_one_line(buffer)
     }
 
-    /// For a terminal: the text, below it a caret at the place of a syntax fault, and below that
-    /// the line.
+    /// Returns the report for a terminal: the text, below it a caret at the place of a syntax
+    /// fault, and below that the line.
     ///
-    /// It is the line alone if the fault is no syntax fault, if the text has more than 80
-    /// characters, or if the line would escape something in it.
+    /// The report is the line alone if the fault is no syntax fault, if the text has more than 80
+    /// characters, or if the line would escape something in the text.
     ///
     /// ```
     /// use duration_str::{Options, parse_with};
@@ -142,14 +144,15 @@ impl<'a> Fault<'a> {
             .to_string()
     }
 
-    /// The message with which the calls of `duration-str` 0.19.0 refuse.
+    /// The message of up to three lines that the calls of `duration-str` 0.19.0 return for this
+    /// fault.
     #[cold]
     #[inline(never)]
     pub(crate) fn message(&self) -> String {
         self.fault.to_string()
     }
 
-    /// The error of `duration-str` 0.19.0 for this fault.
+    /// Returns the error of `duration-str` 0.19.0 for this fault.
     ///
     /// ```
     /// use duration_str::{DError, Options, parse_with};
@@ -165,7 +168,7 @@ impl<'a> Fault<'a> {
         }
     }
 
-    /// The same fault as an error that owns its text.
+    /// Returns the same fault as an error that owns its text.
     ///
     /// ```
     /// use duration_str::{DurationError, Fault, Options, parse_with};
@@ -185,14 +188,14 @@ impl<'a> Fault<'a> {
     }
 }
 
-/// One line, padded and cut as a `str` is.
+/// Prints the line. Width, fill and precision apply as they do for a `str`.
 impl fmt::Display for Fault<'_> {
     fn fmt(&self, f: &mut fmt::Formatter<'_>) -> fmt::Result {
         f.pad(self.write_one_line(&mut [0; Fault::BUFFER_LEN]))
     }
 }
 
-/// The same line, since `unwrap` prints it.
+/// Prints `Fault` and the same line in parentheses, since `unwrap` prints this.
 impl fmt::Debug for Fault<'_> {
     fn fmt(&self, f: &mut fmt::Formatter<'_>) -> fmt::Result {
         write!(f, "Fault({self})")

@@ -1,4 +1,4 @@
-//! Durations that are printed.
+//! A duration that is printed in units, parts and a style that you choose.
 use crate::human_duration::HumanDuration;
 use alloc::string::String;
 use core::fmt::{self, Write};
@@ -8,8 +8,8 @@ use duration_str_core::{Format, STYLED_BUFFER_SIZE, Style, TimeUnit, write_withi
 /// A duration that its `Display` prints for people, without allocating. You choose the units, the
 /// number of parts and the style.
 ///
-/// [`format_duration`] makes it. For durations of `chrono` and `time`,
-/// [`HumanFormat::formatted`](crate::HumanFormat::formatted) does.
+/// Call [`format_duration`] to get one. For a duration of `chrono` or `time`, call
+/// [`HumanFormat::formatted`](crate::HumanFormat::formatted).
 ///
 /// ```
 /// use duration_str::{Style, TimeUnit, format_duration};
@@ -26,19 +26,20 @@ use duration_str_core::{Format, STYLED_BUFFER_SIZE, Style, TimeUnit, write_withi
 /// # What is printed
 ///
 /// The text has the greatest possible count of the largest unit, then the greatest count of the
-/// next unit in what is left, and so on down to the smallest unit, until there are so many parts.
-/// Counts of 0 are left out. What is left at the end is left out too.
+/// next unit in what is left, and so on down to the smallest unit, or until the number of parts is
+/// reached. Counts of 0 are left out. What remains at the end is left out too.
 ///
-/// Each call that chooses units only takes units away, so you can make them in any order.
+/// Each call that chooses units only takes units away, so you can make these calls in any order.
 ///
-/// If all counts are 0, the text is `0` and the smallest unit's name, or `0s` if that unit is
-/// shorter than a second, even if no seconds are printed. The text is also this if there are no
-/// parts. It is `0s`, whatever the duration, if there are no units.
+/// If all counts are 0, or if you ask for 0 parts, the text is `0` and the smallest unit's name. If
+/// that unit is shorter than a second, the text is `0s`, even if you left out the second. If you
+/// left out all units, the text is `0s` for each duration.
 ///
 /// Width and fill pad the text. A precision is ignored.
 ///
-/// A negative duration has a minus before its text, unless that is a zero. No call reads back a
-/// text with a minus, or one of 2^64 nanoseconds or more, some 584 years.
+/// A negative duration has a minus before its text, unless the text is a zero. No call reads back a
+/// text with a minus, or the text of a duration of 2^64 nanoseconds or more, which is some 584
+/// years.
 #[derive(Clone, Copy, Debug, PartialEq, Eq, Hash)]
 pub struct FormattedDuration {
     is_negative: bool,
@@ -46,7 +47,8 @@ pub struct FormattedDuration {
     format: Format,
 }
 
-/// Prints a duration for people. It has the name of humantime's function.
+/// Returns a value that prints the duration for people. This function has the same name as
+/// humantime's.
 ///
 /// ```
 /// use duration_str::format_duration;
@@ -60,7 +62,7 @@ pub const fn format_duration(duration: Duration) -> FormattedDuration {
 }
 
 impl FormattedDuration {
-    /// A duration by its sign and magnitude.
+    /// The duration with this sign and this magnitude.
     pub(crate) const fn with_sign(is_negative: bool, magnitude: Duration) -> FormattedDuration {
         FormattedDuration {
             is_negative,
@@ -69,7 +71,8 @@ impl FormattedDuration {
         }
     }
 
-    /// The duration, or its magnitude if it is negative. It has the name of humantime's method.
+    /// Returns the duration, or its magnitude if it is negative. This method has the same name as
+    /// humantime's.
     ///
     /// ```
     /// use duration_str::format_duration;
@@ -82,8 +85,8 @@ impl FormattedDuration {
         &self.magnitude
     }
 
-    /// The text, as [`ToString`](alloc::string::ToString) gives it. This is faster, since it needs
-    /// no formatter.
+    /// Returns the text that [`ToString`](alloc::string::ToString) would return. This method is
+    /// faster, since it needs no formatter.
     ///
     /// ```
     /// use duration_str::format_duration;
@@ -97,7 +100,7 @@ impl FormattedDuration {
         <[&str; 2]>::from(self.parts_of_text(&mut [0; STYLED_BUFFER_SIZE])).concat()
     }
 
-    /// The sign, `-` or nothing, and the text of the magnitude.
+    /// The sign, which is `-` or empty, and the text of the magnitude.
     #[inline(always)]
     fn parts_of_text<'b>(
         &self,
@@ -136,7 +139,7 @@ macro_rules! chooses {
 }
 
 chooses! {
-    /// Leaves out the units that are not among these, in any order.
+    /// Leaves out the units that are not in this list. The order of the list doesn't matter.
     ///
     /// ```
     /// use duration_str::{TimeUnit, format_duration};
@@ -184,7 +187,7 @@ chooses! {
     /// ```
     smallest: TimeUnit,
 
-    /// Prints the duration in at most so many parts.
+    /// Prints the duration in at most this many parts.
     ///
     /// ```
     /// use duration_str::format_duration;
@@ -208,9 +211,9 @@ chooses! {
     style: Style,
 }
 
-/// Writes a minus if the duration is negative and its text is not a zero, then the text of its
-/// magnitude, and around them the fill that is asked for. A precision, at which `Formatter::pad`
-/// would cut, is ignored.
+/// Writes a minus if the duration is negative and its text is not a zero, and then the text of its
+/// magnitude. Width and fill pad the whole. A precision is ignored, since `Formatter::pad` would
+/// cut the text at it.
 impl fmt::Display for FormattedDuration {
     fn fmt(&self, f: &mut fmt::Formatter<'_>) -> fmt::Result {
         match (self.parts_of_text(&mut [0; STYLED_BUFFER_SIZE]), f.width()) {
@@ -220,8 +223,7 @@ impl fmt::Display for FormattedDuration {
     }
 }
 
-/// Writes the parts of a text, and around them the fill that makes so many characters as are asked
-/// for.
+/// Writes the parts of a text, and pads them to the formatter's width.
 #[inline]
 pub(crate) fn pad(f: &mut fmt::Formatter<'_>, parts: &[&str]) -> fmt::Result {
     let count: usize = parts.iter().map(|part| part.chars().count()).sum();

@@ -1,12 +1,12 @@
-//! A duration that is written as text.
+//! A duration that is read and written as text.
 use core::time::Duration;
 
-/// A [`Duration`] that is read from text and printed as text, by `FromStr`, by `Display` and by
-/// serde. So it can be the type of an option in clap, without a `value_parser`.
+/// A [`Duration`] that `FromStr`, `Display` and serde read and print as text. So it can be the type
+/// of an option in clap, without a `value_parser`.
 ///
 /// [`parse_duration`](crate::parse_duration) reads it, and
-/// [`format_duration`](crate::format_duration) prints it. You choose units, parts and style as
-/// there.
+/// [`format_duration`](crate::format_duration) prints it. You choose units, parts and style as for
+/// a [`FormattedDuration`](crate::FormattedDuration).
 ///
 /// ```
 /// use duration_str::{HumanDuration, Style};
@@ -21,7 +21,7 @@ use core::time::Duration;
 #[derive(Clone, Copy, Debug, Default, PartialEq, Eq, PartialOrd, Ord, Hash)]
 pub struct HumanDuration(pub Duration);
 
-/// What a duration that is written as text has.
+/// The traits that a type of durations as text implements.
 macro_rules! written_as_text {
     ($Name:ident, $read:path, $print:path) => {
         impl core::str::FromStr for $Name {

@@ -1,4 +1,4 @@
-//! Printing, of the durations of each crate.
+//! Printing the durations of `std`, `chrono` and `time`.
 use crate::formatted::{FormattedDuration, format_duration};
 use alloc::string::String;
 use core::time::Duration;
@@ -14,11 +14,11 @@ use duration_str_core::{FORMAT_BUFFER_SIZE, write_human};
 /// assert_eq!(Duration::ZERO.human_format(), "0s");
 /// ```
 ///
-/// No call reads back the text of a duration of 2^64 nanoseconds or more, some 584 years.
+/// No call reads back the text of a duration of 2^64 nanoseconds or more, which is some 584 years.
 ///
 /// A duration of `chrono` or `time` may be negative. Then it prints as a minus and the text of its
-/// magnitude, which no call reads back, since texts have no minus. If that text is a zero, as it
-/// can be in larger units, it has no minus:
+/// magnitude, which no call reads back, since texts have no minus. If that text is a zero, such as
+/// half a second in whole seconds, there is no minus:
 ///
 #[cfg_attr(feature = "chrono", doc = "```")]
 #[cfg_attr(not(feature = "chrono"), doc = "```ignore")]
@@ -29,7 +29,8 @@ use duration_str_core::{FORMAT_BUFFER_SIZE, write_human};
 /// assert_eq!(build.smallest(duration_str::TimeUnit::Second).to_string(), "0s");
 /// ```
 pub trait HumanFormat: Sealed {
-    /// Prints the duration in the units, the number of parts and the style that you choose.
+    /// Returns a value that prints the duration, in the units, the number of parts and the style
+    /// that you choose.
     ///
     /// ```
     /// use duration_str::{HumanFormat, Style};
@@ -41,7 +42,8 @@ pub trait HumanFormat: Sealed {
     #[must_use]
     fn formatted(&self) -> FormattedDuration;
 
-    /// The counts of the units from the years to the nanoseconds, without those that are 0.
+    /// Returns the text of the duration: the counts of the units from the years to the nanoseconds,
+    /// without the counts that are 0.
     #[must_use]
     fn human_format(&self) -> String {
         self.formatted().to_string()
@@ -78,7 +80,7 @@ impl HumanFormat for time::Duration {
     }
 }
 
-/// A duration of so many seconds and nanoseconds, which have one sign.
+/// The duration of this many seconds and nanoseconds, both of which have the given sign.
 #[cfg(any(feature = "chrono", feature = "time"))]
 fn with_sign(is_negative: bool, secs: i64, nanos: i64) -> FormattedDuration {
     let magnitude =
@@ -86,8 +88,8 @@ fn with_sign(is_negative: bool, secs: i64, nanos: i64) -> FormattedDuration {
     FormattedDuration::with_sign(is_negative, magnitude)
 }
 
-/// What keeps traits to the types that have them, so that a later version can give them another
-/// method.
+/// Keeps other crates from implementing this crate's traits, so that a later version can add a
+/// method to them.
 pub trait Sealed {}
 
 impl Sealed for core::time::Duration {}

@@ -1,13 +1,15 @@
-//! humantime's names for durations. To move a program, change one import:
-//! `use duration_str::humantime;`.
+//! The items of the crate humantime for durations, under their names. To move a program to this
+//! crate, change one import: `use duration_str::humantime;`.
 //!
 //! A text that both humantime and this module read is the same duration in both. So a month has
-//! 30.44 days here, whatever it is called, and a year 365.25. In the rest of this crate they have
-//! 30 and 365. What humantime printed and a program stored is read as it was meant.
+//! 30.44 days here, by whatever name, and a year has 365.25 days. In the rest of this crate a month
+//! has 30 days and a year 365. So a text that humantime printed and a program stored is read as it
+//! was meant.
 //!
-//! humantime's further names of units are read: `M` is a month, and `secs`, `mins`, `hrs`, `millis`
-//! and `nanos` are units, as are `yr` and `wk` of humantime 2.4. Capitals and small letters differ.
-//! The rest of this crate refuses these names, or reads `1M` as a minute.
+//! This module also reads the names of units that only humantime has: `M` is a month, and `secs`,
+//! `mins`, `hrs`, `millis` and `nanos` are units, and so are `yr` and `wk` of humantime 2.4.
+//! Capitals and small letters differ. The rest of this crate refuses these names, or reads `1M` as
+//! a minute.
 //!
 //! This module prints what humantime prints, such as `1day 2h 3m`.
 //!
@@ -17,12 +19,14 @@
 //! - 584 years and more
 //! - a blank within a number, as in `1 000ms`, and blanks beyond ASCII
 //!
-//! As in humantime, a number without a unit is refused. `+`, `*`, `mon` and the quarter of 91 days
-//! are read, which humantime doesn't have. `docs/MIGRATING.md` of the repository has the rest.
+//! As in humantime, a number without a unit is refused. Unlike humantime, this module reads `+`,
+//! `*`, `mon` and the quarter of 91 days. `docs/MIGRATING.md` in the repository lists all
+//! differences.
 //!
 //! All items and traits of humantime 2.4 that are about durations are here, except the variants of
-//! its error: [`DurationError::cause`] says why a text is refused. Times of the calendar are not
-//! provided. In place of the crate humantime-serde, use the module `humantime_serde`.
+//! its error. Use [`DurationError::cause`] to find out why a text is refused. humantime's
+//! timestamps are not here. In place of the crate humantime-serde, use the module
+//! `humantime_serde`.
 //!
 //! ```
 //! use duration_str::humantime;
@@ -48,7 +52,8 @@ use duration_str_core::{self as proved, Cause, Options, TimeUnit, Tokens};
 
 pub use crate::DurationError;
 
-/// Reads a text. Capitals and small letters differ, and each number needs a unit.
+/// Reads a text, and returns its duration. Capitals and small letters differ, and each number needs
+/// a unit.
 ///
 /// # Errors
 ///
@@ -75,16 +80,17 @@ pub(crate) fn read(text: &str) -> Result<StdDuration, Fault<'_>> {
     }
 }
 
-/// The nanoseconds of a sum without operators, which most texts are. `None` for any other text, for
-/// one that is refused, and for some in Chinese.
+/// The nanoseconds of a sum without operators, which most texts are. It is `None` for any other
+/// text, for a text that is refused, and for some Chinese texts.
 #[inline]
 fn sum_of(text: &str) -> Option<u64> {
     let nanos = read_with(text, true).ok()?;
     nanos.checked_add(longer_by(text, nanos)?)
 }
 
-/// Reads a text by the proved reader, where each number needs a unit, and capitals and small letters
-/// differ. It is compiled for this alone, which makes it faster, and programs get no other reader.
+/// Reads a text by the proved reader. Each number needs a unit, and capitals and small letters
+/// differ. The reader is compiled for this case alone, which makes it faster, and a program that
+/// only uses this module contains no other copy of it.
 #[inline(never)]
 fn read_with(text: &str, no_calc: bool) -> Result<u64, proved::Fault<'_>> {
     let options = Options {
@@ -95,14 +101,14 @@ fn read_with(text: &str, no_calc: bool) -> Result<u64, proved::Fault<'_>> {
 }
 
 /// By how many nanoseconds a sum without operators is longer here than in the rest of this crate,
-/// where it has `nanos`. `None` if a name may be Chinese.
+/// where its value is `nanos`. It is `None` if a name may be Chinese.
 #[inline]
 fn longer_by(sum: &str, nanos: u64) -> Option<u64> {
     const MONTH: u64 = TimeUnit::Month.nanos();
     let mut bytes = sum.bytes();
     let mut left = nanos;
     let mut longer = 0;
-    // If less than a month is left, no later term has months or years.
+    // If less than a month is left of the value, no later term counts months or years.
     while left >= MONTH {
         let Some(digit) = bytes.find(u8::is_ascii_digit) else {
             break;
@@ -127,8 +133,9 @@ fn longer_by(sum: &str, nanos: u64) -> Option<u64> {
     Some(longer)
 }
 
-/// Whether a text may have years or months, which are longer here. Only `day` has a `y` that isn't
-/// a year's, and only names of months have `mo`; the Chinese names are not told apart.
+/// Whether a text may have years or months, which are longer here. Among the names of units, only
+/// those of the day and the year have a `y`, and only those of the month have `mo`. Chinese names
+/// are not distinguished.
 fn has_longer(text: &str) -> bool {
     text.as_bytes()
         .windows(2)
@@ -141,7 +148,7 @@ const YEAR_SECONDS: u64 = 31_557_600;
 /// How many seconds a month has here.
 const MONTH_SECONDS: u64 = 2_630_016;
 
-/// The name in the rest of this crate of what humantime alone calls so.
+/// The name that the rest of this crate reads for a unit, given a name that only humantime reads.
 fn own_name(name: &str) -> Option<&'static str> {
     match name {
         "yr" => Some("year"),
@@ -156,8 +163,8 @@ fn own_name(name: &str) -> Option<&'static str> {
     }
 }
 
-/// Reads a text by the proved reader, which gets it [rewritten](Rewritten) if it has one of
-/// humantime's further names, a year or a month.
+/// Reads a text by the proved reader. If the text has a name that only humantime reads, or a year
+/// or a month, the reader gets it [rewritten](Rewritten).
 #[cold]
 #[inline(never)]
 fn read_other(text: &str) -> Result<StdDuration, Fault<'_>> {
@@ -186,13 +193,13 @@ fn with_operators(text: &str) -> Result<StdDuration, Fault<'_>> {
     }
 }
 
-/// A text as the rest of this crate means it: each token of the text that was written, and a blank
-/// after it. The further names of humantime are replaced. A number of years or months is one of
-/// seconds, or the greatest number, which is too many seconds as well. A number that is too large
-/// by itself stays.
+/// A text, rewritten for the proved reader: each token of the written text, and a blank after it.
+/// The names that only humantime reads are replaced. A number of years or months becomes a number
+/// of seconds, or the greatest number, which is refused as too many seconds too. A number that is
+/// too large by itself stays.
 struct Rewritten {
     text: String,
-    /// Where each token begins: here, and in the text that was written
+    /// Where each token begins: in the rewritten text, and in the written text
     starts: Vec<(usize, usize)>,
 }
 
@@ -224,7 +231,8 @@ impl Rewritten {
         written
     }
 
-    /// Appends a token, with where it begins in the text that was written unless that is known.
+    /// Appends a token, which begins at `start` in the written text. If `start` is `None`, it is
+    /// not recorded.
     fn push(&mut self, token: &str, start: Option<usize>) {
         self.starts
             .extend(start.map(|start| (self.text.len(), start)));
@@ -232,7 +240,8 @@ impl Rewritten {
         self.text.push(' ');
     }
 
-    /// The place of a syntax fault in the text that was written: the token's, or the end.
+    /// The place of a syntax fault in the written text, given its place in the rewritten one: where
+    /// the token begins, or the end of the text.
     fn place_in(&self, text: &str, place: usize) -> usize {
         self.starts
             .iter()
@@ -241,13 +250,13 @@ impl Rewritten {
     }
 }
 
-/// A duration that is printed by its `Display`; [`format_duration`] makes it.
+/// A duration that its `Display` prints as humantime does. [`format_duration`] returns it.
 ///
 /// Width and fill pad the text, and a precision is ignored.
 #[derive(Clone, Copy, Debug, PartialEq, Eq, Hash)]
 pub struct FormattedDuration(StdDuration);
 
-/// The duration as what prints it. The text is the one that humantime prints.
+/// Returns a value that prints the duration. The text is the one that humantime prints.
 ///
 /// ```
 /// use duration_str::humantime::format_duration;
@@ -262,7 +271,7 @@ pub const fn format_duration(duration: StdDuration) -> FormattedDuration {
 }
 
 impl FormattedDuration {
-    /// The duration.
+    /// Returns the duration.
     ///
     /// ```
     /// use duration_str::humantime::format_duration;
@@ -280,7 +289,7 @@ impl FormattedDuration {
 /// `584542046089years 11months 30days 23h 59m 59s 999ms 999us 999ns`.
 const MAX_LEN: usize = 64;
 
-/// Appends a number. `write!` takes twice as many instructions.
+/// Appends a number to the text. `write!` would take twice as many instructions.
 fn push_count(text: &mut String, mut count: u64) {
     let mut digits = [b'0'; 20];
     let mut start = digits.len();
@@ -334,7 +343,7 @@ impl fmt::Display for FormattedDuration {
 pub struct Duration(StdDuration);
 
 impl Duration {
-    /// The duration, also in a constant.
+    /// Wraps the duration. A constant can call this.
     ///
     /// ```
     /// use duration_str::humantime::Duration;

@@ -1,6 +1,6 @@
-//! Reads durations as people write them, such as `1h 30m`, from a command line, a configuration
-//! file or any other text, and prints them, such as `1h 30min`. If a text can't be read, the error
-//! says in one line what is wrong.
+//! This crate reads durations as people write them, such as `1h 30m`, from a command line, a
+//! configuration file or any other text. It also prints them, such as `1h 30min`. If a text can't
+//! be read, the error says in one line what is wrong.
 //!
 //! ```
 //! use duration_str::{format_duration, parse_duration};
@@ -18,11 +18,11 @@
 //!   through `?`, threads and chains of errors.
 //! - Use [`parse_with_units`] to refuse `90` and `1h 30`, which most calls read as seconds.
 //! - Use [`parse_in`] if your program's numbers count another unit, such as milliseconds.
-//! - Use [`parse_with`] to set options, or if nothing may be allocated: its [`Fault`] borrows the
+//! - Use [`parse_with`] to set options, or if nothing may be allocated. Its [`Fault`] borrows the
 //!   text.
-//! - [`parse`], [`parse_std`] (which is the same) and the calls for `chrono` and `time` are those
-//!   of `duration-str` 0.19.0. Their error is a `String` of up to three lines. The features of the
-//!   whole program decide what they read.
+//! - [`parse`], [`parse_std`] (which is the same) and the calls for `chrono` and `time` are the
+//!   calls of `duration-str` 0.19.0. Their error is a `String` of up to three lines. The features
+//!   of the whole program decide what these calls read.
 #![cfg_attr(
     feature = "macros",
     doc = "- Use [`duration!`] for a text in the source, which is read at compile time:"
@@ -98,7 +98,7 @@
 //!
 //! # Why and where a text is refused
 //!
-//! A [`Fault`] and a [`DurationError`] display as one line. Their `report` has the text, a caret
+//! A [`Fault`] and a [`DurationError`] display as one line. Their `report` gives the text, a caret
 //! below the place, and the line.
 //!
 //! ```
@@ -113,11 +113,11 @@
 //!
 //! # What a text means
 //!
-//! A text is one term or several. A term is a number and a unit. Terms are joined by `+` or by `*`;
-//! terms that follow one another are added. A text is a sum or a product, and can't mix both. A
-//! product multiplies its terms in seconds. A number without a unit counts seconds, unless a call
-//! says otherwise, and must be last or before an operator. Blanks may be anywhere except inside a
-//! number or a unit.
+//! A text is one term or several. A term is a number and a unit, such as `3m`. Terms are joined by
+//! `+` or by `*`. If the operator is left out, as in `1h 30m`, the terms are added. A text is a sum
+//! or a product, and can't mix both. A product multiplies its terms in seconds: `1m*10ms` is 600
+//! ms. A number without a unit counts seconds, unless a call says otherwise. Such a number must be
+//! last or before an operator. Blanks may be anywhere except inside a number or a unit.
 //!
 //! <!-- The table is made by tests/repository --write. -->
 //! | unit | names | with `cn_unit` also |
@@ -134,28 +134,29 @@
 //! | microsecond | µs, µsec, µsecond, us, usec, usecond, microsecond, microseconds | 微秒 |
 //! | nanosecond | ns, nsec, nanosecond, nanoseconds | 纳秒 |
 //!
-//! Each number must be below 2^64. Each term, each step and the value must be below 2^64
-//! nanoseconds, some 584 years.
+//! Each number must be below 2^64. Each term, each step of the evaluation and the value must be
+//! below 2^64 nanoseconds, which is some 584 years.
 //!
 //! # Features
 //!
 //! The crate is `no_std`, and needs `alloc`.
 //!
-//! - `serde`, `chrono` and `time` are on by default, and have the calls for these crates. You need
+//! - `serde`, `chrono` and `time` are on by default, and add the calls for these crates. You need
 //!   them only for calls of `duration-str` 0.19.0, and for fields in configuration files.
-//! - `macros` has `duration!`.
+//! - `macros` adds the macro `duration!`.
 //! - `no_calc` (operators are not read), `lowercase` (capitals are not read as small letters) and
-//!   `cn_unit` (Chinese names are read) turn on the option of their name for the calls of
+//!   `cn_unit` (Chinese names are read) turn on the option of the same name for the calls of
 //!   `duration-str` 0.19.0.
 //!
-//! Cargo joins the features that all crates of a program ask for. So of these three only `cn_unit`
-//! affects the other calls: it takes nothing away. To set options for one call, use [`parse_with`].
+//! Cargo turns on each feature that any crate of a program asks for. So of the last three features
+//! only `cn_unit` affects the other calls, since it takes nothing away from what another crate
+//! reads. To set options for one call, use [`parse_with`].
 //!
 //! # What is proved
 //!
-//! Reading and printing are proved: they are the source of a proved library, without its contracts.
-//! Three `unsafe` blocks skip the test that a printed duration, a message and a line are UTF-8,
-//! since that is proved.
+//! Reading and printing are proved: their code is the source of a proved library, without its
+//! contracts. Three `unsafe` blocks skip the test that a printed duration, a message and a line are
+//! UTF-8, since that is proved.
 //!
 //! # From humantime and `duration-str` 0.19.0
 //!
@@ -164,7 +165,7 @@
 //!
 //! This crate has the public interface of `duration-str` 0.19.0 from crates.io: [`parse`], whose
 //! error is a `String`, [`HumanFormat`], `deserialize_duration` and the others. The module `dates`
-//! has its calls for a moment that lies so long from now.
+//! has its calls for a moment before or after now.
 //!
 //! ```
 //! use duration_str::{parse, HumanFormat};
@@ -193,8 +194,8 @@ mod parser;
 #[cfg(feature = "serde")]
 mod serde;
 
-// The list of this crate's functions would begin with these, so the documentation has them in their
-// module alone.
+// The documentation has these only in their module, since otherwise the list of this crate's
+// functions would begin with them.
 #[cfg(feature = "chrono")]
 #[doc(hidden)]
 pub use dates::{
@@ -208,7 +209,8 @@ pub use duration_str_core::{
     Cause, CondUnit, Expected, FORMAT_BUFFER_SIZE, Format, Options, STYLED_BUFFER_SIZE, Style,
     TimeUnit, Units, UnknownStyle, UnknownUnit, write_human, write_within,
 };
-// For the core's examples; here the buffers' sizes and `TimeUnit::ALL` say as much.
+// `MAX_LONG_LEN`, `MAX_PRINTED_LEN` and `UNITS`, below, are hidden, since they are only for the
+// core's examples. Users of this crate have the buffers' sizes and `TimeUnit::ALL`.
 #[cfg(feature = "serde")]
 #[allow(deprecated)]
 pub use self::serde::original::{

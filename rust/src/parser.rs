@@ -1,11 +1,12 @@
-//! Reading.
+//! The calls that read a text.
 use crate::error::DurationError;
 use crate::fault::Fault;
 use alloc::string::String;
 use core::time::Duration;
 use duration_str_core::{self as proved, Options};
 
-/// Reads a text under these options. If the text is refused, the fault says why and where.
+/// Reads a text under these options, and returns its duration. If the text is refused, the fault
+/// says why and where.
 ///
 /// # Errors
 ///
@@ -27,17 +28,17 @@ pub fn parse_with(input: &str, options: Options) -> Result<Duration, Fault<'_>> 
     }
 }
 
-/// The options under which the calls of `duration-str` 0.19.0 read: those that the features turn
-/// on.
+/// The options under which the calls of `duration-str` 0.19.0 read: the options that the crate's
+/// features turn on.
 pub(crate) const FEATURES: Options = Options {
     no_calc: cfg!(feature = "no_calc"),
     lowercase: cfg!(feature = "lowercase"),
     cn_unit: cfg!(feature = "cn_unit"),
 };
 
-/// The options under which all other calls read, unless they are given some. Only the feature that
-/// adds names affects them. Any crate of a program can turn on the features that take something
-/// away, and would then break what the other crates read.
+/// The options under which all other calls read, unless a call is given its own. Only the feature
+/// `cn_unit`, which adds names, affects them. Any crate of a program can turn on the other
+/// features, which take something away, and would then break what the other crates read.
 pub(crate) const ADDITIONS: Options = Options {
     cn_unit: FEATURES.cn_unit,
     ..Options::off()
@@ -46,7 +47,7 @@ pub(crate) const ADDITIONS: Options = Options {
 /// The options of the module `humantime`.
 pub(crate) const CASE_SENSITIVE: Options = ADDITIONS.with_lowercase();
 
-/// Reads a text, as [`parse`] does.
+/// Reads a text as [`parse`] does.
 #[inline]
 fn read(text: &str) -> Result<Duration, String> {
     match parse_with(text, FEATURES) {
@@ -55,7 +56,7 @@ fn read(text: &str) -> Result<Duration, String> {
     }
 }
 
-/// Reads a text under the options that the features turn on.
+/// Reads a text under the options that the crate's features turn on, and returns its duration.
 ///
 /// ```
 /// use duration_str::parse;
@@ -68,7 +69,7 @@ fn read(text: &str) -> Result<Duration, String> {
 /// assert_eq!(parse("600y").unwrap_err(), "600y\n^\noverflow error");
 /// ```
 ///
-/// Unless the feature `no_calc` is on, terms are added by `+`, or multiplied by `*`, in seconds:
+/// Unless the feature `no_calc` is on, `+` adds terms, and `*` multiplies them in seconds:
 ///
 #[cfg_attr(feature = "no_calc", doc = "```ignore")]
 #[cfg_attr(not(feature = "no_calc"), doc = "```")]
@@ -86,11 +87,11 @@ pub fn parse(input: impl AsRef<str>) -> Result<Duration, String> {
     read(input.as_ref())
 }
 
-/// Reads a text such as `1h 30m`. You can use it as a `value_parser` of clap. It has the name of
-/// humantime's function.
+/// Reads a text such as `1h 30m`, and returns its duration. You can use this function as a
+/// `value_parser` of clap. It has the same name as humantime's function.
 ///
-/// All options are off, whatever features are on, except that the feature `cn_unit` adds its names.
-/// To set options, use [`parse_with`].
+/// All options are off, whatever features of the crate are on, except that the feature `cn_unit`
+/// adds the Chinese names. To set options, use [`parse_with`].
 ///
 /// # Errors
 ///
@@ -117,7 +118,7 @@ pub fn parse_duration(input: &str) -> Result<Duration, DurationError> {
 ///
 /// # Errors
 ///
-/// Returns the message of the fault.
+/// Returns the fault's message of up to three lines.
 ///
 /// ```
 /// assert_eq!(duration_str::parse_std("2h 37m"), Ok(std::time::Duration::from_secs(9_420)));
@@ -132,7 +133,7 @@ pub fn parse_std(input: impl AsRef<str>) -> Result<Duration, String> {
 ///
 /// # Errors
 ///
-/// Returns the message of the fault.
+/// Returns the fault's message of up to three lines.
 ///
 /// ```
 /// assert_eq!(duration_str::parse_chrono("2h 37m"), Ok(chrono::Duration::minutes(157)));
@@ -155,7 +156,7 @@ pub(crate) fn chrono_of(length: Duration) -> chrono::Duration {
 ///
 /// # Errors
 ///
-/// Returns the message of the fault.
+/// Returns the fault's message of up to three lines.
 ///
 /// ```
 /// assert_eq!(duration_str::parse_time("2h 37m"), Ok(time::Duration::minutes(157)));

@@ -12,7 +12,7 @@ use core::fmt;
 use core::str::FromStr;
 
 impl Options {
-    /// These options, but operators are not read.
+    /// Returns these options with `no_calc` on, so that operators are not read.
     ///
     /// ```
     /// use duration_str::{Options, parse_with};
@@ -28,7 +28,7 @@ impl Options {
         }
     }
 
-    /// These options, but units are compared as written.
+    /// Returns these options with `lowercase` on, so that capitals are not read as small letters.
     ///
     /// ```
     /// assert!(duration_str::Options::off().with_lowercase().lowercase);
@@ -41,7 +41,8 @@ impl Options {
         }
     }
 
-    /// These options, but the Chinese names of units are read too.
+    /// Returns these options with `cn_unit` on, so that the Chinese names of the units are read
+    /// too.
     ///
     /// ```
     /// assert!(duration_str::Options::off().with_cn_unit().cn_unit);
@@ -76,7 +77,7 @@ impl Default for Style {
     }
 }
 
-/// `short`, `compact` or `long`.
+/// Prints `short`, `compact` or `long`.
 impl fmt::Display for Style {
     fn fmt(&self, f: &mut fmt::Formatter<'_>) -> fmt::Result {
         f.pad(match self {
@@ -136,7 +137,7 @@ impl TimeUnit {
     pub const ALL: &'static [TimeUnit] = &UNITS;
 }
 
-/// By length: a minute is less than an hour.
+/// Units are ordered by their length: a minute is less than an hour.
 impl Ord for TimeUnit {
     fn cmp(&self, other: &TimeUnit) -> Ordering {
         self.nanos().cmp(&other.nanos())
@@ -149,7 +150,7 @@ impl PartialOrd for TimeUnit {
     }
 }
 
-/// Reads all names that are read with all options off.
+/// Reads each name of a unit that is read with all options off.
 impl FromStr for TimeUnit {
     type Err = UnknownUnit;
 
@@ -212,7 +213,7 @@ impl fmt::Debug for Tokens<'_> {
     }
 }
 
-/// The last line of a message, as [`Cause::line`] says it.
+/// Prints the last line of a message, which [`Cause::line`] returns.
 ///
 /// ```
 /// let cause = duration_str::Cause::Overflow { place: None };
@@ -234,7 +235,7 @@ mod named {
     use serde::de::{Deserialize, Deserializer, Error, Visitor};
     use serde::ser::{Serialize, Serializer};
 
-    /// Reads a name.
+    /// Reads the name of a unit or a style, and returns the unit or the style.
     struct Name<T>(PhantomData<T>);
 
     impl<T: FromStr<Err: Display>> Visitor<'_> for Name<T> {

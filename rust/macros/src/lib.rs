@@ -4,13 +4,13 @@
 use duration_str_core::{Options, parse_with, parse_with_units};
 use proc_macro::{Delimiter, Span, TokenStream, TokenTree};
 
-/// Reads a duration when the program is compiled: a constant of type
+/// Reads a duration when the program is compiled, and gives a constant of type
 /// [`Duration`](core::time::Duration). If the text is refused, the compiler reports the fault in
 /// one line.
 ///
 /// The text is a literal without escapes. All options are off, whatever features are on, unless you
-/// name them after the text: `no_calc`, `lowercase`, `cn_unit`, and `require_unit`, with which each
-/// number must have its unit.
+/// name them after the text. They are `no_calc`, `lowercase`, `cn_unit`, and `require_unit`, with
+/// which each number must have its unit.
 ///
 /// ```
 /// use duration_str::duration;
@@ -37,10 +37,10 @@ pub fn duration(input: TokenStream) -> TokenStream {
     value(input).unwrap_or_else(|(message, span)| compile_error(&message, span))
 }
 
-/// What is wrong, and where.
+/// What is wrong with the macro's input, and where.
 type Refusal = (String, Span);
 
-/// The duration, as code.
+/// The code that gives the duration.
 fn value(input: TokenStream) -> Result<TokenStream, Refusal> {
     let mut tokens = input.into_iter();
     let (written, span) = literal(tokens.next())?;
@@ -64,7 +64,7 @@ fn value(input: TokenStream) -> Result<TokenStream, Refusal> {
     )))
 }
 
-/// The literal, as it is written, and where it stands. One that a macro by example hands over
+/// The literal, as it is written, and where it stands. A literal that another macro passes on
 /// stands in a group of its own.
 fn literal(token: Option<TokenTree>) -> Result<(String, Span), Refusal> {
     match token {
@@ -84,7 +84,7 @@ fn literal(token: Option<TokenTree>) -> Result<(String, Span), Refusal> {
     }
 }
 
-/// What a string literal means: in quotes without a backslash, or raw.
+/// The text of a string literal. The literal is in quotes without a backslash, or raw.
 fn text(written: &str) -> Option<&str> {
     let (quoted, is_raw) = match written.strip_prefix('r') {
         Some(raw) => (raw.trim_matches('#'), true),
@@ -94,8 +94,8 @@ fn text(written: &str) -> Option<&str> {
     (is_raw || !text.contains('\\')).then_some(text)
 }
 
-/// The options that are named after the literal, each after a comma, and whether units are
-/// required.
+/// The options that are named after the literal, each after a comma, and whether each number must
+/// have its unit.
 fn options(mut tokens: impl Iterator<Item = TokenTree>) -> Result<(Options, bool), Refusal> {
     let (mut options, mut require_unit) = (Options::off(), false);
     while let Some(comma) = tokens.next() {
@@ -119,7 +119,7 @@ fn options(mut tokens: impl Iterator<Item = TokenTree>) -> Result<(Options, bool
     Ok((options, require_unit))
 }
 
-/// An error of the compiler at this place.
+/// The code that makes the compiler report this error at this place.
 fn compile_error(message: &str, span: Span) -> TokenStream {
     let at_span = |mut token: TokenTree| {
         token.set_span(span);
@@ -129,7 +129,7 @@ fn compile_error(message: &str, span: Span) -> TokenStream {
     error.into_iter().map(at_span).collect()
 }
 
-/// The tokens of a code.
+/// The tokens of this code.
 fn code(code: &str) -> TokenStream {
     code.parse().expect("what is made here is code")
 }

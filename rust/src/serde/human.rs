@@ -1,19 +1,20 @@
-//! For `#[serde(with = "duration_str::human")]`: durations as text.
+//! This module is for `#[serde(with = "duration_str::human")]`: durations as text.
 //! [`format_duration`](crate::format_duration) prints them, and
 //! [`parse_duration`](crate::parse_duration) reads them.
 //!
-//! The field is a duration of `std`, `chrono` or `time`, or an `Option` or a `Vec` of what can be
-//! such a field. In other collections, such as a map, use [`HumanDuration`], which needs no `with`.
+//! The field's type is a duration of `std`, `chrono` or `time`, or an `Option` or a `Vec` of such a
+//! type. In other collections, such as a map, use [`HumanDuration`], which needs no `with`.
 //!
-//! - The format is asked for a text. So YAML's `90` is 90 seconds, and formats that don't tell the
+//! - The format is asked for a text. So YAML's `90` is 90 seconds, and formats that don't store the
 //!   types of their values, such as bincode, are read too.
 //!   [`human_or_seconds`](crate::human_or_seconds) also reads numbers.
 //! - The empty text is refused.
-//! - `None` is null, and with `#[serde(default)]` a missing field.
-//! - The error is `invalid duration: ` and the line of the fault.
+//! - `None` is written as null, and read from null. With `#[serde(default)]` a missing field is
+//!   `None` too.
+//! - The error's message is `invalid duration: ` and the line of the fault.
 //!
-//! Everything that is written can be read. So a negative duration is an error of the format, and so
-//! is one of 2^64 nanoseconds or more, some 584 years.
+//! Everything that is written can be read back. So writing fails for a negative duration, and for
+//! one of 2^64 nanoseconds or more, which is some 584 years.
 //!
 //! Needs the feature `serde`.
 //!
@@ -79,7 +80,7 @@ use core::time::Duration;
 use serde::de::{self, Deserialize, Deserializer, Unexpected, Visitor};
 use serde::ser::{self, Serialize, Serializer};
 
-/// The types of the fields that this module, [`human_with_units`](crate::human_with_units) and
+/// The types of fields that this module, [`human_with_units`](crate::human_with_units) and
 /// [`human_or_seconds`](crate::human_or_seconds) write and read.
 ///
 /// A map needs no `with`:
@@ -115,7 +116,7 @@ pub trait HumanText: Sealed + Sized {
 ///
 /// # Errors
 ///
-/// Returns the format's error, also if the text couldn't be read back.
+/// Returns the format's error, also if the text could not be read back.
 ///
 /// ```
 /// use serde_json::value::Serializer;
@@ -149,14 +150,16 @@ pub fn deserialize<'de, T: HumanText, D: Deserializer<'de>>(
     T::deserialize_human::<D, TEXT>(deserializer)
 }
 
-/// How fields are read and written: as texts, read with required units, also read as whole seconds,
-/// or as by humantime.
+/// The ways in which a field is read and written. `TEXT` is a text. `WITH_UNITS` is a text in which
+/// each number needs its unit. `SECONDS` is a text or whole seconds. `STRICT` is a text as
+/// humantime reads and prints it.
 pub(crate) const TEXT: u8 = 0;
 pub(crate) const WITH_UNITS: u8 = 1;
 pub(crate) const SECONDS: u8 = 2;
 pub(crate) const STRICT: u8 = 3;
 
-/// A text, or its bytes, is read as a duration, and where `HOW` says so a whole number as seconds.
+/// Reads a text, or its bytes, as a duration. If `HOW` is `SECONDS`, it also reads a whole number
+/// as seconds.
 struct Text<T, const HOW: u8>(PhantomData<T>);
 
 impl<T: Length, const HOW: u8> Visitor<'_> for Text<T, HOW> {
@@ -213,8 +216,7 @@ impl<T: Length, const HOW: u8> Visitor<'_> for Text<T, HOW> {
             STRICT => humantime::read(text),
             _ => parse_with(text, ADDITIONS),
         };
-        // Before the line stands what it is about, since the format adds its own line and column to
-        // it.
+        // The message begins with what it is about, since the format adds its own line and column.
         read.map(T::of_std)
             .map_err(|fault| E::custom(format_args!("invalid duration: {fault}")))
     }
@@ -258,7 +260,7 @@ impl<T: Length> HumanText for T {
     }
 }
 
-/// A part of a field, by serde's own traits.
+/// A part of a field, which implements serde's own traits.
 struct Part<T, const HOW: u8>(T);
 
 impl<T: HumanText, const HOW: u8> Serialize for Part<&T, HOW> {

@@ -1,11 +1,11 @@
-//! For `#[serde(with = "duration_str::human_or_seconds")]`: like [`human`], but numbers are read
-//! too, as seconds.
+//! This module is for `#[serde(with = "duration_str::human_or_seconds")]`. It is like [`human`],
+//! but also reads numbers, as seconds.
 //!
 //! So `timeout = 30` in TOML, `"timeout": 30` in JSON and `timeout: 30` in YAML are 30 seconds. The
 //! number must be whole, and not negative. For a fraction of a second, write a text such as
 //! `"1500ms"`.
 //!
-//! Durations are written as text. The format has to tell the types of its values, which bincode and
+//! Durations are written as text. The format must store the types of its values, which bincode and
 //! similar formats don't do.
 //!
 //! Needs the feature `serde`.

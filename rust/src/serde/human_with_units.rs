@@ -1,8 +1,9 @@
-//! For `#[serde(with = "duration_str::human_with_units")]`: like [`human`], but a number without a
-//! unit is refused, as in `"90"` and `"1h 30"`. Another program's file may mean it in milliseconds.
+//! This module is for `#[serde(with = "duration_str::human_with_units")]`. It is like [`human`],
+//! but refuses a number without a unit, as in `"90"` and `"1h 30"`. Such a number may have been
+//! meant in milliseconds.
 //!
 //! [`parse_with_units`](crate::parse_with_units) reads the texts. The fields have the same types as
-//! those of [`human`], and are written as there.
+//! those of [`human`], and are written in the same way.
 //!
 //! Needs the feature `serde`.
 //!

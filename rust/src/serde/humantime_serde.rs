@@ -1,11 +1,13 @@
-//! For those who come from the crate humantime-serde.
+//! This module replaces the crate humantime-serde.
 //!
-//! This is like the module [`human`](crate::human), but fields are read and printed as the module
+//! It is like the module [`human`](crate::human), but reads and prints fields as the module
 //! [`humantime`](crate::humantime) does. So capitals and small letters differ, a number without a
-//! unit is refused, a month has 30.44 days and a year 365.25, and humantime's texts are printed.
+//! unit is refused, a month has 30.44 days and a year 365.25, and the printed texts are
+//! humantime's.
 //!
-//! There is no `Serde`: a field of the type [`HumanDuration`](crate::HumanDuration) needs no
-//! `with`, but is read as in the rest of this crate.
+//! The type `Serde` of humantime-serde is not here. A field of the type
+//! [`HumanDuration`](crate::HumanDuration) needs no `with` either, but is read as in the rest of
+//! this crate.
 //!
 //! Needs the feature `serde`.
 //!
@@ -31,11 +33,11 @@ use serde::de::Deserializer;
 use serde::ser::Serializer;
 
 /// Prints durations as text, as [`humantime::format_duration`](crate::humantime::format_duration)
-/// prints.
+/// does.
 ///
 /// # Errors
 ///
-/// That of the format, also where the value can't be read back.
+/// Returns the format's error, also if the text could not be read back.
 ///
 /// ```
 /// use serde_json::value::Serializer;
@@ -70,7 +72,7 @@ pub fn deserialize<'de, T: HumanText, D: Deserializer<'de>>(
     T::deserialize_human::<D, STRICT>(deserializer)
 }
 
-/// The same for an `Option`, under the name that humantime-serde gives it.
+/// The same calls for an `Option`, in a module of the same name as humantime-serde's.
 pub mod option {
     #[doc(no_inline)]
     pub use super::{deserialize, serialize};

@@ -1,4 +1,4 @@
-//! Durations in what serde reads.
+//! The calls of `duration-str` 0.19.0 for durations in data that serde reads.
 use crate::human_format::Sealed;
 use crate::parser::parse;
 use core::fmt;
@@ -6,8 +6,8 @@ use core::marker::PhantomData;
 use core::time::Duration;
 use serde::de::{Deserializer, Error, Unexpected, Visitor};
 
-/// Types that are read from a duration's text: the durations of `std`, `chrono` and `time`, and
-/// each of them as an `Option`.
+/// Types that are read from the text of a duration: the durations of `std`, `chrono` and `time`,
+/// and an `Option` of each.
 pub trait DeserializeDuration<'de>: Sealed + Sized {
     /// Reads a value of the type. [`deserialize_duration`] says what is read.
     ///
@@ -17,16 +17,16 @@ pub trait DeserializeDuration<'de>: Sealed + Sized {
     fn deserialize_duration<D: Deserializer<'de>>(deserializer: D) -> Result<Self, D::Error>;
 }
 
-/// Durations that are read from a text.
+/// The types of durations that are read from a text.
 pub trait Length: Sealed + Sized {
-    /// The value of a text.
+    /// Makes a duration of this type from the value of a text.
     fn of_std(length: Duration) -> Self;
 
-    /// The duration of `std`, which is never negative.
+    /// Returns the duration of `std`, or `None` if this duration is negative.
     fn to_std(&self) -> Option<Duration>;
 }
 
-/// A text is read as a duration; all else is refused.
+/// Reads a text as a duration, and refuses any other value.
 struct Required<T>(PhantomData<T>);
 
 impl<T: Length> Visitor<'_> for Required<T> {
@@ -41,7 +41,7 @@ impl<T: Length> Visitor<'_> for Required<T> {
     }
 }
 
-/// A text is read as a duration; null and the empty text are none; all else is refused.
+/// Reads a text as a duration, and null and the empty text as `None`. It refuses any other value.
 struct Optional<T>(PhantomData<T>);
 
 impl<'de, T: Length> Visitor<'de> for Optional<T> {
@@ -80,16 +80,16 @@ impl<'de, T: Length> Visitor<'de> for Optional<T> {
     }
 }
 
-/// Reads a duration, which must be a text, or an optional duration, for which null and the empty
-/// text are `None`. With `#[serde(default)]` a missing field is `None` too.
+/// Reads a duration, which must be a text; or reads an optional duration, for which null and the
+/// empty text are `None`. With `#[serde(default)]` a missing field is `None` too.
 ///
 /// Needs the feature `serde`.
 ///
-/// As in `duration-str` 0.19.0, two rules differ. A required duration must be what the format
-/// itself calls a text. An optional one may be any value that the format can give as a text. So
-/// YAML's `90` is refused as a required duration, and read as an optional one. Formats that don't
-/// tell the types of their values, such as bincode, can't have a required one.
-/// [`human`](crate::human) has one rule for both.
+/// As in `duration-str` 0.19.0, required and optional durations have different rules. A required
+/// duration must be a value that the format itself stores as a text. An optional one may be any
+/// value that the format can give as a text. So YAML's `90` is refused as a required duration, but
+/// read as an optional one. Formats that don't store the types of their values, such as bincode,
+/// can't have a required one. The module [`human`](crate::human) has one rule for both.
 ///
 /// # Errors
 ///
@@ -121,8 +121,8 @@ where
     T::deserialize_duration(deserializer)
 }
 
-/// Implements the traits for a type and its `Option`, and makes the function that reads the
-/// `Option` alone.
+/// Implements the traits for a type and its `Option`, and makes the function that reads only the
+/// `Option`.
 macro_rules! deserializes {
     ($length:ty, $of_std:path, $to_std:expr, $option_name:ident) => {
         impl Length for $length {

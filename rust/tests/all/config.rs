@@ -15,7 +15,8 @@ struct Settings<T> {
     keep_alive: Option<T>,
 }
 
-/// The settings that this value and this text of it are read as; they are the same.
+/// Reads settings from this value and from its text, checks that both give the same, and returns
+/// it.
 fn settings<T>(value: Value) -> Result<Settings<T>, String>
 where
     T: for<'de> DeserializeDuration<'de> + Debug + PartialEq,
@@ -24,7 +25,7 @@ where
     let text = value.to_string();
     let of_text = serde_json::from_str(&text).map_err(|error| error.to_string());
     let of_value = from_value(value).map_err(|error| error.to_string());
-    // For a text the message ends in its place.
+    // If the settings are read from a text, the error's message ends with the place in it.
     assert!(
         of_text == of_value
             || of_text
@@ -36,7 +37,8 @@ where
     of_value
 }
 
-/// The rows that each type of duration is read by; `length` makes one of seconds.
+/// Checks for a type of durations what each row is read as. `length` makes a duration of this type
+/// from seconds.
 fn reads_settings<T>(length: impl Fn(u64) -> T)
 where
     T: for<'de> DeserializeDuration<'de> + Debug + PartialEq,
@@ -149,8 +151,8 @@ fn reads_durations_of_time() {
     reads_settings(|secs| time::Duration::seconds(secs as i64));
 }
 
-/// A struct within another: serde keeps its values, and hands them over by other calls than a
-/// format does.
+/// A struct within another. For it serde keeps the values first, and passes them on by other calls
+/// than a format does.
 #[derive(Debug, Deserialize, PartialEq)]
 struct Job {
     name: String,

@@ -1,4 +1,4 @@
-//! Moments, against arithmetic on nanoseconds since 1970.
+//! Compares moments with arithmetic on nanoseconds since 1970.
 use chrono::{Duration, NaiveDate, NaiveDateTime, TimeZone, Utc};
 use duration_str::{
     Cause, HumanFormat, Options, after_naive_date, after_naive_date_time, before_naive_date,
@@ -8,7 +8,7 @@ use proptest::prelude::*;
 
 const SECOND: i128 = 1_000_000_000;
 
-/// The moment so many nanoseconds after 1970, where chrono has it.
+/// The moment this many nanoseconds after 1970, if chrono can represent it.
 fn after_1970(nanos: i128) -> Result<NaiveDateTime, Cause> {
     let secs = nanos.div_euclid(SECOND) as i64;
     let moment = Utc
@@ -23,7 +23,7 @@ fn moment(secs: i64, nanos: u32) -> NaiveDateTime {
     Utc.timestamp_opt(secs, nanos).unwrap().naive_utc()
 }
 
-/// Seconds since 1970, most of them near the first or the last that chrono has.
+/// Seconds since 1970, most of them near the first or the last moment that chrono can represent.
 fn secs() -> impl Strategy<Value = i64> {
     let (first, last) = (
         NaiveDateTime::MIN.timestamp(),

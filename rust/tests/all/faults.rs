@@ -1,4 +1,4 @@
-//! Texts that are refused, and what their faults tell.
+//! Texts that are refused, and what their faults say.
 use crate::{FEATURES, Refused, default_unit_of, options_of, vectors};
 use duration_str::{
     Cause, DError, Expected, Fault, Options, TimeUnit, parse, parse_duration, parse_in, parse_with,
@@ -19,7 +19,7 @@ fn fault(text: &str, options: Options) -> Fault<'_> {
     parse_with(text, options).expect_err(text)
 }
 
-/// The last line of the message of a refusal for this cause, where these kinds could stand.
+/// The last line of the message for this cause, if these kinds could stand at the place.
 fn last_line(cause: &str, kinds: &[String]) -> &'static str {
     match cause {
         "EMPTY" => "Empty input",
@@ -34,7 +34,7 @@ fn last_line(cause: &str, kinds: &[String]) -> &'static str {
 const UNITS: &str =
     r#"expected ["y", "q", "mon", "w", "d", "h", "m", "s", "ms", "µs", "us", "ns"]"#;
 
-/// A text is refused by this message of `duration-str` 0.19.0.
+/// Checks that a text is refused with this message of `duration-str` 0.19.0.
 fn checks_message(text: &str, options: Options, place: Option<usize>, line: &str) {
     let wanted = match place {
         None => line.to_string(),
@@ -194,7 +194,7 @@ fn requires_units() {
             assert_eq!(parse_with_units(text), Err(fault.into_owned()));
         }
     }
-    // What lacks no unit before its fault is refused for the same.
+    // If each number before the fault has its unit, requiring units does not change the cause.
     for text in [
         "",
         "600y",
@@ -211,7 +211,8 @@ fn requires_units() {
     }
 }
 
-/// The options of the calls that take none. Only the feature that adds names affects them.
+/// The options of the calls that take no options. Only the feature `cn_unit`, which adds names,
+/// affects them.
 const ADDITIONS: Options = Options {
     cn_unit: cfg!(feature = "cn_unit"),
     ..Options::off()

@@ -1,10 +1,10 @@
-//! Which calls read by the features.
+//! Which calls the crate's features affect.
 use duration_str::{
     Format, HumanDuration, Options, parse, parse_duration, parse_std, parse_with_units,
 };
 
-/// Texts, and whether they are read by the calls of `duration-str` 0.19.0 and by all others. Of the
-/// features only the one that adds names counts for these.
+/// Texts, and whether the calls of `duration-str` 0.19.0 and all other calls read them. Only the
+/// feature `cn_unit`, which adds names, affects the other calls.
 const TEXTS: [(&str, bool, bool); 4] = [
     ("1m", true, true),
     ("1m+1", cfg!(not(feature = "no_calc")), true),

@@ -40,7 +40,7 @@ fn writes_what_it_reads() {
     assert_eq!(short.keep_alive, None);
 }
 
-/// Where capitals and small letters differ.
+/// Settings in which capitals and small letters differ.
 #[derive(Serialize, Deserialize)]
 struct FromHumantime {
     #[serde(with = "humantime_serde")]
@@ -143,7 +143,7 @@ fn reads_optional_bytes_as_text() {
     );
 }
 
-/// A text in a format that does not tell its values' types.
+/// A text in a format that does not store the types of its values.
 struct Untyped(&'static str);
 
 impl<'de> Deserializer<'de> for Untyped {
@@ -167,7 +167,7 @@ impl<'de> Deserializer<'de> for Untyped {
     }
 }
 
-/// What each way to have a duration as text reads here; they agree.
+/// Reads a text in each way in which a field can be a duration as text, and checks that all agree.
 fn read<D: Deserializer<'static, Error = Error>>(text: impl Fn() -> D) -> Result<Duration, String> {
     let required: Result<Duration, Error> = human::deserialize(text());
     let optional: Result<Option<Duration>, Error> = human::deserialize(text());
@@ -205,7 +205,7 @@ fn reads_bytes_as_text() {
     assert_eq!(bytes(b"1m\xff"), Err(Error::custom(refusal)));
 }
 
-/// The value is written as this, and read back.
+/// Checks that the value is written as `written`, and read back from it.
 fn keeps<T: HumanText + std::fmt::Debug + PartialEq>(value: T, written: Value) {
     assert_eq!(human::serialize(&value, Serializer).unwrap(), written);
     assert_eq!(human::deserialize::<T, _>(written).unwrap(), value);
@@ -262,7 +262,7 @@ fn writes_nothing_that_it_refuses() {
     );
 }
 
-/// Where each number must have its unit.
+/// Settings in which each number must have its unit.
 #[derive(Debug, Serialize, Deserialize, PartialEq)]
 struct WithUnits {
     #[serde(with = "duration_str::human_with_units")]
@@ -295,13 +295,13 @@ fn requires_units_in_fields() {
         let line = "invalid duration: expected a unit at column 3, found the end";
         assert_eq!(refusal, line);
     }
-    // A text is asked for, so a number in YAML is one without a unit.
+    // The format is asked for a text, so YAML's number 90 is read as a text without a unit.
     let number: Result<Duration, _> = human_with_units::deserialize(Untyped("90"));
     assert!(number.is_err());
     assert!(human_with_units::deserialize::<Duration, _>(json!(90)).is_err());
 }
 
-/// What is read of a value of a format, in one way by a field of each type.
+/// Reads a value of a format as a text or as whole seconds.
 fn with_numbers<'de, D: Deserializer<'de, Error = Error>>(value: D) -> Result<Duration, String> {
     human_or_seconds::deserialize(value).map_err(|error| error.to_string())
 }
@@ -309,7 +309,7 @@ fn with_numbers<'de, D: Deserializer<'de, Error = Error>>(value: D) -> Result<Du
 #[test]
 fn reads_whole_seconds_and_texts() {
     let minute = Ok(Duration::from_secs(60));
-    // JSON and YAML tell of positive numbers without a sign, and TOML of all with one.
+    // JSON and YAML pass positive numbers on as unsigned, and TOML passes all numbers on as signed.
     assert_eq!(with_numbers(U64Deserializer::new(60)), minute);
     assert_eq!(with_numbers(I64Deserializer::new(60)), minute);
     assert_eq!(with_numbers(U128Deserializer::new(60)), minute);
@@ -372,7 +372,7 @@ fn refuses_other_numbers_in_one_line() {
         format!("invalid duration: {}", parse_duration("600y").unwrap_err())
     );
     assert!(human::deserialize::<Duration, _>(json!(60)).is_err());
-    // TOML asks for no text where a number stands.
+    // TOML does not turn a number into a text.
     let number = || I64Deserializer::<Error>::new(60);
     assert!(human::deserialize::<Duration, _>(number()).is_err());
     assert!(humantime_serde::deserialize::<Duration, _>(number()).is_err());

@@ -1,5 +1,5 @@
-//! Every item of humantime 2.1 for durations and each of their traits, but for the variants of its
-//! error. The example of a service compiles this over humantime too.
+//! Uses every item of humantime 2.1 for durations and each of their traits, except the variants of
+//! its error. The example `service` compiles this file with humantime too.
 use crate::humantime::{
     Duration, DurationError, FormattedDuration, format_duration, parse_duration,
 };
@@ -7,7 +7,7 @@ use std::collections::HashSet;
 use std::error::Error;
 use std::time::Duration as StdDuration;
 
-/// All that a shared error has to be.
+/// Checks that an error can be shared between threads.
 fn is_shared(_: &(dyn Error + Send + Sync + 'static)) {}
 
 #[test]

@@ -39,7 +39,8 @@ fn has_the_lengths_of_humantime() {
     }
 }
 
-/// A further name that the module takes for one of another unit would be read as 30 or 365 days.
+/// If the module did not know a name as one of a year or a month, it would read it as 365 or 30
+/// days.
 #[test]
 fn knows_each_name_of_a_year_and_of_a_month() {
     let documentation = include_str!("../../src/lib.rs");
@@ -64,7 +65,7 @@ fn knows_each_name_of_a_year_and_of_a_month() {
     }
 }
 
-/// The cause of a syntax fault at this place.
+/// Whether the cause is a syntax fault at this place.
 fn is_syntax(cause: Cause, at: usize) -> bool {
     matches!(cause, Cause::Syntax { place, .. } if place == at)
 }
@@ -80,7 +81,8 @@ fn lacks_unit(cause: Cause) -> bool {
 #[test]
 fn refuses_for_the_first_cause() {
     let cause = |text| parse_duration(text).unwrap_err().cause();
-    // In seconds the first two are a little more than 2^64.
+    // Multiplied by their length in seconds, the numbers of the first two are a little more than
+    // 2^64.
     for text in [
         "584542046091y",
         "7013928460401month",
@@ -93,7 +95,7 @@ fn refuses_for_the_first_cause() {
     ] {
         assert_eq!(cause(text), Cause::Overflow { place: Some(0) }, "{text}");
     }
-    // With months of 30 days the last but one is a sum mixed with a product.
+    // With months of 30 days, the last text but one would be refused as a sum mixed with a product.
     for text in [
         "1s 584542046091y",
         "1s 7014month",
@@ -154,7 +156,8 @@ fn refuses_for_the_first_cause() {
     );
 }
 
-/// The names of units with their length in seconds, if that is another one than elsewhere.
+/// Names of units, with the unit's length in seconds if it differs from that in the rest of the
+/// crate.
 const NAMES: [(&str, Option<u64>); 10] = [
     ("y", Some(YEAR)),
     ("years", Some(YEAR)),
@@ -206,7 +209,7 @@ proptest! {
     fn reads_further_names_as_the_others(
         text in r"[0-9 ]{0,3}((h|hr|hrs|min|mins|sec|secs|millis|nanos|wk|x)[ .+*]{1,2}[0-9]{0,2}){0,4}",
     ) {
-        // Names of the same length, so that all places stay.
+        // The replacements have the same length as the names, so all places stay the same.
         let others = [("hrs", "hr "), ("mins", "min "), ("secs", "sec "), ("millis", "ms    "),
             ("nanos", "ns   "), ("wk", "w ")]
             .iter()

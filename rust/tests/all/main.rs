@@ -1,4 +1,4 @@
-//! What the crate's calls answer, under the features that it is built with.
+//! Tests what the crate's calls return, under the features that it is built with.
 #[cfg(feature = "serde")]
 mod config;
 #[cfg(feature = "chrono")]
@@ -20,7 +20,7 @@ fn has(names: &[String], name: &str) -> bool {
     names.iter().any(|each| each == name)
 }
 
-/// Options of which those with these names are on.
+/// The options in which those with these names are on.
 fn options_of(names: &[String]) -> Options {
     Options {
         no_calc: has(names, "no_calc"),
@@ -29,8 +29,8 @@ fn options_of(names: &[String]) -> Options {
     }
 }
 
-/// The default unit under the options with these names: the second, unless one of them names
-/// another or requires a unit.
+/// The default unit under the options with these names. It is the second, unless one of them names
+/// another unit or requires units.
 fn default_unit_of(names: &[String]) -> Option<TimeUnit> {
     if has(names, "require_unit") {
         return None;
@@ -41,7 +41,7 @@ fn default_unit_of(names: &[String]) -> Option<TimeUnit> {
     Some(named.map_or(TimeUnit::Second, |name| name.parse().unwrap()))
 }
 
-/// All choices of options, each as the names of those that are on.
+/// All choices of options, each as the names of the options that are on.
 fn choices() -> Vec<Vec<String>> {
     vectors().options.iter().fold(vec![vec![]], |lists, name| {
         let with_it = lists
@@ -58,22 +58,22 @@ const FEATURES: Options = Options {
     cn_unit: cfg!(feature = "cn_unit"),
 };
 
-/// What texts are read as, why they are refused, and what durations print as: `vectors.json`, which
-/// the tests of all packages read.
+/// The file `vectors.json`, which the tests of all packages read. It has texts with their values,
+/// texts that are refused, and durations with their printed texts.
 #[derive(Deserialize)]
 struct Vectors {
-    /// The names of the options of which each choice is tried. A row may also name `require_unit`
+    /// The names of the options. Every choice of them is tried. A row may also name `require_unit`
     /// or a default unit, such as `default_unit=ms`.
     options: Vec<String>,
     values: Vec<Group>,
     printed: Vec<Printed>,
     printed_in: Vec<PrintedIn>,
-    /// Texts that are refused, with all that is told of them.
+    /// Texts that are refused, with everything that their faults say.
     refused: Vec<Refused>,
 }
 
-/// Texts of one value, in seconds and nanoseconds, which are read if these options are on and those
-/// are off.
+/// Rows of a value, in seconds and nanoseconds, and its texts. They are read if the options in `on`
+/// are on and the options in `off` are off.
 #[derive(Deserialize)]
 struct Group {
     on: Vec<String>,
@@ -81,8 +81,8 @@ struct Group {
     rows: Vec<(u64, u32, Vec<String>)>,
 }
 
-/// A text, its options, its cause, the byte of its place, what was found and could stand there, the
-/// line, and the spaces before the caret, where the report has one.
+/// A text, its options, its cause, the byte of its place, the token that was found there, the kinds
+/// that could stand there, the line, and the spaces before the caret, if the report has a caret.
 #[derive(Deserialize)]
 struct Refused(
     String,
@@ -95,15 +95,15 @@ struct Refused(
     Option<usize>,
 );
 
-/// A duration's text, or its seconds and nanoseconds as `1 s 1 ns`; its largest and its smallest
-/// unit, how many parts at most; and the printed text, in the short and in the long style.
+/// A duration's text, or its seconds and nanoseconds as `1 s 1 ns`; the largest and the smallest
+/// unit and the greatest number of parts; and the printed text, in the short and in the long style.
 #[derive(Deserialize)]
 struct Printed(String, String, String, usize, String, String);
 
 /// All styles.
 pub const STYLES: &[Style] = &[Style::Short, Style::Compact, Style::Long];
 
-/// What is printed in each style, given two of the texts.
+/// The printed text in each style, given the short and the long one.
 pub fn in_styles(short: &str, long: &str) -> Vec<(Style, String)> {
     let text = |style: Style| match style {
         Style::Short => short.to_string(),

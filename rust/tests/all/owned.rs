@@ -1,4 +1,4 @@
-//! Faults that own their text, and faults in sets.
+//! Tests errors that own their text, and faults in sets.
 use crate::{choices, options_of};
 use duration_str::{Cause, DError, DurationError, Options, TimeUnit, parse_with};
 use duration_str_core::{self as proved, Tokens};
@@ -66,5 +66,5 @@ fn keeps_faults_in_sets() {
     assert_eq!(HashSet::from(bare).len(), 2);
 }
 
-// Constants can call these.
+// A constant can call these.
 const _: () = assert!(TimeUnit::Minute.nanos() == 60_000_000_000 && Cause::Empty.place().is_none());

@@ -8,7 +8,7 @@ use std::time::Duration;
 #[cfg(any(feature = "chrono", feature = "time"))]
 use {duration_str::Style, proptest::prelude::*};
 
-/// The duration with this text, which may be too long to be read.
+/// The duration that this text stands for, also if it is too long to be read by the crate.
 fn length_of(text: &str) -> Duration {
     let numbers = text
         .strip_suffix(" ns")
@@ -49,7 +49,8 @@ fn prints_the_vectors_in_chosen_units() {
     }
 }
 
-/// Each call takes units out, so their order doesn't matter, and none brings a unit back.
+/// Each call takes units out of the set. So the order of the calls doesn't matter, and none of them
+/// brings a unit back.
 #[test]
 fn takes_units_out_in_any_order() {
     const USUAL: FormattedDuration = format_duration(Duration::from_secs(500 * 86_400 + 3_661))
@@ -144,7 +145,7 @@ fn prints_whole(length: Duration, printed: &str) {
     }
 }
 
-/// A precision would cut the text of the duration to that of another one.
+/// If a precision cut the text, it could become the text of another duration.
 #[test]
 fn pads_and_ignores_a_precision() {
     let human = format_duration(Duration::from_secs(90));
@@ -166,7 +167,7 @@ fn pads_and_ignores_a_precision() {
     );
 }
 
-/// How minus 5401 seconds print, padded, in a unit and in a style.
+/// Checks how minus 5401 seconds print: padded, in a unit and in a style.
 #[cfg(any(feature = "chrono", feature = "time"))]
 fn prints_negative(length: impl HumanFormat) {
     let printed = length.formatted();
@@ -203,7 +204,7 @@ fn prints_negative_durations_of_time() {
     let longest = Duration::new(i64::MAX as u64, 999_999_999).human_format();
     assert_eq!(Signed::MAX.human_format(), longest);
     assert_eq!((-Signed::MAX).human_format(), format!("-{longest}"));
-    // One second more than the longest one.
+    // `MIN` is one second longer than `MAX`.
     assert_eq!(
         Signed::MIN.human_format(),
         format!("-{longest}").replace(" 7s", " 8s")

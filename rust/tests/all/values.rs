@@ -6,7 +6,7 @@ use duration_str::{
 use duration_str_core as proved;
 use std::time::Duration;
 
-/// A text's answer by each call that takes no options.
+/// What each call that takes no options returns for a text.
 fn answers(text: &str) -> Vec<Result<Duration, String>> {
     Vec::from([
         parse(text),
@@ -20,7 +20,8 @@ fn answers(text: &str) -> Vec<Result<Duration, String>> {
     ])
 }
 
-/// Under these options each text of the group is read as its row's value, or refused.
+/// Checks that under these options each text of the group is read as its row's value, or is
+/// refused.
 fn check(group: &Group, options: Options, is_read: bool) {
     let default_unit = default_unit_of(&group.on);
     for (secs, nanos, texts) in &group.rows {
@@ -39,8 +40,9 @@ fn check(group: &Group, options: Options, is_read: bool) {
     }
 }
 
-/// Where a number without a unit counts seconds, the calls that take no default unit answer as the
-/// one that does, and those without options under the features.
+/// Checks a text in which a number without a unit counts seconds. The calls that take no default
+/// unit must return what the call with the default unit returns, and the calls that take no options
+/// what it returns under the features' options.
 fn check_seconds(text: &str, options: Options) {
     let wanted = parse_with_default_unit(text, options, Some(TimeUnit::Second));
     assert_eq!(parse_with(text, options), wanted, "{text:?}");
@@ -69,7 +71,7 @@ fn reads_the_vectors_and_refuses_them_under_the_other_options() {
     }
 }
 
-/// The call for a program whose numbers have another unit. It knows no operators.
+/// `parse_in` is for a program whose numbers count another unit. It reads no operators.
 #[test]
 fn reads_in_another_unit() {
     for unit in TimeUnit::ALL {

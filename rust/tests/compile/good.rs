@@ -1,5 +1,5 @@
 #![no_std]
-// For `main` alone.
+// Only `main` needs `std`.
 extern crate std;
 
 use duration_str::duration;

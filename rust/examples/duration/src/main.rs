@@ -1,10 +1,11 @@
-//! duration EXPRESSION: the expression's nanoseconds, what they print as, and the moment so long
-//! after 2000-01-01T00:00:00Z in seconds since 1970; or what is wrong with it.
+//! `duration EXPRESSION` prints the expression's value in nanoseconds, that value as a printed
+//! duration, and the moment that much after 2000-01-01T00:00:00Z, in seconds since 1970. Or it
+//! prints what is wrong with the expression.
 use chrono::{TimeZone, Utc};
 use duration_str::{Fault, HumanFormat, Options, moment_after, parse_with};
 use std::process::ExitCode;
 
-/// The line that tells of an expression.
+/// The line that is printed for an expression.
 fn line_of(expression: &str) -> Result<String, Fault<'_>> {
     let off = Options::off();
     let start = Utc

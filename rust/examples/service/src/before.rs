@@ -1,4 +1,4 @@
-//! The program before it was changed over, for the test of what its texts meant then.
+//! The program before it moved to this crate, for the test of what its texts meant then.
 use ::humantime;
 use std::error::Error;
 

@@ -1,4 +1,5 @@
-//! What was read and printed before the change-over, beside what is read and printed after it.
+//! Compares what is read and printed before the move to this crate with what is read and printed
+//! after it.
 use duration_str::humantime as after;
 use duration_str::humantime_serde;
 use humantime as before;
@@ -20,7 +21,7 @@ impl Numbers {
         (self.next() % limit as u64) as usize
     }
 
-    /// One of as many digits as may be, so that short ones are not rare.
+    /// A number with a random count of digits, so that short numbers are not rare.
     fn any(&mut self) -> u64 {
         self.next() >> self.below(64)
     }
@@ -37,7 +38,7 @@ const NAMES: [&str; 35] = [
     "day", "d", "weeks", "week", "w", "months", "month", "M", "years", "year", "y",
 ];
 
-/// 2^64 nanoseconds, from which on no text is read after the change-over.
+/// 2^64 nanoseconds. After the move, no text of this duration or a longer one is read.
 const LIMIT: Duration = Duration::new(18_446_744_073, 709_551_616);
 
 #[test]
@@ -105,7 +106,7 @@ fn prints_what_was_printed_and_reads_it() {
             serde_json::to_value(&stored).unwrap(),
             serde_json::json!({ "length": is })
         );
-        // Beyond what is read here
+        // A duration that is too long to be read by this crate
         let long = Duration::new(numbers.any(), 999_999_999);
         let was = before::format_duration(long).to_string();
         assert_eq!(after::format_duration(long).to_string(), was);

@@ -1,6 +1,6 @@
-//! A program that was written for humantime 2 and humantime-serde 1; `before.rs` has its import of
-//! then. To change it over, these dependencies in Cargo.toml became `duration-str`, and the import
-//! the first one here.
+//! A program that was written for humantime 2 and humantime-serde 1. To move it to this crate,
+//! these dependencies in Cargo.toml became `duration-str`, and one import changed to the first one
+//! below. `before.rs` has the old import.
 use duration_str::{humantime, humantime_serde};
 use std::error::Error;
 
@@ -22,7 +22,7 @@ mod tests {
     use crate::service::{Arguments, settings};
     use clap::Parser;
 
-    /// What the program prints for these arguments and this configuration.
+    /// Returns what the program prints for these arguments and this configuration.
     fn output(arguments: &[&str], config: &str) -> Result<String, String> {
         let name = (std::process::id(), std::thread::current().id());
         let file = std::env::temp_dir().join(format!("service-{name:?}"));

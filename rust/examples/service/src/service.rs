@@ -34,7 +34,7 @@ struct Config {
     idle: Option<Duration>,
 }
 
-/// The settings, and how long all of three attempts take at most.
+/// Returns the text of the settings, and how long three attempts take at most.
 pub fn settings(arguments: &Arguments) -> Result<String, Box<dyn Error + Send + Sync>> {
     let mut config: Config = serde_json::from_str(&std::fs::read_to_string(&arguments.config)?)?;
     config.timeout = arguments.timeout.unwrap_or(config.timeout);
@@ -64,8 +64,8 @@ mod humantime_items;
 mod tests {
     use super::{Arguments, Parser};
 
-    /// Timeouts, and the seconds that each is after the change-over and before it; 0 is for one
-    /// that is refused.
+    /// Timeouts, with the seconds that each is after the move to this crate and before it. 0 stands
+    /// for a text that is refused.
     const TIMEOUTS: [(&str, [u64; 2]); 10] = [
         ("1h 30m", [5_400, 5_400]),
         ("2weeks 3days", [1_468_800, 1_468_800]),
