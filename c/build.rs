@@ -1,6 +1,6 @@
-//! Names the shared library as an installed one is named. The number is raised whenever a
-//! structure, a number or a signature of the header changes or goes; the Makefile takes it from
-//! here.
+//! Gives the shared library the name that an installed one has. The number in it is raised whenever
+//! a structure, a number or a signature of the header changes or is removed. The Makefile reads the
+//! number here.
 fn main() {
     println!("cargo:rerun-if-changed=build.rs");
     if std::env::var("CARGO_CFG_TARGET_OS").as_deref() == Ok("linux") {

@@ -1,5 +1,5 @@
-//! The functions of `duration_str.h`: each makes slices of C's pointers and calls the proved
-//! function of its name.
+//! The functions of `duration_str.h`. Each makes slices of C's pointers and calls the proved
+//! function of the same name.
 #![deny(clippy::no_mangle_with_rust_abi)]
 use crate::{answer::Answer, limits, message};
 use core::mem::{MaybeUninit, offset_of, zeroed};
@@ -8,7 +8,7 @@ use core::{ptr::copy_nonoverlapping, slice::from_raw_parts};
 // The fields lie where C looks for them.
 const _: () = assert!(offset_of!(Answer, has_place) == 16 + 2 * size_of::<usize>());
 
-/// A caller's text, which may be null if it is empty.
+/// The text of a caller. The pointer may be null if the text is empty.
 unsafe fn bytes<'a>(start: *const u8, len: usize) -> &'a [u8] {
     if len == 0 {
         &[]
@@ -17,9 +17,10 @@ unsafe fn bytes<'a>(start: *const u8, len: usize) -> &'a [u8] {
     }
 }
 
-/// Has a call write to a buffer of its own, and copies the text and the zero after it to the
-/// caller's, which C may not have initialised. To such memory no reference may be made: Rust's
-/// Reference wants one to point to a valid value ("Behavior considered undefined").
+/// Lets a call write to a buffer of this function, and copies the text and the zero after it to the
+/// caller's buffer, which C may not have initialised. Rust may make no reference to such memory,
+/// since a reference must point to a valid value (the Rust Reference, "Behavior considered
+/// undefined").
 fn written<const SIZE: usize>(
     out: &mut MaybeUninit<[u8; SIZE]>,
     write: impl FnOnce(&mut [u8; SIZE]) -> usize,

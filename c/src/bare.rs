@@ -1,7 +1,8 @@
-//! What a library without Rust's `std` has to have.
+//! The items that a library without Rust's `std` has to define.
 use core::panic::PanicInfo;
 
-// That no call panics is proved; the compiler does not know it everywhere.
+// It is proved that no call panics, but the compiler does not always know this, and asks for a
+// handler.
 #[panic_handler]
 fn panic(_: &PanicInfo<'_>) -> ! {
     abort()
@@ -16,8 +17,9 @@ unsafe extern "C" {
     safe fn abort() -> !;
 }
 
-// The division of 128 bits that rustc adds names this symbol of `std`, and nobody calls it. A
-// hidden one is not exported, and a weak one gives way where a program has that of `std`.
+// The code that rustc adds for 128-bit divisions refers to this symbol of `std`, and nobody calls
+// it. The symbol is hidden, so that it is not exported, and weak, so that it gives way in a program
+// that contains the one of `std`.
 #[cfg(target_os = "linux")]
 core::arch::global_asm!(
     ".pushsection .rodata",

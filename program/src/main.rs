@@ -23,7 +23,7 @@ fn outcome() -> (u8, &'static str) {
 fn main() -> ExitCode {
     let (status, line) = outcome();
     if !line.is_empty() {
-        // The status says the same, so a failure to write this line is ignored.
+        // The exit status says the same, so it does not matter if this line can't be written.
         let _ = writeln!(io::stderr(), "{line}");
     }
     ExitCode::from(status)

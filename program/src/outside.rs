@@ -1,4 +1,4 @@
-//! What stands here for the toolchain's library: a vector and a text whose memory can be refused.
+//! Replaces the toolchain's library: a vector and a text whose memory can be refused.
 use std::fmt;
 use std::marker::PhantomData;
 use std::ops::Deref;
@@ -6,10 +6,10 @@ use std::ops::Deref;
 /// Memory was refused.
 pub struct AllocError;
 
-/// From where memory is taken.
+/// Where memory comes from.
 pub trait Allocator {}
 
-/// Rust's own allocator, whatever is named.
+/// Rust's own allocator, whatever allocator the program names.
 pub struct Heap;
 
 impl Allocator for Heap {}
@@ -51,7 +51,7 @@ impl<A: Allocator> String<A> {
         self.0.extend_from_slice(text.as_bytes())
     }
 
-    /// What `write!` calls. Nothing fails but memory.
+    /// The method that `write!` calls. It fails only if memory is refused.
     pub fn write_fmt(&mut self, arguments: fmt::Arguments<'_>) -> Result<(), AllocError> {
         fmt::Write::write_fmt(self, arguments).map_err(|_| AllocError)
     }
@@ -69,7 +69,7 @@ impl<A: Allocator> fmt::Write for String<A> {
 
 #[test]
 fn asks_for_as_much_as_it_takes() {
-    // These take no memory, so that one more than can be counted is what is refused.
+    // Elements of this type take no memory, so only the one that is too many to count is refused.
     let mut values = Vec::new(Heap);
     assert!(values.extend_from_slice(&[()]).is_ok());
     assert!(values.extend_from_slice(&[(); usize::MAX]).is_err());
