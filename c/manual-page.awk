@@ -1,5 +1,6 @@
-# The header as the description of a manual page: each comment as paragraphs, and below it what it describes; a call has a
-# heading, its declaration and then the comment. With the variable `synopsis` the calls' declarations alone.
+# Turns the header into the description of a manual page. Each comment becomes paragraphs, with the
+# declaration that it describes below them. A call gets a heading, its declaration, and then its
+# comment. With the variable `synopsis` set, only the declarations of the calls are written.
 BEGIN { RS = "" }
 
 function literal(text) { return ".Bd -literal\n" text "\n.Ed" }

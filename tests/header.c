@@ -1,6 +1,6 @@
-/* Calls what the header declares, and tells each answer that is not the one expected. It compiles
- * as C and as C++, so that the header and the library are seen to agree on each struct and each
- * number. */
+/* Calls each function that the header declares, and prints each answer that is not the expected
+ * one. It compiles as C and as C++, and shows that the header and the library agree on each struct
+ * and each number. */
 #include <stdio.h>
 #include <string.h>
 
@@ -15,8 +15,9 @@ static void expect(bool holds, const char *what) {
     }
 }
 
-/* What is told of a text, by each call that takes options. Each byte of the answer is set before,
- * so that one that is not written shows. */
+/* Reads a text by each call that takes options, checks that they agree, and returns the answer.
+ * Each byte of the answer is set before the call, so that a field that the call does not write
+ * shows. */
 static struct duration_str_answer read_with(const char *text, uint32_t options) {
     struct duration_str_answer answer, of_line, of_report;
     char line[DURATION_STR_ONE_LINE_BUFFER_SIZE], report[DURATION_STR_REPORT_BUFFER_SIZE];
@@ -36,8 +37,8 @@ static struct duration_str_answer read_with(const char *text, uint32_t options) 
     return answer;
 }
 
-/* A syntax fault at this byte, where these kinds could stand, and at which a piece of so many bytes
- * stands. */
+/* Whether the answer is a syntax fault at this byte, where these kinds could stand, and where a
+ * token of `found_length` bytes stands. */
 static bool is_syntax(
     struct duration_str_answer answer, size_t place, uint32_t expected, size_t found_length) {
     return answer.cause == DURATION_STR_CAUSE_SYNTAX && answer.has_place == 1 &&
@@ -46,7 +47,8 @@ static bool is_syntax(
            answer.later_operator == 0;
 }
 
-/* Any bytes are refused for these options, and nothing else is told of them. */
+/* Whether texts are refused for an unknown option under these options, and the answer says nothing
+ * else. */
 static bool is_unknown(uint32_t options) {
     struct duration_str_answer answer = read_with("1m", options), not_text;
     char line[DURATION_STR_ONE_LINE_BUFFER_SIZE], report[DURATION_STR_REPORT_BUFFER_SIZE];
@@ -137,7 +139,8 @@ static void check_refusals(void) {
     expect(strcmp(duration_str_cause_name(9), "") == 0, "no name");
 }
 
-/* What is written is this text of so many bytes and a zero, and what follows is as before. */
+/* Whether the buffer has this text, of `length` bytes, and a zero byte, and the byte after these is
+ * as it was before. */
 static bool is_written(const char *buffer, size_t length, const char *wanted) {
     return length == strlen(wanted) && memcmp(buffer, wanted, length + 1) == 0 &&
            buffer[length + 1] == '#';
@@ -157,7 +160,7 @@ static void check_plain_calls(void) {
     expect(duration_str_parse(text, 3, &nanos) && nanos == 3000000, "a text that is read");
 }
 
-/* What a null text of length 0 is read as, in each call that takes a text. */
+/* Checks how each call that takes a text reads a null text of length 0. */
 static void check_null_texts(void) {
     uint64_t nanos = 7;
     struct duration_str_answer answer;
@@ -166,7 +169,8 @@ static void check_null_texts(void) {
     expect(answer.cause == DURATION_STR_CAUSE_EMPTY, "its answer");
 }
 
-/* Whether a duration is printed so, in these units, parts and style, over a buffer of marks. */
+/* Whether a duration is printed as `wanted`, in these units, parts and style, to a buffer of marks.
+ * */
 static bool is_printed(uint64_t secs, uint32_t nanos, uint32_t units, uint32_t parts,
     uint32_t style, const char *wanted) {
     char printed[DURATION_STR_STYLED_BUFFER_SIZE];

@@ -1,6 +1,6 @@
-// Durations for Go, over the library for C: a field of a configuration, such as
-// `{"timeout": "1h 30m"}`. `go run duration.go TEXT` reads a text as one, and prints it, by itself
-// and in JSON. pkg-config finds the library that `make install` has installed.
+// Durations for Go, by the library for C, for a field of a configuration such as
+// `{"timeout": "1h 30m"}`. `go run duration.go TEXT` reads a text as such a field, and prints the
+// duration by itself and in JSON. pkg-config finds the library that `make install` has installed.
 package main
 
 // #cgo pkg-config: duration_str
@@ -17,7 +17,7 @@ import (
 	"unsafe"
 )
 
-// Duration is read from a text, and prints as one.
+// Duration is a duration that is read from a text and printed as a text.
 type Duration struct{ time.Duration }
 
 // UnmarshalText reads a text, in which each number has a unit. The error is the library's line.
@@ -46,7 +46,8 @@ func (duration Duration) MarshalText() ([]byte, error) {
 	return []byte(duration.String()), nil
 }
 
-// String prints the duration; one below zero, which the library doesn't read, as Go does.
+// String prints the duration. It prints one below zero, which the library doesn't print, as Go
+// does.
 func (duration Duration) String() string {
 	if duration.Duration < 0 {
 		return duration.Duration.String()

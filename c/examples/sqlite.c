@@ -1,6 +1,6 @@
-/* Durations in SQLite's SQL: `parse_duration(text)` is an INTEGER of nanoseconds, and a refused
- * text an error with the library's line; `format_duration(nanos)` is the printed text. `.load
- * ./sqlite` loads it in sqlite3. */
+/* Durations in SQLite's SQL. `parse_duration(text)` returns an INTEGER of nanoseconds; a refused
+ * text is an error with the library's line. `format_duration(nanos)` returns the printed text. In
+ * sqlite3, `.load ./sqlite` loads this extension. */
 #include <sqlite3ext.h>
 
 #include "duration_str.h"
@@ -13,13 +13,14 @@ static void parse(sqlite3_context *context, int count, sqlite3_value **values) {
     char line[DURATION_STR_ONE_LINE_BUFFER_SIZE];
     const int type = sqlite3_value_type(values[0]);
     if (type == SQLITE_INTEGER || type == SQLITE_FLOAT) {
-        /* As a text, a number counts seconds; format_duration takes nanoseconds. */
+        /* A number could mean either: as a text it counts seconds, but format_duration takes
+         * nanoseconds. */
         sqlite3_result_error(context, "a duration is a TEXT, such as '1h 30m'", -1);
         return;
     }
     const char *text = (const char *)sqlite3_value_text(values[0]);
     if (text == NULL)
-        return; /* NULL of NULL */
+        return; /* NULL gives NULL. */
     if (duration_str_one_line(text, (size_t)sqlite3_value_bytes(values[0]), 0, &answer, line) > 0)
         sqlite3_result_error(context, line, -1);
     else if (answer.nanos > INT64_MAX)

@@ -7,18 +7,18 @@
  * change during a call: if another thread may change it, or another process
  * in a mapped file, copy the text first.
  *
- * What a function writes ends with a zero byte, which the returned length
- * doesn't count. The rest of a buffer is unchanged.
+ * A text that a function writes ends with a zero byte, which the returned
+ * length doesn't count. The rest of a buffer is unchanged.
  *
  * No function allocates memory, keeps state, calls back or throws. All of them
  * may be called from several threads at once.
  *
  * The grammar: a text is one term or several. A term is a number and a unit,
- * such as `3m` or `29 ms`. Terms are joined by `+` or by `*`; terms that
- * follow one another are added. A number without a unit counts seconds, unless
- * an option says otherwise, and must be last or before an operator. Blanks
- * (space, tab, carriage return, line feed) may be anywhere except inside a
- * number or a unit.
+ * such as `3m` or `29 ms`. Terms are joined by `+` or by `*`. If the operator
+ * is left out, as in `3m 13s`, the terms are added. A number without a unit
+ * counts seconds, unless an option says otherwise. Such a number must be last
+ * or before an operator. Blanks (space, tab, carriage return, line feed) may
+ * be anywhere except inside a number or a unit.
  *
  * Units: y year years, q quarter quarters, mon month months, w week weeks, d
  * day days, h hr hour hours, m min minute minutes, s sec second seconds, ms
@@ -26,8 +26,8 @@
  * microseconds, ns nsec nanosecond nanoseconds. The Chinese names, which an
  * option adds: 年 year, 月 month, 周 week, 日 天 day, 时 hour, 分 minute, 秒 second,
  * 毫秒 millisecond, 微秒 microsecond, 纳秒 nanosecond.
- * A year has 365 days, a quarter 91 and a month 30. Numbers are below 2^64, and
- * values below 2^64 nanoseconds. */
+ * A year has 365 days, a quarter 91 and a month 30. A number must be below
+ * 2^64, and a value below 2^64 nanoseconds. */
 #ifndef DURATION_STR_H
 #define DURATION_STR_H
 
@@ -44,25 +44,25 @@
      DURATION_STR_VERSION_MINOR * 1000 + DURATION_STR_VERSION_PATCH)
 #define DURATION_STR_VERSION "0.19.0"
 
-/* The longest text that duration_str_format prints, in bytes. */
+/* The most bytes that a text of duration_str_format has. */
 #define DURATION_STR_MAX_PRINTED_LEN 60
-/* The size of the buffer that it prints into. */
+/* The size of the buffer that duration_str_format prints into. */
 #define DURATION_STR_FORMAT_BUFFER_SIZE 64
 
-/* The longest text that duration_str_format_styled prints, in any style. */
+/* The most bytes that a text of duration_str_format_styled has, in any style. */
 #define DURATION_STR_MAX_STYLED_LEN 134
-/* The size of the buffer that it prints into. */
+/* The size of the buffer that duration_str_format_styled prints into. */
 #define DURATION_STR_STYLED_BUFFER_SIZE 144
 
-/* No line of duration_str_one_line is longer than this, in bytes. */
+/* The most bytes that a line of duration_str_one_line has. */
 #define DURATION_STR_MAX_ONE_LINE_LEN 294
-/* The size of the buffer that it writes into. */
+/* The size of the buffer that duration_str_one_line writes into. */
 #define DURATION_STR_ONE_LINE_BUFFER_SIZE 384
 
 /* The size of the buffer that duration_str_report writes into. */
 #define DURATION_STR_REPORT_BUFFER_SIZE 867
 
-/* Attributes for GCC and Clang. They tell how many bytes a buffer has (in C),
+/* Attributes for GCC and Clang. They say how many bytes a buffer has (in C),
  * which pointers may not be null, and which results must be used. */
 #if defined __GNUC__ && !defined __cplusplus
 #define DURATION_STR_AT_LEAST static
@@ -87,26 +87,26 @@ extern "C" {
  * other bit is set, every text is refused, with the cause
  * DURATION_STR_CAUSE_UNKNOWN_OPTION. */
 enum duration_str_option {
-    /* `+` and `*` are not read; terms are added one by one */
+    /* `+` and `*` are not read, and the terms are added one by one */
     DURATION_STR_OPTION_NO_CALC = 1,
-    /* units are compared as written; without this option ASCII capitals are
-     * read as small letters */
+    /* capitals are not read as small letters; without this option ASCII
+     * capitals are */
     DURATION_STR_OPTION_LOWERCASE = 2,
     /* the Chinese names of the units are read too */
     DURATION_STR_OPTION_CN_UNIT = 4,
     /* after a number only a unit can stand, so that `90` and `1h 30` are
-     * refused; without this option such a number counts seconds */
+     * refused; without this option a number without a unit counts seconds */
     DURATION_STR_OPTION_REQUIRE_UNIT = 8
 };
 
-/* The option by which a number without a unit counts this unit, one of
- * `enum duration_str_unit`, and not seconds: with milliseconds `1500` and
- * `1s 500` are 1.5 seconds.
+/* With this option a number without a unit counts `unit`, one of
+ * `enum duration_str_unit`, instead of seconds. For example, with milliseconds
+ * `1500` and `1s 500` are 1.5 seconds.
  *
- * It includes DURATION_STR_OPTION_NO_CALC, since a factor counts this unit too:
- * with milliseconds `90s*2` would be 180 ms. Without that bit it is an unknown
- * option, and so it is beside DURATION_STR_OPTION_REQUIRE_UNIT, and with a
- * number that no unit has. */
+ * The option includes DURATION_STR_OPTION_NO_CALC, since a factor would count
+ * this unit too: with milliseconds `90s*2` would be 180 ms. The option is
+ * unknown if you take that bit out, if you add
+ * DURATION_STR_OPTION_REQUIRE_UNIT, or if no unit has the number `unit`. */
 #define DURATION_STR_OPTION_DEFAULT_UNIT(unit) \
     (DURATION_STR_OPTION_NO_CALC | ((unit) + UINT32_C(1)) << 16)
 
@@ -120,7 +120,8 @@ enum duration_str_cause {
     DURATION_STR_CAUSE_SYNTAX = 2,
     /* a number is 2^64 or more */
     DURATION_STR_CAUSE_NUMBER_TOO_LARGE = 3,
-    /* a term, a step or the value is 2^64 nanoseconds or more */
+    /* a term, a step of the evaluation or the value is 2^64 nanoseconds or
+     * more */
     DURATION_STR_CAUSE_OVERFLOW = 4,
     /* `+` and `*` are mixed */
     DURATION_STR_CAUSE_MIXED = 5,
@@ -130,9 +131,9 @@ enum duration_str_cause {
     DURATION_STR_CAUSE_UNKNOWN_OPTION = 8
 };
 
-/* Returns the name of a cause, such as `NUMBER_TOO_LARGE`. For a number that is
- * no cause it is empty. This is an inline function of the header, and no symbol
- * of the library. */
+/* Returns the name of a cause, such as `NUMBER_TOO_LARGE`. If the number is no
+ * cause, returns an empty string. This is an inline function of the header,
+ * and no symbol of the library. */
 static inline const char *duration_str_cause_name(uint32_t cause)
 {
     static const char *const names[] = {
@@ -165,14 +166,15 @@ enum duration_str_unit {
     DURATION_STR_UNIT_NANOSECOND = 10
 };
 
-/* All units, as a set. A set of units is a `uint32_t` with a bit for each. */
+/* All units, as a set. A set of units is a `uint32_t` with a bit for each
+ * unit. */
 #define DURATION_STR_UNITS_ALL UINT32_C(0x7FF)
 
 /* The set of one unit of `enum duration_str_unit`. Sets are joined by `|`. */
 #define DURATION_STR_UNITS(unit) (UINT32_C(1) << (unit))
 
-/* The set of the units from the largest to the smallest. It is empty, which is
- * 0, if the largest is shorter than the smallest. */
+/* The set of the units from `largest` to `smallest`. The set is empty, which
+ * is 0, if `largest` is shorter than `smallest`. */
 #define DURATION_STR_UNITS_BETWEEN(largest, smallest) \
     (((UINT32_C(2) << (smallest)) - 1) & (UINT32_MAX << (largest)))
 
@@ -183,8 +185,8 @@ enum duration_str_style {
     DURATION_STR_STYLE_LONG = 2     /* `1 hour 30 minutes` */
 };
 
-/* What a text is read as, or why and where it is refused. A field that doesn't
- * apply is 0. */
+/* The answer to a text: its value, or why and where it is refused. A field
+ * that doesn't apply is 0. */
 struct duration_str_answer {
     /* if the text is read: its value in nanoseconds */
     uint64_t nanos;
@@ -199,8 +201,8 @@ struct duration_str_answer {
     /* for DURATION_STR_CAUSE_SYNTAX: what could stand at `place`, as bits of
      * `enum duration_str_expected` */
     uint32_t expected;
-    /* 1 or 0: whether `place` is set; it is for DURATION_STR_CAUSE_SYNTAX, and
-     * if the first term is too large */
+    /* 1 if `place` is set, and otherwise 0; it is set for
+     * DURATION_STR_CAUSE_SYNTAX, and if the first term is too large */
     uint8_t has_place;
     /* for DURATION_STR_CAUSE_MIXED: the operator that came first, '+' or '*' */
     char first_operator;
@@ -226,16 +228,17 @@ size_t duration_str_format(
  * `buffer`, which has DURATION_STR_STYLED_BUFFER_SIZE bytes. Returns the length
  * of the text, at most DURATION_STR_MAX_STYLED_LEN.
  *
- * `style` is one of `enum duration_str_style`. The text has only units of the
- * set `units`, and at most `parts` parts. It is the lexicographically greatest
- * breakdown of this kind that is not above the duration: 90,061 seconds in two
- * parts are `1d 1h`, and 180 days in all units without the quarter and the week
- * are `6mon`.
+ * `style` is one of `enum duration_str_style`. The text has as many of the
+ * largest unit in the set `units` as fit, then as many of the next, and so on,
+ * until it has `parts` parts. (It is the lexicographically greatest breakdown
+ * of this kind that is not above the duration.) For example, 90,061 seconds in
+ * two parts are `1d 1h`, and 180 days in all units without the quarter and the
+ * week are `6mon`.
  *
- * If all counts are 0, the text is `0` and the name of the smallest unit in the
- * set, such as `0h`. If that unit is shorter than a second, the text is `0s`,
- * even if the set has no second. It is this text for every duration if `parts`
- * is 0, and `0s` if the set is empty.
+ * If all counts are 0, the text is `0` and the name of the smallest unit in
+ * the set, such as `0h`. If that unit is shorter than a second, the text is
+ * `0s`, even if the set has no second. If `parts` is 0, every duration has
+ * this text. If the set is empty, every duration has the text `0s`.
  *
  * Returns 0, and the text is empty, if `nanos` is 1,000,000,000 or more, if
  * `style` is above 2, or if `units` is above DURATION_STR_UNITS_ALL. */
@@ -260,9 +263,10 @@ bool duration_str_parse_with(const char *text, size_t length,
  * Returns the length of the line, at most DURATION_STR_MAX_ONE_LINE_LEN. If the
  * text is read, returns 0, and the line is empty.
  *
- * At most 40 characters show the text. What can't be seen, or could do harm in
- * a terminal or a log, is escaped. For bytes that are not UTF-8 the line is
- * `not UTF-8`, and for an unknown option bit it is `unknown option`. */
+ * The line quotes at most 40 characters of the text. Characters that can't be
+ * seen, or could do harm in a terminal or a log, are escaped. For bytes that
+ * are not UTF-8 the line is `not UTF-8`, and for an unknown option bit it is
+ * `unknown option`. */
 DURATION_STR_NONNULL(4, 5)
 size_t duration_str_one_line(
     const char *text, size_t length, uint32_t options,
@@ -272,13 +276,13 @@ size_t duration_str_one_line(
 /* Reads a text as duration_str_one_line does. If the text is refused, writes a
  * report for a terminal to the start of `buffer`: the text, below it a caret
  * under the place, and below that the line of duration_str_one_line. `buffer`
- * has DURATION_STR_REPORT_BUFFER_SIZE bytes, which the report and its zero
- * don't exceed. Returns the length of the report, or 0 if the text is read.
+ * has DURATION_STR_REPORT_BUFFER_SIZE bytes, in which each report and its zero
+ * byte fit. Returns the length of the report, or 0 if the text is read.
  *
  * The report is the line alone if the cause is not DURATION_STR_CAUSE_SYNTAX,
  * if the text has more than 80 characters, or if the line would escape
- * something in it. Before the caret there are as many spaces as the text before
- * the place takes columns. */
+ * something in the text. Before the caret there are as many spaces as the text
+ * before the place takes columns. */
 DURATION_STR_NONNULL(4, 5)
 size_t duration_str_report(
     const char *text, size_t length, uint32_t options,

@@ -1,10 +1,10 @@
-/* What must hold of every answer of the library, tried on any bytes: libFuzzer's target with
- * WITH_LIBFUZZER, and otherwise a program that is given a file of texts, as tests/texts.py makes
- * it.
+/* Checks what must hold for every answer of the library, on any bytes. With WITH_LIBFUZZER it is
+ * libFuzzer's target. Otherwise it is a program that reads a file of texts, which tests/texts.py
+ * makes.
  *
- * Each text is at the end of a page that can't be written, before a page that can't be read, and
- * each buffer at the end of a page, before one that can't be written. What the answers have to be
- * is not said here: tests/compare does that. */
+ * Each text is at the end of a page that can't be written, before a page that can't be read. Each
+ * buffer is at the end of a page, before a page that can't be written. This file does not say what
+ * the answers are: tests/compare checks that. */
 #define _GNU_SOURCE
 #include <stdio.h>
 #include <stdlib.h>
@@ -41,7 +41,8 @@ static void fail(const char *what, int line) {
 
 /* ---- Memory with an end that is watched */
 
-/* Where bytes are written to, and where the same bytes are handed to the library. */
+/* Memory that is mapped twice: bytes are written to the one place, and the library reads them at
+ * the other. */
 struct region {
     uint8_t *written_end;
     uint8_t *end;
@@ -55,7 +56,7 @@ static uint8_t *mapped(int file, int protection) {
     return start + PAGE + ROOM;
 }
 
-/* Memory for texts: it can be read alone at `end`. */
+/* Memory for texts: at `end` it can only be read. */
 static struct region text_region(void) {
     int file = memfd_create("text", 0);
     HOLDS(file >= 0 && ftruncate(file, ROOM) == 0);
@@ -78,13 +79,14 @@ struct text {
     size_t length;
 };
 
-/* The bytes at the end of a region. */
+/* Copies the bytes to the end of a region, and returns them as a text. */
 static struct text text_at(struct region region, const uint8_t *bytes, size_t length) {
     memcpy(region.written_end - length, bytes, length);
     return (struct text){region.end - length, length};
 }
 
-/* So many bytes at the end of an output region, all of them and some before them set to the canary.
+/* Returns `room` bytes at the end of an output region. They and some bytes before them are set to
+ * the canary.
  */
 static uint8_t *buffer_at(uint8_t *end, size_t room) {
     memset(end - room - CANARIES, CANARY, room + CANARIES);
@@ -117,7 +119,8 @@ static bool are_equal(struct duration_str_answer one, struct duration_str_answer
 
 /* ---- What must hold of an answer */
 
-/* What is read prints in few bytes, and reads back under all choices. */
+/* A value that is read prints in few bytes, and its text is read back under all choices of options.
+ * */
 static void check_printed(uint64_t nanos) {
     uint8_t *buffer = buffer_at(output_end, 64);
     size_t length = duration_str_format(nanos, (char *)buffer);
@@ -130,8 +133,8 @@ static void check_printed(uint64_t nanos) {
     }
 }
 
-/* A report and a zero stand in its buffer, which it fits, beside the same answer; it is empty where
- * the text is read. */
+/* A report and its zero byte fit into the buffer, and the call gives the same answer as the others.
+ * The report is empty if the text is read. */
 static void check_report(struct text text, uint32_t options, struct duration_str_answer wanted) {
     struct duration_str_answer answer;
     uint8_t *buffer = buffer_at(output_end, DURATION_STR_REPORT_BUFFER_SIZE);
@@ -144,7 +147,7 @@ static void check_report(struct text text, uint32_t options, struct duration_str
 
 /* ---- All together */
 
-/* The plain call agrees with the full one. */
+/* The call without options agrees with the one that takes options. */
 static void check_plain(struct text text, struct duration_str_answer answer) {
     uint64_t before = 0x0123456789abcdef, *nanos = (void *)buffer_at(number_end, sizeof *nanos);
     memcpy(nanos, &before, sizeof before);
@@ -155,7 +158,8 @@ static void check_plain(struct text text, struct duration_str_answer answer) {
 }
 
 #ifdef WITH_LIBFUZZER
-/* What libFuzzer counts as new, since the library is built without its counters. */
+/* Counters of answers, by which libFuzzer knows what is new, since the library is built without its
+ * counters. */
 __attribute__((section("__libfuzzer_extra_counters"))) static uint8_t counters[1 << 12];
 
 static void count(struct duration_str_answer answer) {
@@ -168,7 +172,8 @@ static void count(struct duration_str_answer answer) {
 #define count(answer) ((void)0)
 #endif
 
-/* The default unit matters to numbers without a unit alone, and that of the second is as none. */
+/* The default unit only affects texts that have a number without a unit, and the second as the
+ * default unit changes nothing. */
 static void check_default_units(struct text text, const struct duration_str_answer *answers) {
     const struct duration_str_answer required =
         answers[DURATION_STR_OPTION_NO_CALC | DURATION_STR_OPTION_REQUIRE_UNIT];
@@ -213,7 +218,7 @@ int LLVMFuzzerTestOneInput(const uint8_t *data, size_t size) {
 }
 
 #ifndef WITH_LIBFUZZER
-/* Before each text of the file stand two bytes of its length, the lower one first. */
+/* Two bytes with the length stand before each text of the file, the lower one first. */
 int main(int count, char **words) {
     static uint8_t text[UINT16_MAX];
     FILE *file = count == 2 ? fopen(words[1], "rb") : NULL;
