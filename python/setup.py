@@ -1,6 +1,7 @@
-"""Builds the extension module over the library for C: the archive that DURATION_STR_LIB names, or
-else the one that cargo builds of the proved sources without their contracts. Each build is made
-anew, in a temporary folder, and nothing is written beside the sources but copies of the licences.
+"""Builds the extension module with the library for C. The library is the archive that
+DURATION_STR_LIB names, or otherwise the one that cargo builds from the proved sources without their
+contracts. Each build starts anew in a temporary folder. Beside the sources, only copies of the
+licences are written.
 """
 
 import atexit
@@ -27,13 +28,13 @@ INCLUDE = CHECKOUT / "c/include" if IS_CHECKOUT else HERE / "include"
 
 
 def demand(is_there, what):
-    """Ends with a line that says what is missing."""
+    """Ends the build with a line that says what is missing, unless it is there."""
     if not is_there:
         raise SystemExit(f"to build duration-str, install {what}")
 
 
 def copy_crates(folder):
-    """Copies what cargo builds the library of."""
+    """Copies the sources from which cargo builds the library."""
     files = [
         "Cargo.toml",
         "c/Cargo.toml",
@@ -46,13 +47,13 @@ def copy_crates(folder):
         for file in filter(pathlib.Path.is_file, CRATES.glob(pattern)):
             copy = pathlib.Path(folder, file.relative_to(CRATES))
             copy.parent.mkdir(parents=True, exist_ok=True)
-            # Without its mode: a folder that can't be written to could not be deleted.
+            # The mode is not copied, since a folder that can't be written to could not be deleted.
             shutil.copyfile(file, copy)
 
 
 def by_cargo(room):
-    """The archive that cargo builds in this folder, of a copy, since cargo writes beside the
-    sources.
+    """Builds the archive by cargo in this folder, from a copy of the sources, since cargo writes
+    beside them.
     """
     demand(
         shutil.which("cargo"),
@@ -75,13 +76,13 @@ def by_cargo(room):
         not subprocess.run(words).returncode,
         "Rust 1.85 or later: cargo could not build the library for C",
     )
-    # CARGO_BUILD_TARGET adds a folder.
+    # If CARGO_BUILD_TARGET is set, cargo puts the archive one folder deeper.
     name = "duration_str.lib" if sys.platform == "win32" else "libduration_str.a"
     return next((room / "target").glob(f"**/release/{name}"))
 
 
 def archive(room):
-    """The archive's file."""
+    """Returns the archive's file."""
     named = os.environ.get("DURATION_STR_LIB")
     if named:
         demand(
@@ -92,7 +93,7 @@ def archive(room):
 
 
 class Linked(build_ext):
-    """The module is linked with the archive."""
+    """Builds the module and links it with the archive."""
 
     def build_extension(self, extension):
         header = pathlib.Path(sysconfig.get_path("include"), "Python.h")
@@ -107,7 +108,8 @@ class Linked(build_ext):
 
 
 class Sources(sdist):
-    """The sources of the library are packed too, and the tests with what they read."""
+    """Makes an sdist that also has the sources of the library, and the tests with the files that
+    they read."""
 
     def make_release_tree(self, base_dir, files):
         super().make_release_tree(base_dir, files)
@@ -122,15 +124,15 @@ class Sources(sdist):
         shutil.copytree(INCLUDE, pathlib.Path(base_dir, "include"))
 
 
-# Debian's setuptools asks for these under other interpreters than Debian's, too.
+# Debian's setuptools uses these attributes also with other interpreters than Debian's.
 install.install_layout = install.prefix_option = None
-# Earlier versions of setuptools have the command of another package.
+# Earlier versions of setuptools get this command from another package.
 if {"bdist_wheel", "dist_info"} & set(sys.argv):
     demand(
         any(map(importlib.util.find_spec, ["wheel", "setuptools.command.bdist_wheel"])),
         "wheel, beside setuptools",
     )
-# Interpreters without a lock have no limited API.
+# Interpreters without a global lock have no limited API.
 limited = not sysconfig.get_config_var("Py_GIL_DISABLED")
 if IS_CHECKOUT:
     for name in ["LICENSE", "NOTICE"]:

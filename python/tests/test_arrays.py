@@ -1,5 +1,5 @@
-"""What columns of NumPy and pandas are read as, and what they print. Without NumPy that it is
-missed.
+"""Tests how columns of NumPy and pandas are read and printed. Without NumPy it tests the error that
+says so.
 """
 
 import datetime
@@ -23,7 +23,7 @@ MINUTE = 60 * SECOND
 
 
 def numbers(result):
-    """The nanoseconds of timedelta64[ns], one after the other, with None where one is missing."""
+    """The nanoseconds of an array of timedelta64[ns], in a list. A missing value is None."""
     values = result if isinstance(result, numpy.ndarray) else result.to_numpy()
     assert values.dtype == numpy.dtype("timedelta64[ns]"), values.dtype
     return [
@@ -32,7 +32,7 @@ def numbers(result):
 
 
 class Name(str):
-    """A str of another type."""
+    """A subclass of str."""
 
 
 @unittest.skipIf(numpy, "NumPy and pandas are installed")

@@ -1,4 +1,4 @@
-"""What columns of texts are read as."""
+"""Tests how columns of texts are read."""
 
 import ctypes
 import mmap
@@ -22,7 +22,7 @@ LENGTHS = [0, 1, 2, 20_000]
 
 
 def buffers_of(encoded, code="q"):
-    """The bytes of texts one after the other, and their offsets."""
+    """The texts' bytes one after the other, and the texts' offsets."""
     return b"".join(encoded), array(code, accumulate(map(len, encoded), initial=0))
 
 
@@ -68,7 +68,7 @@ class Columns(unittest.TestCase):
         for length in LENGTHS:
             with self.subTest(length=length):
                 values = array("Q", range(length))
-                # Longer and longer, as the room for a copy is
+                # Texts that become longer and longer, up to the room for a copy
                 texts = [f"{value}ns".rjust(value % 600) for value in values]
                 self.assertEqual(parse_many(texts), values)
                 self.assertEqual(parse_many(texts, errors="coerce"), (values, array("Q")))
@@ -133,7 +133,7 @@ class Columns(unittest.TestCase):
         self.assertEqual(parse_many(texts, errors="coerce"), wanted)
         error = error_of(parse_many, texts)
         self.assertEqual((error.index, error.cause, error.text), (1, Cause.NOT_TEXT, "\ud800"))
-        # Two halves of a character that stand in two texts are no character.
+        # The two halves of a character are no character if they are in two texts.
         self.assertEqual(list(parse_many(["\ud83d", "\ude00"], errors="coerce")[1]), [0, 1])
 
     def test_wants_str(self):
@@ -168,7 +168,7 @@ class Buffers(unittest.TestCase):
             for given in [data, bytearray(data), memoryview(data), array("b", data), mapped]:
                 self.assertEqual(parse_buffers(given, offsets), wanted)
         whole = memoryview(offsets)
-        # ctypes names the order of bytes.
+        # In ctypes, the format of a buffer also names the order of the bytes.
         counts = [
             whole.cast("B").cast("n"),
             whole.cast("B").cast("N"),
@@ -194,7 +194,7 @@ class Buffers(unittest.TestCase):
             while not has_ended.is_set():
                 turns.append(time.sleep(0))
 
-        # No thread is made to give way.
+        # The interpreter doesn't make a thread give way.
         sys.setswitchinterval(60)
         try:
             threading.Thread(target=take_turns).start()
@@ -288,7 +288,7 @@ class Buffers(unittest.TestCase):
             self.assertEqual(
                 (str(error), error.report), ("at index 1: not UTF-8", "at index 1: not UTF-8")
             )
-        # Two texts that are cut within a character
+        # Two texts that are cut in the middle of a character
         self.assertEqual(
             list(parse_buffers("1µs".encode(), array("q", [0, 2, 4]), errors="coerce")[1]), [0, 1]
         )

@@ -1,4 +1,4 @@
-"""Why texts are refused."""
+"""Tests the errors that say why a text is refused."""
 
 import copy
 import pickle
@@ -16,7 +16,7 @@ error_of = functools.partial(vectors.error_of, parse_ns)
 
 
 class JobError(DurationError):
-    """A caller's own."""
+    """A subclass of the error, as a caller may write it."""
 
 
 class Errors(unittest.TestCase):
@@ -67,7 +67,7 @@ class Errors(unittest.TestCase):
         self.assertEqual((str(error), error.report), (line, line))
 
     def test_costs_little(self):
-        """Of Python's functions a refusal calls one, the error's own."""
+        """A refusal calls only one function that is written in Python: the error's `__init__`."""
         called = []
         sys.setprofile(
             lambda frame, event, _: called.append(frame.f_code.co_name) if event == "call" else None

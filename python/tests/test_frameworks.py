@@ -1,4 +1,4 @@
-"""Durations as pydantic, argparse and Click read them, by the recipes of README.md."""
+"""Tests how pydantic, argparse and Click read durations, by the recipes of README.md."""
 
 import argparse
 import datetime
@@ -26,13 +26,13 @@ def has(name):
 
 
 def recipe(name):
-    """The program in README.md whose first line is its name."""
+    """The program in README.md whose first line has this name."""
     told = importlib.metadata.metadata("duration-str").get_payload()
     return re.search(rf"^```python\n(# {name}\n.*?)^```$", told, re.M | re.S)[1]
 
 
 def run(name, *words):
-    """The status, output and last line of standard error of a recipe."""
+    """Runs a recipe, and returns its status, its output and its last line on standard error."""
     with tempfile.TemporaryDirectory() as room:
         file = pathlib.Path(room, name)
         file.write_text(recipe(name), encoding="utf-8")
@@ -115,7 +115,7 @@ class Lines(unittest.TestCase):
 @unittest.skipUnless(has("dask") and has("pandas"), "Dask or pandas is missing")
 class Cluster(unittest.TestCase):
     def test_reads_a_million_texts_in_several_processes(self):
-        # 250,000 times 90 and 7,200 seconds
+        # 250,000 times 90 seconds and 7,200 seconds
         self.assertEqual(run("cluster.py"), (0, "21093 days 18:00:00 [1, 5, 9]\n", ""))
 
 
@@ -198,7 +198,7 @@ class Models(unittest.TestCase):
             )
 
     def models_with(self, **words):
-        """Models of one field that has these demands, assigned and in `Annotated`."""
+        """Models with one field that has these limits: once assigned, and once in `Annotated`."""
         field = self.pydantic.Field(**words)
         for annotation, default in [
             (duration_str.Duration, field),

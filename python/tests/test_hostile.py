@@ -1,6 +1,6 @@
-"""Calls with wrong types, subclasses that say other things of themselves than they are, buffers of
-the wrong kind or order, and values that change while they are read: each gets an error, or the
-answer for what is there.
+"""Tests calls with wrong types, with subclasses that say something else than they hold, with
+buffers of the wrong kind or order, and with values that change while they are read. Each call must
+give an error, or the answer for the values that are there.
 """
 
 import concurrent.futures
@@ -34,7 +34,7 @@ SECOND = 10**9
 
 
 class Named(str):
-    """A str that says other things of itself than it holds."""
+    """A str whose methods say something else than it holds."""
 
     def __len__(self):
         return 7
@@ -50,7 +50,7 @@ class Named(str):
 
 
 class Equal(type):
-    """A metaclass by which all types are the same."""
+    """A metaclass that says that all types are equal."""
 
     def __eq__(cls, other):
         return True
@@ -64,7 +64,7 @@ class Odd(metaclass=Equal):
 
 
 class Number(int):
-    """An int that says other things of itself."""
+    """An int whose methods give wrong answers."""
 
     def __divmod__(self, other):
         return "no", "pair"
@@ -74,7 +74,7 @@ class Number(int):
 
 
 def parse_any(data, offsets):
-    """The values of a column, of which the first that is refused is raised too."""
+    """Reads a column with both choices of `errors`, and returns its values."""
     try:
         parse_buffers(data, offsets)
     except (DurationError, RuntimeError):
@@ -238,10 +238,12 @@ class Hostile(unittest.TestCase):
                 )
 
     def test_reads_what_threads_overwrite(self):
-        """For two seconds, in which the bytes are written to without the interpreter's lock."""
+        """Reads for two seconds, while threads write to the bytes without the interpreter's
+        lock."""
         texts = 20_000
         offsets = array("q", range(0, 4 * texts + 1, 4))
-        # A character of four bytes, and one that ends a text, begin where others have a number.
+        # The second column has a character of four bytes, and the third bytes that are not UTF-8,
+        # where the first has a number and its unit.
         columns = [encoded * texts for encoded in ["1µs".encode(), "😀".encode(), b"1\xc2 1"]]
         with tempfile.TemporaryFile() as written, tempfile.TemporaryFile() as source:
             for file, data in [(written, columns[0]), (source, b"".join(columns))]:
@@ -278,7 +280,7 @@ class Hostile(unittest.TestCase):
 
         def serve(_):
             interpreter = interpreters.create()
-            # Before 3.13 an error is raised, and later returned.
+            # Before Python 3.13 the error is raised. Later versions return it.
             failed = interpreters.run_string(interpreter, program)
             interpreters.destroy(interpreter)
             return failed
@@ -305,7 +307,7 @@ class Hostile(unittest.TestCase):
 
     @unittest.skipIf(os.environ.get("DURATION_STR_SLOW") == "no", "it is slow")
     def test_keeps_no_memory(self):
-        # Of 2,000 texts the last needs more room for its copy.
+        # The last of 2,000 texts needs more room for its copy.
         column = bytearray(b"1s" * 2_000 + b" " * 70_000)
         offsets = array("i", [*range(0, 4_000, 2), 74_000])
 
@@ -328,7 +330,7 @@ class Hostile(unittest.TestCase):
                 duration_str._native.read_list(
                     missing, array("Q", [0, 0]), 0, True, 0, lambda *_: -(2**63)
                 )
-                # Python keeps each int below 257 for ever.
+                # The numbers are above 256, since Python keeps each smaller int for ever.
                 numbers = [*range(1_000, 1_200), *[None] * 200, "x"]
                 for call in (
                     lambda: parse_many(["1s", "x"]),
@@ -348,7 +350,7 @@ class Hostile(unittest.TestCase):
         tracemalloc.start()
         try:
             before = kept(1_000)
-            # 100,000 readings, and as many refusals
+            # 100,000 calls that read a text, and as many that refuse one
             self.assertLess(kept(20_000) - before, 2_000)
         finally:
             tracemalloc.stop()

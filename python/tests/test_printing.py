@@ -1,4 +1,4 @@
-"""What durations print as."""
+"""Tests how durations are printed."""
 
 import datetime
 import random
@@ -14,13 +14,13 @@ UNITS = ["y", "q", "mon", "w", "d", "h", "min", "s", "ms", "µs", "ns"]
 
 
 def length_of(text):
-    """The nanoseconds of a text, which may be too long to be read."""
+    """The nanoseconds of a text of the vectors, also if the duration is too long to be read."""
     secs, is_long, nanos = text.removesuffix(" ns").partition(" s ")
     return int(secs) * SECOND + int(nanos) if is_long else parse_ns(text)
 
 
 def in_styles(short, long):
-    """What is printed in each style that there is, given two of the texts."""
+    """The printed text in each style, given the short and the long one."""
     texts = {"short": short, "compact": short.replace(" ", ""), "long": long}
     return [(style, texts[style]) for style in typing.get_args(Style)]
 

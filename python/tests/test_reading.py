@@ -1,4 +1,4 @@
-"""What texts are read as."""
+"""Tests how texts are read."""
 
 import concurrent.futures
 import datetime

@@ -1,5 +1,5 @@
-"""A caller, which mypy checks by what the package says of its types: what it refuses is marked, and
-has to be refused.
+"""A caller that mypy checks against the types of the package. The lines that mypy must refuse are
+marked, and mypy reports a mark on any other line.
 """
 
 import datetime

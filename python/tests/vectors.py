@@ -1,5 +1,5 @@
-"""What texts are read as, why they are refused, and what durations print as: the vectors that both
-packages are tested by.
+"""The file vectors.json, by which the tests of all packages check how texts are read and refused,
+and how durations are printed.
 """
 
 import itertools
@@ -8,21 +8,21 @@ import pathlib
 
 from duration_str import DurationError
 
-# In a checkout beside the package, in an sdist inside it
+# In a clone the file is beside the package, and in an sdist inside it.
 FOLDERS = pathlib.Path(__file__).parents[1:3]
 FILE = next(file for folder in FOLDERS if (file := folder / "rust/vectors.json").exists())
 VECTORS = json.loads(FILE.read_text(encoding="utf-8"))
 
 
 def words_of(names):
-    """The options that these names are, as a call takes them by its keywords. A name is
-    `default_unit=ms`, or that of an option that is on.
+    """Turns names of options into the keywords of a call. A name is that of an option that is on,
+    or a default unit such as `default_unit=ms`.
     """
     words = {name: True for name in names if "=" not in name}
     return words | dict(name.split("=") for name in names if "=" in name)
 
 
-# Every combination of the options, and each default unit or required unit that a row has.
+# Every choice of the options, and each default unit, or requirement of units, that a row names.
 NAMES = [name for group in VECTORS["values"] for name in group["on"]]
 UNITS = sorted({name for name in NAMES if name not in VECTORS["options"]})
 CHOICES = itertools.product((False, True), repeat=len(VECTORS["options"]))
@@ -31,8 +31,8 @@ CHOICES = [[*names, *unit] for names in CHOICES for unit in ([], *([unit] for un
 
 
 def values_under(names):
-    """The vectors' texts for a choice, with their values in nanoseconds, or None if they are
-    refused.
+    """The texts of the vectors for a choice of options, with their values in nanoseconds, or None
+    for a text that is refused.
     """
     unit = {*names} & {*UNITS}
     for group in VECTORS["values"]:
@@ -44,8 +44,8 @@ def values_under(names):
 
 
 def value_columns():
-    """For each choice the options and the vectors' texts, also those that are refused under it
-    alone.
+    """For each choice, the options and the texts of the vectors, including the texts that only this
+    choice refuses.
     """
     for names in CHOICES:
         refused = [(text, None) for text, on, *_ in VECTORS["refused"] if {*on} == {*names}]
@@ -57,7 +57,7 @@ def refused_positions(values):
 
 
 def error_of(call, *arguments, **words):
-    """The error by which a call refuses what it is given."""
+    """The error that a call raises for these arguments."""
     try:
         value = call(*arguments, **words)
     except DurationError as error:

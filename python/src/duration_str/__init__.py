@@ -1,6 +1,6 @@
-"""Reads durations as people write them, such as `3m + 13s + 29ms`, and
-prints them, such as `3min 13s 29ms`. An error says what is wrong, and a
-syntax error also where. The library that reads and prints is proved.
+"""Reads durations as people write them, such as `3m + 13s + 29ms`, and prints
+them, such as `3min 13s 29ms`. An error says what is wrong. A syntax error also
+says where. The library that reads and prints is proved.
 
 >>> import duration_str
 >>> duration_str.parse("3m + 13s + 29ms")
@@ -8,12 +8,13 @@ datetime.timedelta(seconds=193, microseconds=29000)
 >>> duration_str.format(193_029_000_000)
 '3min 13s 29ms'
 
-A text is one term or several. A term is a number and a unit. Terms are
-joined by `+` or by `*`; terms that follow one another are added. A product
-multiplies its terms in seconds. A number without a unit counts seconds,
-unless an option says otherwise, and must be last or before an operator.
-Blanks may be anywhere except inside a number or a unit. Numbers are below
-2**64, and values below 2**64 nanoseconds.
+A text is one term or several. A term is a number and a unit, such as `3m`.
+Terms are joined by `+` or by `*`. If the operator is left out, as in `3m 13s`,
+the terms are added. A product multiplies its terms in seconds. A number
+without a unit counts seconds, unless an option says otherwise. Such a number
+must be last or before an operator. Blanks may be anywhere except inside a
+number or a unit. A number must be below 2**64, and a value below 2**64
+nanoseconds.
 
 The units:
 
@@ -61,8 +62,8 @@ For other packages:
 
 In a model of pydantic a field may have the type `Duration`, or
 `DurationWithUnits`, which refuses a number without a unit. `DurationField`
-gives options to such a type. These are only annotations: `parse` makes a
-value.
+makes such a type with other options. These types are only annotations: to make
+a value, call `parse`.
 """
 # The table of units above is made by tests/repository --write.
 
@@ -97,7 +98,7 @@ __all__ += [
 ]
 __version__ = "0.19.0"
 
-# Errors, pickles and documentation name what is public by this module.
+# In errors, pickles and documentation, public names are those of this module.
 for _public in [*map(globals().get, __all__), format]:
     _public.__module__ = __name__
 del _public

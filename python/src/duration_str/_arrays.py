@@ -21,8 +21,8 @@ _NAT = -(2**63)
 
 
 def _is_missing(value: Any) -> bool:
-    """Whether a value is None, NaN, or what pandas has for them."""
-    # No value is of a module that isn't imported.
+    """Whether a value is None, NaN, or a value by which pandas marks missing ones."""
+    # If a module isn't imported, no value has one of its types.
     numpy: Any = sys.modules.get("numpy")
     pandas: Any = sys.modules.get("pandas")
     if pandas is not None:
@@ -32,8 +32,7 @@ def _is_missing(value: Any) -> bool:
 
 
 def _flat(values: Any) -> list[Any]:
-    """The values of a sequence, or of an array one after the other, with None where one is
-    masked."""
+    """The values of a sequence, or of an array one after the other. A masked value is None."""
     import numpy
 
     pandas = sys.modules.get("pandas")
@@ -50,8 +49,8 @@ def _flat(values: Any) -> list[Any]:
 
 
 def _lengths(values: Any) -> Any:
-    """The array of timedelta64 that the values are, with NaT where one is masked, or None if they
-    are something else.
+    """The values as an array of timedelta64, or None if they are not of that type. A masked value
+    is NaT.
     """
     import numpy
 
@@ -62,7 +61,8 @@ def _lengths(values: Any) -> Any:
 
 
 def _like(values: Any, result: Any) -> Any:
-    """A flat array as what the values are: a Series or an Index, or an array of the same shape."""
+    """Turns a flat array into what the values are: a Series, an Index, or an array of their
+    shape."""
     pandas = sys.modules.get("pandas")
     if pandas is not None and isinstance(values, pandas.Series):
         return pandas.Series(result, index=values.index, name=values.name)
@@ -72,8 +72,8 @@ def _like(values: Any, result: Any) -> Any:
 
 
 def _nanos_of_value(value: Any, index: int, raises: bool) -> int:
-    """The timedelta64[ns] of a value that is not a text: NaT if it is missing, or refused without
-    an error."""
+    """The nanoseconds of a value that is not a text. They stand for NaT if the value is missing, or
+    if it is refused and no error is to be raised."""
     import numpy
 
     if _is_missing(value):
@@ -92,7 +92,8 @@ def _nanos_of_value(value: Any, index: int, raises: bool) -> int:
 
 
 def _nanos_of_lengths(values: Any, lengths: Any, raises: bool) -> Any:
-    """The timedelta64[ns] of a column of timedelta64. What has nanoseconds already is as it is."""
+    """Turns a column of timedelta64 into timedelta64[ns]. A column that has that type already keeps
+    its values."""
     import numpy
 
     if lengths.dtype == numpy.dtype("timedelta64[ns]"):
@@ -102,7 +103,7 @@ def _nanos_of_lengths(values: Any, lengths: Any, raises: bool) -> Any:
             else _like(values, lengths)
         )
     step, numbers = nanos_a_step(lengths.dtype), lengths.astype("int64").ravel()
-    # NaT is its own absolute value.
+    # The number that stands for NaT is its own absolute value.
     beyond = abs(numbers) > (2**63 - 1) // step
     if raises and beyond.any():
         first = int(beyond.argmax())
@@ -166,21 +167,21 @@ def to_timedelta(
     """Reads texts as timedelta64[ns], like `pandas.to_timedelta`. It needs
     NumPy, but not pandas. The options are those of `parse_ns`.
 
-    A Series gives a Series with the same index and name, an Index gives an
-    Index. A NumPy array or any other sequence gives an array of the same
-    shape. One text gives a Timedelta if pandas is imported, or else a
-    timedelta64.
+    For a Series it returns a Series with the same index and name, and for an
+    Index an Index. For a NumPy array or any other sequence it returns an array
+    of the same shape. For a single text it returns a Timedelta if pandas is
+    imported, and otherwise a timedelta64.
 
-    Timedeltas are kept, and an array of timedelta64[ns] is returned as it
-    is. None, NaN, NaT, pandas' NA, and what an array masks become NaT. None
-    by itself stays None, as for pandas.
+    Timedeltas are kept, and an array of timedelta64[ns] is returned as it is.
+    None, NaN, NaT, pandas' NA, and the masked values of an array become NaT. A
+    single None stays None, as in pandas.
 
-    With `errors="raise"` the first text that is refused raises its
-    DurationError, which has its position as `index`. So does a text of
-    2**63 nanoseconds or more, some 292 years, which timedelta64 can't hold.
-    Any other value, such as a number or bytes, raises DurationTypeError,
-    even if a text before it is refused. With `errors="coerce"` all of these
-    become NaT.
+    With `errors="raise"` the first text that is refused raises a
+    DurationError, whose `index` is the text's position. So does a text of
+    2**63 nanoseconds or more, which is some 292 years, since timedelta64 can't
+    hold it. Any other value, such as a number or bytes, raises
+    DurationTypeError, even if a text before it is refused. With
+    `errors="coerce"` all of these become NaT.
     """
     raises = raises_errors(errors)
     options = _native.option_bits(
@@ -224,10 +225,11 @@ def format_many(
 
     For a list or any other iterable it returns a list of str. For a Series, an
     Index or a NumPy array it returns one of objects, with the same shape,
-    index and name. These may also have timedelta64, in units from weeks to
-    nanoseconds. Missing values, such as None, NaN and NaT, become None.
+    index and name. Such a column may also have the type timedelta64, in units
+    from weeks to nanoseconds. Missing values, such as None, NaN and NaT,
+    become None.
 
-    Raises what `format` raises, with the position in its message.
+    It raises the errors of `format`, with the value's position in the message.
 
     >>> duration_str.format_many([90 * 10**9, None])
     ['1min 30s', None]
@@ -255,8 +257,8 @@ def format_many(
 
 
 def _durations(values: Any) -> list[Any]:
-    """Returns the values of an array in a list. Those of timedelta64 become ints of nanoseconds, or
-    None if one is missing.
+    """Returns the values of an array in a list. A timedelta64 becomes an int of nanoseconds, or
+    None if it is missing.
     """
     lengths = _lengths(values)
     if lengths is None:
@@ -265,5 +267,5 @@ def _durations(values: Any) -> list[Any]:
     numbers: list[int] = lengths.astype("int64").ravel().tolist()
     if step == 1 and _NAT not in numbers:
         return numbers
-    # The product is an int of Python, since one of NumPy wraps around.
+    # The product must be an int of Python, since a product of NumPy's integers wraps around.
     return [None if number == _NAT else number * step for number in numbers]

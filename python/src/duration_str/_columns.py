@@ -14,8 +14,8 @@ Errors = Literal["raise", "coerce"]
 
 
 def values_of(texts: Any) -> list[Any]:
-    """The values of a sequence, as a list of their own. Raises TypeError of a single text and of a
-    table.
+    """The values of a sequence, in a list of their own. Raises TypeError for a single text and for
+    a table.
     """
     if isinstance(texts, (str, bytes, bytearray)):
         raise TypeError(f"the texts must be a sequence of str, not one {type(texts).__name__}")
@@ -27,12 +27,12 @@ def values_of(texts: Any) -> list[Any]:
 
 
 def zeros(count: int) -> array[int]:
-    """So many values, all of them 0."""
+    """An array of this many values, all of them 0."""
     return array("Q", (0,)) * count
 
 
 def raises_errors(errors: str) -> bool:
-    """Whether errors are to be raised."""
+    """Whether `errors` says that errors are raised. Raises ValueError if it is no such option."""
     if errors not in ("raise", "coerce"):
         raise ValueError(f"errors must be 'raise' or 'coerce', not {errors!r}")
     return errors == "raise"
@@ -79,12 +79,14 @@ def parse_many(
     """Reads texts, any iterable of str, and returns their values in
     nanoseconds as an `array('Q')`. The options are those of `parse_ns`.
 
-    With `errors="raise"` the first text that is refused raises its
-    DurationError, which has its `index`. A value that is not a str, such as
-    None, raises DurationTypeError, even if a text before it is refused.
+    With `errors="raise"` the first text that is refused raises a
+    DurationError, whose `index` is the text's position. A value that is not a
+    str, such as None, raises DurationTypeError, even if a text before it is
+    refused.
 
-    With `errors="coerce"` it returns two arrays: the values, with 0 for each
-    value that is refused or not a str, and the positions of these.
+    With `errors="coerce"` it returns two arrays. The first has the values, and
+    0 for each text that is refused and each value that is not a str. The
+    second has the positions of those.
 
     >>> duration_str.parse_many(["1s", "2m"])
     array('Q', [1000000000, 120000000000])
@@ -146,19 +148,20 @@ def parse_buffers(
     require_unit: bool = False,
     default_unit: Unit = "s",
 ) -> array[int] | tuple[array[int], array[int]]:
-    """Reads texts like `parse_many`, but from a buffer with UTF-8. Text `k`
+    """Reads texts as `parse_many` does, but from a buffer of UTF-8. Text `k`
     is `data[offsets[k] : offsets[k + 1]]`, so there is one offset more than
-    there are texts. `data` is any contiguous buffer; `offsets` is a buffer
-    of integers of 8 or 4 bytes.
+    there are texts. `data` is any contiguous buffer. `offsets` is a buffer of
+    integers of 8 or 4 bytes.
 
-    The bytes must not change during a call: a text could be read as what was
-    there for a moment. A mapped file must not become shorter during a call:
-    that would end the process. `bytes` are read in place, while other threads
-    run. From other buffers, read-only or not, small pieces are copied.
+    The bytes must not change during a call, since a text could be read as
+    something that was there only for a moment. A mapped file must not become
+    shorter during a call, since that would end the process. `bytes` are read
+    in place, while other threads run. Other buffers are copied in small
+    pieces, even if they are read-only.
 
-    Bytes that are not UTF-8 are refused. Offsets that decrease or lie
-    beyond the bytes raise ValueError. With `errors="coerce"` they are a
-    refused position.
+    Bytes that are not UTF-8 are refused. Offsets that decrease or lie beyond
+    the bytes raise ValueError. With `errors="coerce"` the text at such an
+    offset counts as refused.
 
     >>> from array import array
     >>> duration_str.parse_buffers(b"1s2m", array("q", [0, 2, 4]))

@@ -1,4 +1,4 @@
-"""A field of pydantic's models. Users import pydantic, not this module."""
+"""The types for fields of pydantic's models. This module imports pydantic only when it is used."""
 
 from __future__ import annotations
 
@@ -13,7 +13,7 @@ from ._texts import DurationError, Options
 
 
 def _read(value: Any, options: Options) -> Any:
-    """The value of a text, or a timedelta as it is. Raises pydantic's own errors."""
+    """Returns the value of a text, or a timedelta as it is. Raises pydantic's own errors."""
     core = import_module("pydantic_core")
     if isinstance(value, datetime.timedelta):
         if value < datetime.timedelta(0):
@@ -30,8 +30,8 @@ def _read(value: Any, options: Options) -> Any:
             "pos": error.pos,
             "found": error.found,
         }
-        # pydantic puts the context's values in place of `{NAME}` in the message, and so a text that
-        # has one gets no context.
+        # pydantic replaces `{NAME}` in the message by the context's value of that name. So a
+        # message that contains such a name gets no context.
         context = None if any(f"{{{name}}}" in str(error) for name in told) else told
         raise core.PydanticCustomError("duration", str(error), context) from None
 
@@ -40,8 +40,8 @@ _LONGEST = datetime.timedelta(microseconds=2**64 // 1000)
 
 
 def _print(value: Any) -> str:
-    """The text of a timedelta; a text, which a default that isn't validated may be, as it is.
-    Raises a ValueError if the text couldn't be read back."""
+    """Returns the text of a timedelta. A text, which can be a default that isn't validated, is
+    returned as it is. Raises ValueError if the text could not be read back."""
     if isinstance(value, str):
         return value
     if value > _LONGEST:
@@ -50,13 +50,13 @@ def _print(value: Any) -> str:
 
 
 class _Shown(dict[str, Any]):
-    """A JSON schema, to which pydantic adds a field's default last: a timedelta in ISO 8601, or as
-    a number of seconds.
+    """A JSON schema, to which pydantic adds a field's default last. That is a timedelta in ISO
+    8601, or as a number of seconds, and this class replaces it by the duration's text.
     """
 
     def __setitem__(self, key: str, value: Any) -> None:
         if key == "default" and (isinstance(value, float) or str(value).startswith("P")):
-            # A negative one has no text.
+            # A negative default has no text.
             with suppress(ValueError):
                 value = format(
                     import_module("pydantic").TypeAdapter(datetime.timedelta).validate_python(value)
@@ -65,8 +65,8 @@ class _Shown(dict[str, Any]):
 
 
 class DurationField(WithOptions):
-    """How pydantic 2 reads a timedelta from a text, under these options, and
-    writes it as a text. It stands in `Annotated`.
+    """Makes pydantic 2 read a timedelta from a text, under these options, and
+    write it as a text. Use this class in `Annotated`.
 
     >>> from datetime import timedelta
     >>> from typing import Annotated
@@ -90,7 +90,7 @@ class DurationField(WithOptions):
             _print, return_schema=schema.str_schema(), when_used="json"
         )
 
-        # Where a field may have other types, too, pydantic's errors name this function.
+        # If a field may have other types too, pydantic's errors name this function.
         def duration(value: Any) -> Any:
             return _read(value, self._options)
 
@@ -99,7 +99,7 @@ class DurationField(WithOptions):
         )
 
     def __get_pydantic_json_schema__(self, schema: Any, handler: Any) -> Any:
-        # pydantic writes demands that JSON Schema doesn't have of a string.
+        # pydantic writes limits that JSON Schema doesn't have for a string.
         told = handler({"type": "str"})
         return _Shown(
             (key, value) for key, value in told.items() if key not in ("gt", "ge", "lt", "le")
@@ -107,7 +107,7 @@ class DurationField(WithOptions):
 
 
 Duration = Annotated[datetime.timedelta, DurationField()]
-"""A timedelta in a model of pydantic 2. A text is read, and a timedelta is kept. The JSON has the
-printed text. `gt`, `ge`, `lt` and `le` of a `Field` are timedeltas."""
+"""A timedelta in a model of pydantic 2. A text is read, and a timedelta is kept. In JSON it is the
+printed text. The limits `gt`, `ge`, `lt` and `le` of a `Field` are timedeltas."""
 DurationWithUnits = Annotated[datetime.timedelta, DurationField(require_unit=True)]
 """The same, but a number without a unit is refused, as in `90` and `1h 30`."""

@@ -1,5 +1,6 @@
-/* The calls of duration_str.h for Python, by the limited API: one module serves CPython from 3.11
- * on. Interpreters without a lock have no such API; they take one while the module is loaded. */
+/* The calls of duration_str.h for Python. It uses the limited API, so that one module serves
+ * CPython from 3.11 on. Interpreters without a global lock have no such API, and turn a lock on
+ * when they load the module. */
 #ifndef Py_GIL_DISABLED
 #define Py_LIMITED_API 0x030b0000
 #endif
@@ -10,8 +11,9 @@
 
 #define SECOND 1000000000u
 
-/* What the module keeps of Python: the names of the options, those that are bits in the order of
- * these; of what limits printing; of a timedelta's parts; and what it makes and calls. */
+/* The Python objects that the module keeps. They are the names of the options, first the flags in
+ * the order of their bits; the names of the keywords that limit printing; the names of a
+ * timedelta's parts; and the types and functions that the module calls. */
 enum kept {
     NO_CALC,
     LOWERCASE,
@@ -34,12 +36,13 @@ enum kept {
     A_SECOND,
     KEPT
 };
-/* Those before ERROR, in their order */
+/* The names, which come before ERROR, in their order */
 static const char *const kept_names[] = {"no_calc", "lowercase", "cn_unit", "require_unit",
     "default_unit", "parts", "units", "largest", "smallest", "style", "days", "seconds",
     "microseconds"};
 
-/* timedelta64's NaT, and the days that it can have whatever else is added. */
+/* The number that stands for timedelta64's NaT, and the most days that timedelta64 can hold
+ * whatever seconds and microseconds are added. */
 #define MISSING ((uint64_t)INT64_MIN)
 #define MOST_DAYS 106750
 
@@ -47,19 +50,19 @@ struct state {
     PyObject *kept[KEPT];
 };
 
-/* A text as UTF-8, which the str keeps. */
+/* A text in UTF-8. Its str owns the bytes. */
 struct text {
     const char *bytes;
     size_t length;
 };
 
-/* A number, or None where there is none. */
+/* Returns the number, or None if there is none. */
 static PyObject *size_or_none(bool is_there, size_t size) {
     return is_there ? PyLong_FromSize_t(size) : Py_NewRef(Py_None);
 }
 
-/* Raises the package's error of a text, with this report, references that it takes. Index -1 is
- * none. */
+/* Raises the package's error for a text, with this report. Takes over the references to the report
+ * and the text. The index -1 stands for none. */
 static void raise_error(struct state *state, PyObject *report, PyObject *text,
     const struct duration_str_answer *answer, const char *bytes, Py_ssize_t index) {
     const char *found = answer->found_length ? bytes + answer->place : NULL;
@@ -71,7 +74,7 @@ static void raise_error(struct state *state, PyObject *report, PyObject *text,
     Py_XDECREF(error);
 }
 
-/* Raises the package's error of a value that is no str; index -1 is none. */
+/* Raises the package's error for a value that is no str. The index -1 stands for none. */
 static void raise_type_error(struct state *state, PyObject *value, Py_ssize_t index) {
     PyObject *name = PyType_GetName(Py_TYPE(value));
     if (name && index < 0)
@@ -82,7 +85,7 @@ static void raise_type_error(struct state *state, PyObject *value, Py_ssize_t in
     Py_XDECREF(name);
 }
 
-/* Turns the pending error of a str that is no text into the package's. */
+/* Turns the pending error, of a str that can't be encoded, into the package's error. */
 static void raise_surrogate(struct state *state, PyObject *text, Py_ssize_t index) {
     const struct duration_str_answer answer = {.cause = DURATION_STR_CAUSE_NOT_TEXT};
     PyObject *type, *error, *traceback, *line = NULL;
@@ -97,17 +100,17 @@ static void raise_surrogate(struct state *state, PyObject *text, Py_ssize_t inde
     Py_XDECREF(traceback);
 }
 
-/* The report of a text that the library refuses, and its answer; null, and no error, if the text is
- * read. */
+/* Returns the report of a text that the library refuses, and writes the answer. If the text is
+ * read, returns NULL and sets no error. */
 static PyObject *report_of(struct text text, uint32_t options, struct duration_str_answer *answer) {
     char report[DURATION_STR_REPORT_BUFFER_SIZE];
     const size_t length = duration_str_report(text.bytes, text.length, options, answer, report);
     return length ? PyUnicode_FromStringAndSize(report, (Py_ssize_t)length) : NULL;
 }
 
-/* Reads the text of a str, whatever a subclass says of itself. Returns 1 if it is read, 0 if it is
- * refused, and -1 with an error: for other faults than the text's, and where it is to be raised,
- * for these. */
+/* Reads the text of a str, whatever a subclass says that it holds. Returns 1 if the text is read,
+ * and 0 if it is refused and `raises` is false. Returns -1 with an error if the text is refused and
+ * `raises` is true, and if anything else fails. */
 static int read_str(struct state *state, PyObject *given, uint32_t options, uint64_t *nanos,
     bool raises, Py_ssize_t index) {
     Py_ssize_t length;
@@ -124,7 +127,7 @@ static int read_str(struct state *state, PyObject *given, uint32_t options, uint
         return -1;
     }
     text.length = (size_t)length;
-    /* The call that knows its options is the faster one, but doesn't tell why it refuses. */
+    /* The call without options is faster, but doesn't say why it refuses a text. */
     if (!options && duration_str_parse(text.bytes, text.length, nanos))
         return 1;
     if (!options && !raises)
@@ -139,9 +142,10 @@ static int read_str(struct state *state, PyObject *given, uint32_t options, uint
     return -1;
 }
 
-/* Which of the names from the first to the last is a keyword of a call, or -1 with an error. */
+/* Returns which of the names from `first` to `last` this keyword of a call is, or -1 with an error.
+ * */
 static int name_of(struct state *state, const char *call, PyObject *keyword, int first, int last) {
-    /* Almost always it is the same str. */
+    /* Almost always the keyword is the same object as the name. */
     for (int name = first; name <= last; name++)
         if (keyword == state->kept[name])
             return name;
@@ -152,7 +156,7 @@ static int name_of(struct state *state, const char *call, PyObject *keyword, int
     return -1;
 }
 
-/* Whether a call has one positional argument; raises if not. */
+/* Returns whether a call has one positional argument. If not, it sets an error. */
 static bool has_one(const char *call, Py_ssize_t count) {
     if (count != 1)
         PyErr_Format(
@@ -160,15 +164,15 @@ static bool has_one(const char *call, Py_ssize_t count) {
     return count == 1;
 }
 
-/* The names of the units as they are printed, in Latin-1, and as errors list them; and of the
- * styles */
-/* Those of units are made by tests/repository --write. */
+/* The names of the units as they are printed, in Latin-1, and as errors list them; and the names of
+ * the styles */
+/* The names of the units are made by tests/repository --write. */
 static const char *const unit_names[] = {
     "y", "q", "mon", "w", "d", "h", "min", "s", "ms", "\xb5s", "ns"};
 static const char listed_units[] = "y, q, mon, w, d, h, min, s, ms, \xc2\xb5s or us, ns";
 static const char *const style_names[] = {"short", "compact", "long"};
 
-/* The place of a name among some, or -1. */
+/* The index of a name among these names, or -1. */
 static int place_among(PyObject *name, const char *const *names, int count) {
     for (int place = 0; PyUnicode_Check(name) && place < count; place++)
         if (!PyUnicode_CompareWithASCIIString(name, names[place]))
@@ -176,13 +180,13 @@ static int place_among(PyObject *name, const char *const *names, int count) {
     return -1;
 }
 
-/* Raises that what is given by a keyword is none of the names that are listed. */
+/* Raises an error, which says that the value of a keyword is none of the listed names. */
 static void raise_name(PyObject *name, const char *keyword, const char *listed) {
     PyErr_Format(PyUnicode_Check(name) ? PyExc_ValueError : PyExc_TypeError,
         "%s must be one of %s, not %R", keyword, listed, name);
 }
 
-/* The number of the unit of which the library reads one with this name, or -1. */
+/* The number of the unit that the library reads by this name, or -1. It reads `1` and the name. */
 static int unit_read(PyObject *name) {
     char text[16] = "1";
     Py_ssize_t length;
@@ -192,7 +196,7 @@ static int unit_read(PyObject *name) {
         PyErr_Clear();
     if (!bytes || (size_t)length >= sizeof text)
         return -1;
-    /* A blank or a digit would make another text of it than one number and its unit. */
+    /* With a blank or a digit in the name, the text would not be one number and its unit. */
     for (Py_ssize_t at = 0; at < length; at++)
         if (strchr(" \t\r\n0123456789", bytes[at]))
             return -1;
@@ -207,7 +211,7 @@ static int unit_read(PyObject *name) {
     return -1;
 }
 
-/* The number of a unit by each name that is read. Returns -1 with an error. */
+/* The number of the unit that a name stands for, printed or read. Returns -1 with an error. */
 static int unit_of(PyObject *name, const char *keyword) {
     int unit = place_among(name, unit_names, DURATION_STR_UNIT_NANOSECOND + 1);
     if (unit < 0 && PyUnicode_Check(name))
@@ -217,7 +221,7 @@ static int unit_of(PyObject *name, const char *keyword) {
     return unit;
 }
 
-/* Takes the value of an option's keyword, a bit or the default unit. Returns -1 with an error. */
+/* Takes the value of an option's keyword: a flag, or the default unit. Returns -1 with an error. */
 static int take_option(struct state *state, const char *call, PyObject *keyword, PyObject *value,
     uint32_t *options, int *default_unit) {
     const int option = name_of(state, call, keyword, NO_CALC, DEFAULT_UNIT);
@@ -234,7 +238,7 @@ static int take_option(struct state *state, const char *call, PyObject *keyword,
     return 0;
 }
 
-/* Takes the options that a call has by keywords. Returns -1 with an error. */
+/* Takes the options that a call is given by keywords. Returns -1 with an error. */
 static int take_options(struct state *state, const char *call, PyObject *const *values,
     PyObject *keywords, uint32_t *options) {
     const Py_ssize_t words = keywords ? PyTuple_Size(keywords) : 0;
@@ -244,7 +248,7 @@ static int take_options(struct state *state, const char *call, PyObject *const *
         if (take_option(
                 state, call, PyTuple_GetItem(keywords, at), values[at], options, &default_unit))
             return -1;
-    /* The second is the default unit by itself, and beside operators. */
+    /* The second is the default unit anyway, and operators are read with it. */
     if (default_unit == DURATION_STR_UNIT_SECOND)
         return 0;
     if (*options & DURATION_STR_OPTION_REQUIRE_UNIT) {
@@ -256,7 +260,7 @@ static int take_options(struct state *state, const char *call, PyObject *const *
 }
 
 /* Reads the text of a call, whose arguments METH_FASTCALL | METH_KEYWORDS gives. Returns -1 with an
- * error if it is refused. */
+ * error if the text is refused. */
 static int read_call(struct state *state, const char *call, PyObject *const *arguments,
     Py_ssize_t count, PyObject *keywords, uint64_t *nanos) {
     uint32_t options;
@@ -268,8 +272,8 @@ static int read_call(struct state *state, const char *call, PyObject *const *arg
     return -1;
 }
 
-/* option_bits(*, no_calc, lowercase, cn_unit, require_unit, default_unit): the options as read_list
- * and read_buffers take them */
+/* option_bits(*, no_calc, lowercase, cn_unit, require_unit, default_unit): returns the options in
+ * the form that read_list and read_buffers take */
 static PyObject *option_bits(
     PyObject *self, PyObject *const *arguments, Py_ssize_t count, PyObject *keywords) {
     uint32_t options;
@@ -292,7 +296,7 @@ static PyObject *parse(
     uint64_t nanos;
     if (read_call(state, "parse", arguments, count, keywords, &nanos))
         return NULL;
-    /* The product takes two thirds of the constructor's time. */
+    /* Multiplying takes two thirds of the time that the constructor would take. */
     PyObject *micros = PyLong_FromUnsignedLongLong(nanos / 1000);
     PyObject *value = micros ? PyNumber_Multiply(state->kept[A_MICROSECOND], micros) : NULL;
     Py_XDECREF(micros);
@@ -313,12 +317,12 @@ static PyObject *parse_seconds(
 
 /* How durations are printed. */
 struct limits {
-    uint32_t units; /* a set */
+    uint32_t units; /* a set of units */
     uint32_t parts;
     uint32_t style;
 };
 
-/* All units, as many parts as there are units, and the short style */
+/* No limits: all units, as many parts as there are units, and the short style */
 static const struct limits no_limits = {
     DURATION_STR_UNITS_ALL, DURATION_STR_UNIT_NANOSECOND + 1, DURATION_STR_STYLE_SHORT};
 
@@ -351,7 +355,7 @@ static int take_style(PyObject *name, uint32_t *style) {
     return place < 0 ? -1 : 0;
 }
 
-/* Takes a set of units, or all of them for None. Returns -1 with an error. */
+/* Takes a set of units. None stands for all units. Returns -1 with an error. */
 static int take_units(PyObject *value, uint32_t *units) {
     if (Py_IsNone(value))
         return 0;
@@ -379,8 +383,8 @@ static int take_units(PyObject *value, uint32_t *units) {
     return 0;
 }
 
-/* Takes the value of a keyword into the limits, or a unit by the number of its keyword. Returns -1
- * with an error. */
+/* Takes the value of a keyword into the limits. The largest and the smallest unit go to `*largest`
+ * and `*smallest` instead. Returns -1 with an error. */
 static int take_limit(struct state *state, PyObject *keyword, PyObject *value,
     struct limits *limits, int *largest, int *smallest) {
     const int limit = name_of(state, "format", keyword, PARTS, STYLE);
@@ -401,7 +405,7 @@ static int take_limit(struct state *state, PyObject *keyword, PyObject *value,
     return -1;
 }
 
-/* Takes the limits that a call has by keywords. Returns -1 with an error. */
+/* Takes the limits that a call is given by keywords. Returns -1 with an error. */
 static int take_limits(
     struct state *state, PyObject *const *values, PyObject *keywords, struct limits *limits) {
     const Py_ssize_t words = keywords ? PyTuple_Size(keywords) : 0;
@@ -420,7 +424,8 @@ static int take_limits(
     return -1;
 }
 
-/* The text of a duration; without limits the call that has none is the faster one. */
+/* The text of a duration. If there are no limits, it uses the call without limits, which is faster.
+ * */
 static PyObject *text_of(uint64_t secs, uint32_t nanos, const struct limits *limits) {
     char buffer[DURATION_STR_STYLED_BUFFER_SIZE];
     const bool is_whole = !memcmp(limits, &no_limits, sizeof *limits);
@@ -434,7 +439,7 @@ static PyObject *text_of(uint64_t secs, uint32_t nanos, const struct limits *lim
 static PyObject *text_of_int(struct state *state, PyObject *nanos, const struct limits *limits) {
     int overflow;
     const long long few = PyLong_AsLongLongAndOverflow(nanos, &overflow);
-    /* Python prints no int of more than some thousand digits. */
+    /* Python refuses to print an int of more than some thousand digits. */
     if (overflow < 0)
         return PyErr_Format(
             PyExc_ValueError, "a negative duration has no text: below -2**63 nanoseconds");
@@ -453,8 +458,8 @@ static PyObject *text_of_int(struct state *state, PyObject *nanos, const struct 
     return text_of(secs, rest, limits);
 }
 
-/* The days, seconds and microseconds of an exact timedelta. Returns -1 with an error if there is no
- * memory. */
+/* Gets the days, seconds and microseconds of a value whose type is exactly timedelta. Returns -1
+ * with an error if there is no memory. */
 static int parts_of(struct state *state, PyObject *value, long *parts) {
     for (int part = 0; part < 3; part++) {
         PyObject *number = PyObject_GetAttr(value, state->kept[DAYS + part]);
@@ -475,8 +480,8 @@ static PyObject *text_of_timedelta(
         (uint64_t)parts[0] * 86400 + (uint64_t)parts[1], (uint32_t)parts[2] * 1000, limits);
 }
 
-/* The text of a duration, or None where the function, which takes what is neither int nor
- * timedelta, says that it is missing. */
+/* The text of a duration. The function is called for a value that is neither int nor timedelta. If
+ * it says that the value is missing, the result is None. */
 static PyObject *text_of_value(
     struct state *state, PyObject *value, PyObject *function, const struct limits *limits) {
     if (PyLong_CheckExact(value))
@@ -502,7 +507,8 @@ static PyObject *format(
     return text_of_value(state, arguments[0], state->kept[NANOS_OF], &limits);
 }
 
-/* limits(*, parts, units, largest, smallest, style): the limits as format_list takes them */
+/* limits(*, parts, units, largest, smallest, style): returns the limits in the form that
+ * format_list takes */
 static PyObject *limits(
     PyObject *self, PyObject *const *arguments, Py_ssize_t count, PyObject *keywords) {
     struct limits limits;
@@ -511,8 +517,8 @@ static PyObject *limits(
     return Py_BuildValue("(III)", limits.units, limits.parts, limits.style);
 }
 
-/* After so many values of a column other threads may run, and a signal may end the call. It takes
- * less than a millisecond to read or print them. */
+/* After this many values of a column, other threads may run, and a signal may end the call. Reading
+ * or printing this many values takes less than a millisecond. */
 static const Py_ssize_t A_TURN = 4096;
 
 /* Lets other threads run. Returns -1 with an error if a signal has raised one. */
@@ -522,9 +528,9 @@ static int end_turn(void) {
     return PyErr_CheckSignals();
 }
 
-/* format_list(values, function, texts, limits): appends to `texts` the text of each value, so that
- * its length tells where an error stands. The function is called with what is neither int nor
- * timedelta. */
+/* format_list(values, function, texts, limits): appends the text of each value to `texts`, whose
+ * length then says at which value an error is. The function is called for a value that is neither
+ * int nor timedelta. */
 static PyObject *format_list(PyObject *self, PyObject *arguments) {
     PyObject *values, *function, *texts;
     struct limits limits;
@@ -551,25 +557,26 @@ static int add_position(PyObject *list, Py_ssize_t position) {
     return failed ? -1 : 0;
 }
 
-/* A list to be read, with room for its values. */
+/* A list of values to be read, with room for the results. */
 struct list {
     PyObject *values;
     uint64_t *nanos;
     Py_ssize_t room;
     uint32_t options;
     int raises;
-    Py_ssize_t first;   /* the index of the first value; that of a value by itself is -1 */
-    PyObject *function; /* for timedelta64 what keeps other values than texts, or else null */
+    Py_ssize_t first;   /* the index of the first value, or -1 for a value by itself */
+    PyObject *function; /* for timedelta64: called for values that are no texts; otherwise NULL */
 };
 
-/* How many values there are: a function that is called may change the list. */
+/* How many values the list still has room and items for, since a function that is called may change
+ * the list. */
 static Py_ssize_t length_of(const struct list *list) {
     const Py_ssize_t length = PyList_Size(list->values);
     return length < list->room ? length : list->room;
 }
 
-/* Keeps a value that is no str for timedelta64. `*missing` is one that the function keeps as NaT,
- * which is not asked again. Returns -1 with an error. */
+/* Keeps a value that is no str, for timedelta64. `*missing` is a value for which the function has
+ * returned NaT, so that it is not asked about that value again. Returns -1 with an error. */
 static int keep(struct state *state, const struct list *list, Py_ssize_t at, PyObject *value,
     PyObject **missing) {
     long parts[3];
@@ -600,7 +607,7 @@ static int keep(struct state *state, const struct list *list, Py_ssize_t at, PyO
     return PyErr_Occurred() ? -1 : 0;
 }
 
-/* Raises that timedelta64 doesn't have a text's value. */
+/* Raises an error, which says that timedelta64 can't hold a text's value. */
 static void raise_beyond(struct state *state, PyObject *given, Py_ssize_t index) {
     const struct duration_str_answer answer = {.cause = DURATION_STR_CAUSE_OVERFLOW};
     PyObject *line = PyUnicode_FromString(
@@ -638,7 +645,7 @@ static int read_value(struct state *state, const struct list *list, Py_ssize_t a
     return is_read ? (is_read < 0 ? -1 : 0) : add_position(refused, at);
 }
 
-/* Raises of the first text that is refused. */
+/* Raises the error of the first text that is refused. */
 static int raise_first(struct state *state, const struct list *list, PyObject *refused) {
     const Py_ssize_t at =
         PyList_Size(refused) ? PyLong_AsSsize_t(PyList_GetItem(refused, 0)) : length_of(list);
@@ -647,11 +654,11 @@ static int raise_first(struct state *state, const struct list *list, PyObject *r
 }
 
 /* read_list(texts, nanos, options, raises, first, function): puts the values of a list's texts into
- * a buffer of zeros, and returns a list of the positions of what is refused, or is no str by its
- * type. If it raises, it raises of the first value that is no str, or if there is none of the first
- * text that is refused. The first text has the index `first`. Where a function is given and not
- * None, the values are those of timedelta64, what is refused is NaT, and the function has the value
- * of what is no str. */
+ * a buffer of zeros. Returns a list of the positions of the texts that are refused, and of the
+ * values that are not a str. If `raises` is true, it raises the error of the first value that is
+ * no str, or, if there is none, of the first text that is refused. The first text has the index
+ * `first`. If the function is not None, the values are numbers of timedelta64, a refused text is
+ * NaT, and the function returns the number for a value that is no str. */
 static PyObject *read_list(PyObject *self, PyObject *arguments) {
     struct list list;
     Py_buffer nanos;
@@ -675,9 +682,9 @@ static PyObject *read_list(PyObject *self, PyObject *arguments) {
     return refused;
 }
 
-/* Copies one offset more than there are texts. A negative one becomes a very large one, which lies
- * beyond all bytes. Returns whether they are signed, or -1 with an error if the buffer has
- * something else. */
+/* Copies one offset more than there are texts. A negative offset becomes a very large one, which
+ * lies beyond all bytes. Returns whether the offsets are signed, or -1 with an error if the buffer
+ * holds something else. */
 static int copy_offsets(PyObject *given, size_t *offsets, Py_ssize_t texts) {
     Py_buffer row;
     if (PyObject_GetBuffer(given, &row, PyBUF_ND | PyBUF_FORMAT))
@@ -703,7 +710,7 @@ static int copy_offsets(PyObject *given, size_t *offsets, Py_ssize_t texts) {
     return are_signed;
 }
 
-/* Whether the text between two offsets stands in so many bytes. */
+/* Whether the text between two offsets lies within this many bytes. */
 static bool is_within(const size_t *offsets, Py_ssize_t length) {
     return offsets[0] <= offsets[1] && offsets[1] <= (size_t)length;
 }
@@ -735,10 +742,10 @@ static void raise_between(struct state *state, const Py_buffer *data, const size
     Py_DECREF(copy);
 }
 
-/* Reads the texts between the offsets, and marks those that are read. The bytes of an exact
- * `bytes`, which nobody may change, are read in place, while other threads run, and others from
- * copies: whoever writes to them meanwhile, also without the interpreter's lock, changes nothing
- * that is being read. Returns -1 with an error if there is no memory. */
+/* Reads the texts between the offsets, and marks the texts that are read. An object whose type is
+ * exactly `bytes` can't change, and is read in place while other threads run. Other buffers are
+ * read from copies, so a thread that writes to them meanwhile, even without the interpreter's lock,
+ * changes nothing that is being read. Returns -1 with an error if there is no memory. */
 static int read_column(const Py_buffer *data, const size_t *offsets, size_t texts, uint32_t options,
     uint64_t *nanos, char *are_read) {
     struct duration_str_answer answer;
@@ -771,8 +778,8 @@ static int read_column(const Py_buffer *data, const size_t *offsets, size_t text
     return -1;
 }
 
-/* read_buffers(data, offsets, nanos, options, raises): as read_list, of the texts between the
- * offsets into the data. */
+/* read_buffers(data, offsets, nanos, options, raises): does what read_list does, for the texts
+ * between the offsets into the data */
 static PyObject *read_buffers(PyObject *self, PyObject *arguments) {
     PyObject *given, *refused = NULL;
     Py_buffer data, nanos;
@@ -812,13 +819,14 @@ static PyObject *read_buffers(PyObject *self, PyObject *arguments) {
 PyDoc_STRVAR(parse_ns_doc,
     "parse_ns" OPTIONS_DOC "Returns the value of a text in nanoseconds.\n\n"
     "The options are off by default:\n\n"
-    "  no_calc       `+` and `*` are not read; terms are added one by one\n"
-    "  lowercase     units are compared as written; without this option ASCII\n"
-    "                capitals are read as small letters\n"
+    "  no_calc       `+` and `*` are not read, and the terms are added one by one\n"
+    "  lowercase     capitals are not read as small letters; without this option\n"
+    "                ASCII capitals are\n"
     "  cn_unit       the Chinese names of the units are read too\n"
     "  require_unit  a number without a unit is refused\n\n"
-    "A number without a unit counts the `default_unit`, by any name that is read. If\n"
-    "this is not the second, `+` and `*` are not read, since a factor counts it too.\n\n"
+    "A number without a unit counts the `default_unit`. You can give the unit by any\n"
+    "name that is read. If it is not the second, `+` and `*` are not read, since a\n"
+    "factor would count it too.\n\n"
     "Raises DurationError if the text is refused, and DurationTypeError if it is\n"
     "not a str. Raises ValueError if no unit has the name, or if a unit is required\n"
     "and `default_unit` is not the second.\n\n"
@@ -827,29 +835,29 @@ PyDoc_STRVAR(parse_ns_doc,
 PyDoc_STRVAR(parse_doc,
     "parse" OPTIONS_DOC
     "Returns the value of a text as a timedelta, rounded down to microseconds.\n\n"
-    "`parse_ns` is exact; it has the same options and errors.");
+    "`parse_ns` returns the exact value, and has the same options and errors.");
 PyDoc_STRVAR(parse_seconds_doc,
     "parse_seconds" OPTIONS_DOC
     "Returns the value of a text in seconds, rounded to the nearest float.\n\n"
-    "`parse_ns` is exact; it has the same options and errors.");
+    "`parse_ns` returns the exact value, and has the same options and errors.");
 PyDoc_STRVAR(format_doc,
     "format($module, value, /, *, parts=11, units=None, largest='y', smallest='ns', style='short')"
     "\n--\n\n"
-    "Prints a duration: an int of nanoseconds, or a timedelta, also NumPy's.\n\n"
-    "  parts     at most so many parts\n"
+    "Prints a duration: an int of nanoseconds, or a timedelta (also NumPy's).\n\n"
+    "  parts     the greatest number of parts\n"
     "  units     only these units, such as `('y', 'mon', 'd')`, in any order\n"
     "  largest   the largest unit: `y`, `q`, `mon`, `w`, `d`, `h`, `min`, `s`,\n"
     "            `ms`, `\xc2\xb5s` or `us`, `ns`, or another name that is read\n"
     "  smallest  the smallest unit\n"
     "  style     `short` (`1h 30min`), `compact` (`1h30min`) or `long`\n"
     "            (`1 hour 30 minutes`)\n\n"
-    "The rest is left out, so the text never shows more than the duration. If all\n"
-    "counts are 0, it is `0` and the smallest unit, or `0s`, as for milliseconds\n"
-    "alone.\n\n"
-    "Raises ValueError if the duration is negative, if `parts` is 0, if no unit has\n"
-    "a name, or if no units are left; OverflowError if the duration is 2**64 seconds\n"
-    "or more; TypeError if it is neither an int nor a timedelta, or if `units` is a\n"
-    "text.\n\n"
+    "The remainder is left out, so the text never shows more than the duration.\n"
+    "If all counts are 0, the text is `0` and the smallest unit. If that unit is\n"
+    "shorter than a second, the text is `0s`.\n\n"
+    "Raises ValueError if the duration is negative, if `parts` is 0, if a name is\n"
+    "not that of a unit, or if no units are left. Raises OverflowError if the\n"
+    "duration is 2**64 seconds or more. Raises TypeError if it is neither an int nor\n"
+    "a timedelta, or if `units` is a text.\n\n"
     ">>> duration_str.format(193_029_000_000, parts=2)\n"
     "'3min 13s'\n"
     ">>> duration_str.format(193_029_000_000, style='long')\n"
@@ -902,10 +910,11 @@ static void end(void *module) {
         Py_CLEAR(state->kept[at]);
 }
 
-/* ISO C turns a function's address into a number, and no function into an object. From CPython 3.12
- * on a slot says that interpreters with a lock of their own may have the module: its number and its
- * value are those of Py_mod_multiple_interpreters and Py_MOD_PER_INTERPRETER_GIL_SUPPORTED, which
- * earlier headers lack. Earlier interpreters refuse slots that they don't know. */
+/* ISO C lets a function's address become a number, but not a pointer to an object. From CPython
+ * 3.12 on a slot says that interpreters with a lock of their own may load the module. Its number
+ * and its value are those of Py_mod_multiple_interpreters and Py_MOD_PER_INTERPRETER_GIL_SUPPORTED,
+ * which earlier headers lack. It is left out for earlier interpreters, which refuse slots that they
+ * don't know. */
 static PyModuleDef_Slot slots[] = {{Py_mod_exec, (void *)(uintptr_t)begin}, {0, NULL}, {0, NULL}};
 static struct PyModuleDef definition = {
     PyModuleDef_HEAD_INIT, "_native", NULL, sizeof(struct state), methods, slots, NULL, NULL, end};

@@ -7,7 +7,8 @@ from ._texts import Style, Unit
 
 @type_check_only
 class NumpyDuration(Protocol):
-    """An integer of NumPy or its timedelta64: both have a denominator, and its floats have none."""
+    """An integer of NumPy, or its timedelta64. Both have a denominator, which NumPy's floats
+    don't."""
 
     @property
     def denominator(self) -> Any: ...

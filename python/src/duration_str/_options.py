@@ -1,4 +1,4 @@
-"""What the types of argparse, Click and pydantic share."""
+"""The base class of the types for argparse, Click and pydantic."""
 
 from __future__ import annotations
 
@@ -25,5 +25,6 @@ class WithOptions:
             "require_unit": require_unit,
             "default_unit": default_unit,
         }
-        # Raises if there is no such unit, or if no unit can be missing.
+        # Raises ValueError if no unit has the name of the default unit, or if units are required
+        # and there is another default unit.
         option_bits(**self._options)

@@ -1,5 +1,4 @@
-"""Why a text is refused, as an error that points at its place; and what durations are in
-nanoseconds.
+"""The errors that say why and where a text is refused, and the nanoseconds of a duration.
 """
 
 from __future__ import annotations
@@ -47,12 +46,12 @@ class Cause(enum.IntEnum):
     EMPTY = 1
     """The text is empty."""
     SYNTAX = 2
-    """The text stops being valid at the place."""
+    """The text stops being valid at `place`."""
     NUMBER_TOO_LARGE = 3
     """A number is 2**64 or more."""
     OVERFLOW = 4
-    """A term, a step or the value is 2**64 nanoseconds or more. In `to_timedelta` the value is
-    2**63 or more."""
+    """A term, a step of the evaluation or the value is 2**64 nanoseconds or more. In `to_timedelta`
+    it is also the cause if the value is 2**63 or more."""
     MIXED = 5
     """`+` and `*` are mixed."""
     NOT_TEXT = 7
@@ -69,8 +68,8 @@ class Expected(enum.Flag):
 
 
 class DurationTypeError(TypeError, ValueError):
-    """A value is not a text. It is a ValueError too, since pydantic takes only
-    these for refusals."""
+    """A value is not a text. This error is also a ValueError, since pydantic
+    takes only those for refusals."""
 
 
 _CAUSES = {int(cause): cause for cause in Cause}
@@ -78,9 +77,9 @@ _EXPECTED = [Expected(bits) for bits in range(16)]
 
 
 class DurationError(ValueError):
-    """A text is refused. As a string, the error is one line for people: it
-    says what is wrong, in a syntax error also where, and often what to write.
-    For a text of a column the line begins with the text's index.
+    """A text is refused. `str(error)` is one line for people: it says what is
+    wrong, for a syntax fault also where, and often what to write. For a text
+    of a column, the line begins with the text's index.
 
     >>> try:
     ...     duration_str.parse("3h 2 mins")
@@ -98,21 +97,22 @@ class DurationError(ValueError):
     cause: Cause
     """Why the text is refused."""
     place: int | None
-    """Where the fault is, in bytes of UTF-8 from 0, or None if it has no place."""
+    """The byte at which the fault is, in UTF-8 and from 0, or None if the fault has no place."""
     pos: int | None
-    """The same in characters: `text[pos:]` begins with `found`. The column in the line counts from
-    1."""
+    """The same place in characters: `text[pos:]` begins with `found`. The column in the line is one
+    more, since columns count from 1."""
     expected: Expected
     """What could stand at the place of a syntax fault. For other faults no flag is set."""
     found: str | None
     """The token at the place of a syntax fault. It is None at the end of the text, and for other
     faults."""
     index: int | None
-    """The position of the text in the column that was read, or None if it was read by itself."""
+    """The position of the text in the column that was read, or None if the text was read by
+    itself."""
     report: str
-    """For a terminal: the text, a caret below the place, and the line. It is the line alone if the
-    fault is no syntax fault, if the text has more than 80 characters, or if the line would escape
-    something in it."""
+    """The report for a terminal: the text, a caret below the place, and the line. It is the line
+    alone if the fault is no syntax fault, if the text has more than 80 characters, or if the line
+    would escape something in the text."""
 
     def __init__(
         self, report: str, text: str, cause: int, place: int | None = None, expected: int = 0,
@@ -137,8 +137,8 @@ class DurationError(ValueError):
 
 
 def nanos_a_step(dtype: Any) -> int:
-    """The nanoseconds of one step of a timedelta64's type. Raises TypeError if the unit has no
-    fixed length."""
+    """The nanoseconds of one step of this type of timedelta64. Raises TypeError if the type's unit
+    has no fixed length."""
     numpy: Any = import_module("numpy")
     unit, count = numpy.datetime_data(dtype)
     if unit not in _NANOS:
@@ -149,12 +149,12 @@ def nanos_a_step(dtype: Any) -> int:
 
 
 def nanos_of(value: Any) -> int:
-    """The nanoseconds of a timedelta or an int, also of pandas or NumPy. Raises TypeError if it is
-    neither."""
+    """The nanoseconds of a timedelta or an int, also one of pandas or NumPy. Raises TypeError if
+    the value is neither."""
     numpy: Any = sys.modules.get("numpy")
     if isinstance(value, datetime.timedelta):
         nanos = ((value.days * 86_400 + value.seconds) * 10**6 + value.microseconds) * 1000
-        # pandas' Timedelta is a timedelta that has them, too.
+        # pandas' Timedelta is a timedelta that also has nanoseconds.
         return nanos + getattr(value, "nanoseconds", 0)
     if numpy and isinstance(value, numpy.timedelta64):
         if numpy.isnat(value):

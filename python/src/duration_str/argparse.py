@@ -1,4 +1,4 @@
-"""A type for arguments of argparse, which is imported here alone."""
+"""A type for arguments of argparse. Only this module imports argparse."""
 
 from __future__ import annotations
 
@@ -11,7 +11,7 @@ from ._texts import DurationError
 
 
 class DurationType(WithOptions):
-    """Reads a timedelta from a text, under these options. For a refused text, argparse shows the
+    """Reads a timedelta from a text, under these options. If a text is refused, argparse shows the
     text and the error's line."""
 
     def __repr__(self) -> str:

@@ -1,7 +1,7 @@
-"""A type for options of Click, which is imported here alone."""
+"""A type for options of Click. Only this module imports Click."""
 
 # mypy: disallow-any-generics=False
-# From Click 8.4 on its class has a parameter, which earlier ones refuse.
+# From Click 8.4 on the base class takes a type parameter, which earlier versions refuse.
 
 from __future__ import annotations
 
@@ -16,8 +16,8 @@ from ._texts import DurationError
 
 
 class DurationParamType(WithOptions, click.ParamType):
-    """Reads a timedelta from a text, under these options. For a refused text, Click shows the text
-    and the error's line. A default may also be a timedelta."""
+    """Reads a timedelta from a text, under these options. If a text is refused, Click shows the
+    text and the error's line. A default may also be a timedelta."""
 
     name = "duration"
 
