@@ -1,37 +1,38 @@
 /**
  * Reads durations as people write them, such as `3m + 13s + 29ms`, and prints them, such as
- * `3min 13s 29ms`. An error says what is wrong, and a syntax error also where. The library that
+ * `3min 13s 29ms`. An error says what is wrong. A syntax error also says where. The library that
  * reads and prints is proved.
  *
- * A text is one term or several. A term is a number and a unit. Terms are joined by `+` or by `*`;
- * terms that follow one another are added. A product multiplies its terms in seconds. A number
- * without a unit counts seconds, unless an option says otherwise, and must be last or before an
- * operator. Blanks may be anywhere except inside a number or a unit. Numbers are below 2^64, and
- * values below 2^64 nanoseconds.
+ * A text is one term or several. A term is a number and a unit, such as `3m`. Terms are joined by
+ * `+` or by `*`. If the operator is left out, as in `3m 13s`, the terms are added. A product
+ * multiplies its terms in seconds. A number without a unit counts seconds, unless an option says
+ * otherwise. Such a number must be last or before an operator. Blanks may be anywhere except inside
+ * a number or a unit. A number must be below 2^64, and a value below 2^64 nanoseconds.
  */
 
 /**
- * Options for reading. Without any, all are off, and the default unit is the second. Only a plain
- * object's own properties count; other names are a `TypeError`.
+ * Options for reading. If you give none, all are off, and the default unit is the second. They must
+ * be a plain object, of which only its own properties count. An unknown name is a `TypeError`.
  */
 export interface Options {
-    /** `+` and `*` are not read; terms are added one by one. */
+    /** `+` and `*` are not read, and the terms are added one by one. */
     noCalc?: boolean | undefined;
     /**
-     * Units are compared as written. Without this option, ASCII capitals are read as small letters.
+     * Capitals are not read as small letters. Without this option, ASCII capitals are.
      */
     lowercase?: boolean | undefined;
     /** The Chinese names of the units are read too. */
     cnUnit?: boolean | undefined;
     /**
-     * A number without a unit is refused, as in `90` and `1h 30`. Without this option, it counts
-     * the default unit.
+     * A number without a unit is refused, as in `90` and `1h 30`. Without this option, such a
+     * number counts the default unit.
      */
     requireUnit?: boolean | undefined;
     /**
      * The default unit, which a number without a unit counts. With `ms`, `1500` is 1.5 seconds, and
-     * so is `1s 500`. A factor is a number, too: `90s*2` would be 90 seconds times 2 milliseconds.
-     * So a default unit other than the second turns `noCalc` on, and contradicts `requireUnit`.
+     * so is `1s 500`. A factor without a unit would count it too: `90s*2` would be 90 seconds times
+     * 2 milliseconds. So a default unit other than the second turns `noCalc` on. You can't set it
+     * together with `requireUnit`.
      */
     defaultUnit?: Unit | undefined;
 }
@@ -54,16 +55,18 @@ export type Unit =
     | "µs" | "µsec" | "µsecond" | "us" | "usec" | "usecond" | "microsecond" | "microseconds"
     | "ns" | "nsec" | "nanosecond" | "nanoseconds";
 
-/** Limits for what is counted. Only a plain object's own properties count. */
+/** Limits for which units are counted, and how many parts. They must be a plain object, of which
+ * only its own properties count. */
 interface Counted<Name extends Unit> {
     /**
      * Only these units, in any order. A unit that is named twice counts once. With `["y", "d"]`,
-     * 400 days are `1y 35d`. With `largest` or `smallest`, it is the units that both leave.
+     * 400 days are `1y 35d`. If you also give `largest` or `smallest`, only the units that all
+     * these limits allow are left.
      */
     units?: readonly Name[] | undefined;
     /**
-     * At most so many parts. `Infinity` is all of them. The rest is left out, and nothing is
-     * rounded up.
+     * The greatest number of parts. `Infinity` means all of them. The rest is left out, and nothing
+     * is rounded up.
      */
     parts?: number | undefined;
     /** The largest unit. With `d`, 120 days are `120d`. */
@@ -73,9 +76,9 @@ interface Counted<Name extends Unit> {
 }
 
 /**
- * How much of a duration is printed, and how. By default it is all, from `y` to `ns`. If nothing is
- * left, it is 0 of the smallest unit, or `0s` if that unit is shorter than a second, even if the
- * seconds are left out.
+ * How much of a duration is printed, and how. By default all of it is printed, from `y` to `ns`. If
+ * all counts are 0, the text is 0 of the smallest unit, such as `0h`. If that unit is shorter than
+ * a second, the text is `0s`, even if you left out the second.
  */
 export interface Limits extends Counted<Unit> {
     /**
@@ -85,8 +88,9 @@ export interface Limits extends Counted<Unit> {
 }
 
 /**
- * What `parts` counts. By default it is all, from days to nanoseconds. Longer units are counted if
- * they are among the `units`, or if the `largest` is longer than a day.
+ * Limits for what `parts` counts. By default it counts all of the duration, from days to
+ * nanoseconds. Longer units are counted if they are among the `units`, or if the `largest` is
+ * longer than a day.
  */
 export type PartLimits = Counted<Exclude<Unit, "q" | "quarter" | "quarters">>;
 
@@ -112,7 +116,7 @@ export interface Expected {
 interface Refused {
     /** The whole text that was read. */
     readonly text: string;
-    /** What could stand at the place of a syntax fault; for other faults all are false. */
+    /** What could stand at the place of a syntax fault. For other faults all fields are false. */
     readonly expected: Expected;
 }
 
@@ -131,8 +135,8 @@ export interface SyntaxFault extends Refused {
 }
 
 /**
- * A number, or a value in nanoseconds, is 2^64 or more. In the first term it has the place 0; later
- * it has no place.
+ * A number, or a value in nanoseconds, is 2^64 or more. In the first term the fault has the place
+ * 0. In a later term, and in a step, it has no place.
  */
 export interface SizeFault extends Refused {
     readonly code: "NUMBER_TOO_LARGE" | "OVERFLOW";
@@ -158,20 +162,21 @@ export interface OtherFault extends Refused {
 }
 
 /**
- * Why a text is refused. Look at `code` to tell the cases apart: only `SYNTAX` always has a `byte`.
+ * Why a text is refused. Look at `code` to distinguish the cases: only `SYNTAX` always has a
+ * `byte`.
  */
 export type Refusal = SyntaxFault | SizeFault | TextFault | OtherFault;
 
 interface Told {
     /**
-     * One line that says what is wrong, for `SYNTAX` also where, and often what to write. It is
-     * safe in a terminal and a log.
+     * One line that says what is wrong, for `SYNTAX` also where, and often what to write. The line
+     * is safe in a terminal and a log.
      */
     readonly message: string;
     /**
-     * For a terminal: the text, a caret below the place, and the message. It is the message alone
-     * if the code is not `SYNTAX`, if the text has more than 80 characters, or if the message would
-     * escape something in it.
+     * The report for a terminal: the text, a caret below the place, and the message. It is the
+     * message alone if the code is not `SYNTAX`, if the text has more than 80 characters, or if the
+     * message would escape something in the text.
      */
     readonly report: string;
 }
@@ -181,8 +186,8 @@ export type Fault = Refusal & Told;
 
 /**
  * The error for a refused text. A structured clone keeps the message and the `cause`, and `toJSON`
- * gives both. In Node `import` and `require` give the same class; `duration-str/plain` has another
- * class of the same name.
+ * returns both. In Node `import` and `require` give the same class. `duration-str/plain` has
+ * another class of the same name.
  *
  * ```js
  * try {
@@ -199,7 +204,7 @@ export type DurationError = Error & Refusal & Told & {
 };
 export declare const DurationError: abstract new (...nobody: never) => DurationError;
 
-/** What a text is read as, or what is wrong with it. */
+/** The value of a text, or what is wrong with it. */
 export type Result<Value = number> =
     | { readonly ok: true; readonly value: Value; readonly fault?: undefined }
     | { readonly ok: false; readonly value?: undefined; readonly fault: Fault };
@@ -211,9 +216,9 @@ export declare const version: string;
  * Returns the value of a text in milliseconds: `parse("1m 30s")` is `90000`, and `parse("1500us")`
  * is `1.5`.
  *
- * The value is the number nearest to the exact one. Below 2^33 ms (99 days) `format` prints every
- * nanosecond of it; above that the last ones may differ. To read an array, write
- * `texts.map((text) => parse(text))`, since `map` also passes the index.
+ * The value is the number that is nearest to the exact value. Below 2^33 ms (99 days) `format`
+ * prints every nanosecond of it. From there on the last nanoseconds may differ. To read an array,
+ * write `texts.map((text) => parse(text))`, since `map` also passes the index.
  *
  * ```js
  * setTimeout(retry, parse("1m 30s")); // setTimeout takes at most 24.8 days
@@ -221,9 +226,9 @@ export declare const version: string;
  *
  * @throws DurationError if the text is refused
  * @throws TypeError if `text` is not a string, or if an option is unknown or of another type
- * @throws RangeError if no unit has the name of the default unit, or if a unit is also required
- * @throws Error if WebAssembly is missing or refused, as every call does; the message says what to
- * do, and the `cause` is what the engine threw. The next call tries again.
+ * @throws RangeError if no unit has the name of `defaultUnit`, or if `requireUnit` is also on
+ * @throws Error if WebAssembly is missing or refused. Every call throws it. The message says what
+ * to do, and the `cause` is the engine's error. The next call tries again.
  */
 export function parse(text: string, options?: Options): number;
 
@@ -246,37 +251,41 @@ export function parseNs(text: string, options?: Options): bigint;
 export function tryParseNs(text: string, options?: Options): Result<bigint>;
 
 /**
- * Prints a duration of so many milliseconds: `format(5_400_000)` is `1h 30min`, and with
- * `{ parts: 1 }` it is `1h`.
+ * Prints a duration of this many milliseconds, and returns the text: `format(5_400_000)` is
+ * `1h 30min`, and with `{ parts: 1 }` it is `1h`.
  *
  * A number with a fraction, such as a difference of `performance.now()`, is rounded to the nearest
  * nanosecond: `format(1.005)` is `1ms 5µs`.
  *
- * @throws RangeError if the number is negative, 2^64 nanoseconds or more, NaN or infinite; if there
- * is no such unit, style or count of parts; if the largest unit is shorter than the smallest; or if
- * `units` is empty, or has no unit between these two
- * @throws TypeError if it is not a number, or if an option is unknown or of another type
+ * @throws RangeError if the number is negative, 2^64 nanoseconds or more, NaN or infinite; if a
+ * unit, the style or the number of parts is not one that exists; if the largest unit is shorter
+ * than the smallest; or if `units` is empty, or has no unit between these two
+ * @throws TypeError if the duration is not a number, or if an option is unknown or of another type
  */
 export function format(milliseconds: number, options?: Limits): string;
 
 /**
- * Prints a duration of so many nanoseconds: `formatNs(5_400_000_000_000n)` is `1h 30min`.
+ * Prints a duration of this many nanoseconds, and returns the text: `formatNs(5_400_000_000_000n)`
+ * is `1h 30min`.
  *
- * @throws RangeError if the number is negative, or 2^64 or more; for the options as `format` does
- * @throws TypeError if it is not a bigint; for the options as `format` does
+ * @throws RangeError if the number is negative, or 2^64 or more; and for the options, as `format`
+ * does
+ * @throws TypeError if the number is not a bigint; and for the options, as `format` does
  */
 export function formatNs(nanoseconds: bigint, options?: Limits): string;
 
 /**
  * Returns the parts of a duration as numbers: `parts(5_400_000)` is `{ hours: 1, minutes: 30 }`.
  * The duration is a number of milliseconds or a bigint of nanoseconds. Quarters are not counted.
- * Those of 0 are `{ seconds: 0 }`, or 0 of the smallest unit if that is longer than a second.
+ * The parts of a duration of 0 are `{ seconds: 0 }`, or 0 of the smallest unit if that unit is
+ * longer than a second.
  *
  * ```js
  * new Intl.DurationFormat("en").format(parts(parse("1h 30m"))); // 1 hr, 30 min
  * ```
  *
- * @throws RangeError if a number does not hold a count exactly; for the rest as `format` does
- * @throws TypeError if the duration is neither; for the limits as `format` does
+ * @throws RangeError if a number can't hold a count exactly; and otherwise as `format` does
+ * @throws TypeError if the duration is neither a number nor a bigint; and for the limits, as
+ * `format` does
  */
 export function parts(duration: number | bigint, limits?: PartLimits): Parts;

@@ -1,5 +1,6 @@
-// node duration.mjs EXPRESSION: the expression's nanoseconds, what they print as, and the moment so
-// long after 2000-01-01T00:00:00Z in seconds since 1970; or what is wrong with it.
+// `node duration.mjs EXPRESSION` prints the expression's value in nanoseconds, that value as a
+// printed duration, and the moment that much after 2000-01-01T00:00:00Z, in seconds since 1970. Or
+// it prints what is wrong with the expression.
 import { DurationError, formatNs, parseNs } from "duration-str";
 
 const START = 946_684_800n * 1_000_000_000n;

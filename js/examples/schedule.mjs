@@ -1,14 +1,15 @@
-// A job that runs every so often, until a deadline; both come from a configuration.
+// A job that runs again and again until a deadline. The period and the deadline come from a
+// configuration.
 import { DurationError, parse } from "duration-str";
 
 /**
- * Runs the job every `every` until `until` has passed. A refused text is an error that names its
- * setting.
+ * Runs the job at intervals of `every`, until the time `until` has passed. If a text is refused,
+ * the error names the setting.
  */
 export function schedule({ every, until }, job, now = new Date()) {
     const period = setting("every", () => parse(every));
     const end = setting("until", () => new Date(now.getTime() + parse(until)));
-    // A timer takes what is longer for 1 ms.
+    // A timer would take a longer period as 1 ms.
     if (period < 1 || period >= 2 ** 31) throw new RangeError("every: from 1 ms to 24 days");
     const timer = setInterval(() => (new Date() < end ? job() : clearInterval(timer)), period);
     return { timer, period, end };

@@ -1,21 +1,22 @@
-// The library as its WebAssembly module. The bundle has it as a string of one character for each
-// byte, which gzip packs into a fifth less than base64.
+// The library as its WebAssembly module. In the bundle the module is a string with one character
+// for each byte, which gzip packs into a fifth less than base64.
 import letters from "duration_str.txt";
 
 const ADVICE = "allow 'wasm-unsafe-eval' in the content security policy, lift --jitless or the "
     + "limit of the address space, or import duration-str/plain";
 
-/** The byte of each letter. Node's Buffer makes them in a tenth of the time that the loop takes. */
+/** The bytes that the letters stand for. Node's Buffer takes a tenth of the time that the loop
+ * takes. */
 function bytesOf(text) {
     const { Buffer, process } = globalThis;
-    // A page may have a Buffer that is something else.
+    // In a page, `Buffer` may be something else.
     if (Buffer && process?.versions?.node) return Buffer.from(text, "latin1");
     const bytes = new Uint8Array(text.length);
     for (let place = 0; place < bytes.length; place++) bytes[place] = text.charCodeAt(place);
     return bytes;
 }
 
-/** The exports of the module. Where it may not be compiled, the error says what to do. */
+/** The exports of the module. If it may not be compiled, the error says what to do. */
 export function instance() {
     try {
         return new WebAssembly.Instance(new WebAssembly.Module(bytesOf(letters))).exports;

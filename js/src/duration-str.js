@@ -1,13 +1,13 @@
-// Durations as people write them, read and printed by a proved library. The library is a module of
-// WebAssembly (compiled.js), or JavaScript made from that module (plain.js): `instance` is one of
-// the two. index.d.ts documents the exports.
+// Reads and prints durations as people write them, by a proved library. The library is a module of
+// WebAssembly (compiled.js), or JavaScript made from that module (plain.js). `instance` comes from
+// one of the two. index.d.ts documents the exports.
 //
-// A page may have changed the prototypes of arrays and of objects. So arrays are walked by index,
-// without their methods. Tables of names and descriptions of properties have no prototype, and a
-// field is defined before it is assigned.
+// A page may have changed the prototypes of arrays and of objects. So loops go over arrays by
+// index, and don't use their methods. Tables of names and descriptions of properties have no
+// prototype, and a field is defined before it is assigned.
 import { instance } from "instance";
 
-/** The bytes by which a memory grows. */
+/** The size of a page in bytes, by which a memory of WebAssembly grows. */
 const PAGE = 65_536;
 /** A count of 64 bits is two halves of 32 bits, each below this. */
 const HALF = 2 ** 32;
@@ -32,24 +32,24 @@ const PARTS = [
     "years", null, "months", "weeks", "days", "hours", "minutes",
     "seconds", "milliseconds", "microseconds", "nanoseconds",
 ];
-/** A set of units is a number with the bit `1 << unit` for each. These are all, and those that
- * `parts` counts. */
+/** A set of units is a number with the bit `1 << unit` for each unit. These are the set of all
+ * units, and the set of the units that `parts` counts. */
 const ALL_UNITS = (1 << UNITS.length) - 1;
 const COUNTED_UNITS = ALL_UNITS & ~(1 << indexIn(PARTS, null));
 /** The styles, in the order of `enum duration_str_style`. */
 const STYLES = ["short", "compact", "long"];
 /** The options of reading that are on or off, with their bits in `enum duration_str_option`. */
 const OPTIONS = { __proto__: null, noCalc: 1, lowercase: 2, cnUnit: 4, requireUnit: 8 };
-/** From this bit on, the options have the default unit's number plus 1; 0 is the second. */
+/** From this bit on, the options hold the default unit's number plus 1, or 0 for the second. */
 const DEFAULT_UNIT = 16;
 
-/** The size of the buffer that the module writes to, which is enough for all that it writes. */
+/** The size of the buffer that the module writes to. Everything that it writes fits. */
 const WRITTEN_SIZE = 867;
-/** An encoder and a decoder take longer to call than a short text takes to copy: up to so many
- * UTF-16 units of a text to read, and so many bytes of what is written. */
+/** Copying a short text takes less time than calling an encoder or a decoder. A text to read is
+ * short up to this many UTF-16 units, and a written text up to this many bytes. */
 const SHORT_TEXT = 40;
 const SHORT_WRITTEN = 28;
-/** Node shows a text of up to so many UTF-16 units with an error. */
+/** The most UTF-16 units of a text that Node shows with an error. */
 const SHOWN_LENGTH = 80;
 
 export const version = VERSION;
@@ -58,16 +58,17 @@ export const version = VERSION;
 
 let memory;
 let calls;
-// Above the module's own memory stand a `struct duration_str_answer`, whose fields have the
-// addresses below, the buffer that the module writes to, and the text that it reads.
+// After the module's own memory come a `struct duration_str_answer`, the buffer that the module
+// writes to, and the text that it reads. These are the addresses of the struct and its fields, of
+// the buffer and of the text.
 let ANSWER, PLACE, FOUND_LENGTH, CAUSE, EXPECTED, HAS_PLACE, WRITTEN, TEXT;
-// Views of the whole memory, of the buffer, and of all from TEXT on.
+// Views of the whole memory, of the buffer, and of the memory from TEXT on.
 let fields;
 let written;
 let texts;
 
-/** Makes the module. This is done at the first call, so that an import takes no time, and does not
- * throw where WebAssembly is refused. */
+/** Makes the module. This happens at the first call, so that an import takes no time, and does not
+ * throw if WebAssembly is refused. */
 function start() {
     const { memory: all, __heap_base: heap, ...others } = instance();
     ANSWER = Math.ceil(heap.value / 8) * 8;
@@ -79,13 +80,13 @@ function start() {
     WRITTEN = ANSWER + 32;
     TEXT = WRITTEN + WRITTEN_SIZE;
     memory = all;
-    // So there is at least a page for the text.
+    // With one more page, there is at least a page for the text.
     memory.grow(1);
     makeViews();
     calls = others;
 }
 
-/** Makes the views. Those from before end when the memory grows. */
+/** Makes the views. Older views stop working when the memory grows. */
 function makeViews() {
     fields = new DataView(memory.buffer);
     written = new Uint8Array(memory.buffer, WRITTEN, WRITTEN_SIZE);
@@ -103,7 +104,7 @@ function reserve(length) {
 
 let decoder;
 
-/** Does what `decode` does where there is no decoder, as in jsdom, which has the URI functions. */
+/** Does what `decode` does, by the URI functions, if there is no decoder, as in jsdom. */
 function decodeEscaped(bytes) {
     let escaped = "";
     for (let place = 0; place < bytes.length; place++) {
@@ -138,7 +139,7 @@ function output(length) {
 
 let encoder;
 
-/** Copies a short text of ASCII to TEXT and returns its length; -1 for any other text. */
+/** Copies a short ASCII text to TEXT and returns its length. Returns -1 for any other text. */
 function copyShort(text) {
     if (text.length > SHORT_TEXT) return -1;
     for (let index = 0; index < text.length; index++) {
@@ -149,7 +150,7 @@ function copyShort(text) {
     return text.length;
 }
 
-/** Does what `write` does where there is no encoder. */
+/** Does what `write` does, if there is no encoder. */
 function writeEscaped(text) {
     const lone = text.search(LONE_SURROGATE);
     const bytes = lone >= 0 ? "" : unescape(encodeURIComponent(text));
@@ -166,7 +167,7 @@ function write(text) {
     if (typeof TextEncoder === "undefined") return writeEscaped(text);
     encoder ??= new TextEncoder();
     const { written: length } = encoder.encodeInto(text, texts);
-    // A text that has no more bytes than units is ASCII, without surrogates.
+    // A text that has no more bytes than UTF-16 units is ASCII, and has no surrogates.
     const lone = length > text.length ? text.search(LONE_SURROGATE) : -1;
     return { length, lone };
 }
@@ -204,16 +205,16 @@ class Fault {
     }
 }
 
-/** Puts a longer text of this name behind a getter. Node shows an error that nobody catches with up
- * to 10,000 characters of each text in its cause, and calls no getter. */
+/** Hides the field of this name behind a getter if its text is long. If nobody catches an error,
+ * Node shows up to 10,000 characters of each text in its cause, but calls no getter. */
 function hideLong(cause, name) {
     const text = cause[name];
     if (text === null || text.length <= SHOWN_LENGTH) return;
     Object.defineProperty(cause, name, { __proto__: null, get: () => text });
 }
 
-/** A refused text. All about the fault but its message is in `cause`, since a structured clone of
- * an error keeps no other field. */
+/** The error for a refused text. Everything about the fault except its message is in `cause`, since
+ * a structured clone of an error keeps no other field. */
 export class DurationError extends Error {
     #report;
 
@@ -261,7 +262,7 @@ export class DurationError extends Error {
     }
 }
 
-// A plain assignment would throw where the prototype of errors is frozen.
+// A plain assignment would throw if the prototype of errors is frozen.
 Object.defineProperty(DurationError.prototype, "name", {
     __proto__: null, value: "DurationError", writable: true, configurable: true,
 });
@@ -276,7 +277,7 @@ function expectedOf(bits) {
     };
 }
 
-/** Why the text at TEXT is refused, from the answer and the report that the call has written. */
+/** The fault of the text at TEXT, from the answer and the report that the call has written. */
 function faultOf(text, length, reportLength) {
     const code = CODES[fields.getUint32(CAUSE, true)];
     const byte = fields.getUint8(HAS_PLACE) ? fields.getUint32(PLACE, true) : null;
@@ -292,7 +293,7 @@ function faultOf(text, length, reportLength) {
     return new Fault({ code, text, index, byte, found, expected }, output(reportLength));
 }
 
-/** Why a text is refused that has a lone surrogate at this index. */
+/** The fault of a text that has a lone surrogate at this index. */
 function loneSurrogateAt(text, index) {
     const expected = expectedOf(0);
     const cause = { code: "NOT_TEXT", text, index, byte: null, found: null, expected };
@@ -301,7 +302,7 @@ function loneSurrogateAt(text, index) {
 
 // ---- Lists
 
-/** The index of a name in a list; -1 if it isn't there. */
+/** The index of a name in a list, or -1 if it isn't there. */
 function indexIn(names, name) {
     for (let index = 0; index < names.length; index++) {
         if (names[index] === name) return index;
@@ -341,7 +342,7 @@ function typeOf(value) {
     return Array.isArray(value) ? "array" : typeof value;
 }
 
-/** Whether an object inherits nothing but what every object has, in this realm or another. */
+/** Whether an object inherits only what every object inherits, in this realm or another. */
 function isPlain(options) {
     if (typeof options !== "object" || options === null) return false;
     const prototype = Object.getPrototypeOf(options);
@@ -358,7 +359,7 @@ function checkPlain(options, hint = "") {
 
 const unknown = (name) => new TypeError(`unknown option: ${name}`);
 
-/** The number of the unit that the library reads this name as; -1 if there is none. */
+/** The number of the unit that the library reads by this name, or -1 if there is none. */
 function unitRead(name) {
     if (!LETTERS.test(name) || faultIn(`1${name}`)) return -1;
     const length = nanoseconds();
@@ -366,8 +367,8 @@ function unitRead(name) {
     return indexIn(lengths.bigint, length);
 }
 
-/** The number of the unit that has this name in a text that is read with all options off. `what` is
- * the option that has the name. */
+/** The number of the unit that a text calls by this name if all options are off. `what` is the
+ * option that has this value, for the error. */
 function unitOf(what, name) {
     if (typeof name !== "string") {
         throw new TypeError(`${what} must be a string, not ${typeOf(name)}`);
@@ -378,8 +379,8 @@ function unitOf(what, name) {
     throw new RangeError(`${what} must be one of ${listed(UNITS)}, not ${name}`);
 }
 
-/** The bits of a default unit, which are none for the second. Another unit turns `noCalc` on, since
- * a factor without a unit counts it, too. */
+/** The bits of a default unit. The second has none. Another unit turns `noCalc` on, since a factor
+ * without a unit would count it too. */
 function defaultUnitBits(name) {
     if (name === undefined) return 0;
     const unit = unitOf("the option defaultUnit", name);
@@ -435,7 +436,7 @@ function unitsOf(names) {
     return units;
 }
 
-/** How many parts are printed at most. There are no more than units. */
+/** The greatest number of parts. No duration has more parts than there are units. */
 function countOf(parts) {
     if (typeof parts !== "number") {
         throw new TypeError(`the option parts must be a number, not ${typeOf(parts)}`);
@@ -446,7 +447,7 @@ function countOf(parts) {
     return Math.min(parts, UNITS.length);
 }
 
-/** The options of printing and of counting, and what they are where nothing is chosen. */
+/** The options for printing and for counting, with their default values. */
 const PRINTED_WHOLE = {
     __proto__: null, units: undefined, largest: undefined, smallest: "ns", parts: Infinity,
     style: "short",
@@ -455,7 +456,7 @@ const COUNTED_WHOLE = {
     __proto__: null, units: undefined, largest: undefined, smallest: "ns", parts: Infinity,
 };
 
-/** The options of printing or of counting, of which `whole` has all names. */
+/** Reads the options for printing or for counting. `whole` has their names and default values. */
 function limitsOf(options, whole) {
     checkPlain(options);
     let { units, largest, smallest, parts, style } = whole;
@@ -474,8 +475,8 @@ function limitsOf(options, whole) {
     return { units, largest, smallest, parts, style };
 }
 
-/** The set of those of all units that the limits leave, and the set of those that they name. The
- * largest is `longest` where no units are listed and no largest is chosen. */
+/** The set of the units in `all` that the limits leave, and the set of the units that the limits
+ * name. If no units are listed and no largest is chosen, the largest is `longest`. */
 function unitsLeft({ units, largest, smallest }, all, longest) {
     const wanted = units === undefined ? all : unitsOf(units);
     if (largest === undefined) largest = units === undefined ? longest : "y";
@@ -497,7 +498,7 @@ function unitsLeft({ units, largest, smallest }, all, longest) {
 /** The duration in nanoseconds. */
 const nanoseconds = () => fields.getBigUint64(ANSWER, true);
 
-/** The same, but a number where a number is exact, below 2^53: it is faster to count with. */
+/** The same. Below 2^53 it is a number, which is exact there, and faster to count with. */
 function count() {
     const high = fields.getUint32(ANSWER + 4, true);
     return high < 2 ** 21 ? high * HALF + fields.getUint32(ANSWER, true) : nanoseconds();
@@ -512,8 +513,8 @@ function milliseconds() {
 const negative = (value) => new RangeError(`a duration is not negative: ${value}`);
 const tooLong = (longest) => new RangeError(`a duration is at most 584 years, ${longest}`);
 
-/** Puts a duration there: a bigint of nanoseconds, or a number of milliseconds, which is rounded to
- * the nearest nanosecond. */
+/** Puts a duration at ANSWER. It is a bigint of nanoseconds, or a number of milliseconds, which is
+ * rounded to the nearest nanosecond. */
 function put(value) {
     if (typeof value === "bigint") {
         if (value < 0n) throw negative(value);
@@ -526,20 +527,20 @@ function put(value) {
     if (value < 0) throw negative(value);
     const whole = Math.trunc(value);
     const fraction = Math.round((value - whole) * MILLISECOND);
-    // Halves are multiplied apart, so that all numbers stay below 2^53 and are exact.
+    // The two halves are multiplied one by one, so that all numbers stay below 2^53 and are exact.
     const upper = Math.trunc(whole / HALF);
     const low = (whole - upper * HALF) * MILLISECOND + fraction;
     const high = upper * MILLISECOND + Math.trunc(low / HALF);
     if (high >= HALF) throw tooLong("18446744073709.55 ms");
     if (!calls) start();
-    // Of a larger number, this takes the lower 32 bits.
+    // This takes the lower 32 bits of `low`.
     fields.setUint32(ANSWER, low, true);
     fields.setUint32(ANSWER + 4, high, true);
 }
 
 // ---- Reading
 
-/** Reads a text. Returns what is wrong with it, or null: then its value stands at ANSWER. */
+/** Reads a text. Returns the fault, or null if the text is read. Then its value is at ANSWER. */
 function faultIn(text, options) {
     if (typeof text !== "string") {
         throw new TypeError(`a duration's text must be a string, not ${typeOf(text)}`);
@@ -579,14 +580,15 @@ export function parse(text, options) {
 
 // ---- Printing
 
-/** The text of the duration at ANSWER. The module takes a count of 64 bits as its two halves. */
+/** Prints the duration at ANSWER. The module takes a number of 64 bits as two halves. */
 function print(options) {
     if (options === undefined) {
         const low = fields.getInt32(ANSWER, true);
         const high = fields.getInt32(ANSWER + 4, true);
         return output(calls.duration_str_format(low, high, WRITTEN));
     }
-    // This comes before the options are looked at: one may have a getter that calls this package.
+    // The duration is taken before the options are looked at, since an option may have a getter
+    // that calls this package.
     const total = count();
     const limits = limitsOf(options, PRINTED_WHOLE);
     const { left } = unitsLeft(limits, ALL_UNITS, "y");
@@ -631,7 +633,8 @@ function exactly(count) {
     throw new RangeError(`no number holds ${count} exactly: choose a larger unit`);
 }
 
-/** The counts with one more. To assign it is faster, but all objects may have a setter of its name.
+/** The counts with one more count. Assigning is faster, but all objects may have a setter of this
+ * name.
  */
 function withCount(counts, name, count) {
     if (name in counts) return { ...counts, [name]: count };
@@ -662,7 +665,7 @@ export function parts(value, options = {}) {
         room--;
     }
     if (room < most) return counts;
-    // Nothing is left: 0 of the smallest unit, or of seconds where that is shorter.
+    // There are no parts: it is 0 of the smallest unit, or of the second if that unit is shorter.
     const zero = Math.min(31 - Math.clz32(left), indexIn(UNITS, "s"));
     return { [PARTS[zero]]: 0 };
 }

@@ -1,5 +1,5 @@
-// The package as others take it: by `require`, bundled, and in a service worker. A tool that is
-// missing is skipped.
+// Tests the package as its users load it: by `require`, bundled, and in a service worker. If a tool
+// is missing, its test is skipped.
 import assert from "node:assert/strict";
 import { execFileSync, spawn, spawnSync } from "node:child_process";
 import { createServer } from "node:http";
@@ -77,7 +77,8 @@ console.log(said);`);
     assert.equal(runs("node", "both.mjs"), "true");
 });
 
-/** What Node prints that runs these lines with the package as `all`, which `before` prepares. */
+/** Runs these lines in Node, after the lines `before`, with the package as `all`. Returns what Node
+ * prints. */
 function nodeOutput(words, before, lines) {
     const code = `${before}\nconst all = await import("duration-str");\n${lines}`;
     return runs("node", "--no-warnings", ...words, "--input-type=module", "--eval", code);
@@ -162,7 +163,7 @@ test("has types for a CommonJS module", skipWithout("tsc"), () => {
     }
 });
 
-// What is read by plain JavaScript, and printed whole, tests/compare compares.
+// tests/compare compares what the plain package reads, and what it prints without limits.
 test("prints in plain JavaScript as in WebAssembly", async () => {
     const [compiled, plain] = await Promise.all(
         [import("duration-str"), import("duration-str/plain")],
@@ -262,8 +263,8 @@ for (const format of ["esm", "cjs"]) {
 }
 
 /**
- * What is posted from a page in Chromium that is served with these files and headers, of which the
- * first is the page.
+ * Opens a page in Chromium, which is served with these files and headers, and returns the message
+ * that it posts. The first file is the page.
  */
 async function pageMessage(files, headers = {}) {
     let browser;
@@ -299,13 +300,13 @@ async function pageMessage(files, headers = {}) {
     }).finally(() => new Promise((resolve) => {
         server.close();
         server.closeAllConnections();
-        // Until it has ended, the browser writes into its profile.
+        // The browser writes to its profile until it has ended.
         browser.on("close", resolve);
         browser.kill();
     }));
 }
 
-/** A script of these lines with what it imports. */
+/** Bundles these lines with the modules that they import. */
 function bundle(lines) {
     writeFileSync(join(room, "lines.mjs"), lines);
     return runs("esbuild", "lines.mjs", "--bundle", "--log-level=error", "--format=iife");

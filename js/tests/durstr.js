@@ -1,6 +1,6 @@
-// node durstr.js [OPTION..]: does over the package what the program durstr does, but for a refused
-// line, of which it writes the package's message. An option may also be `require_unit` or a default
-// unit as `default_unit=ms`. The status is 0 if all lines are read, and 1 if some are refused.
+// `node durstr.js [OPTION..]` does by this package what the program durstr does, except that for a
+// refused line it writes the package's message. An option may also be `require_unit`, or a default
+// unit such as `default_unit=ms`. The status is 0 if all lines are read, and 1 if some are refused.
 import { readFileSync, writeFileSync } from "node:fs";
 
 import { formatNs, tryParseNs } from "duration-str";
@@ -9,7 +9,7 @@ import { optionsOf } from "./vectors.js";
 const options = optionsOf(process.argv.slice(2));
 const strict = new TextDecoder("utf-8", { fatal: true, ignoreBOM: true });
 
-/** What is written for a line, and whether it is read. */
+/** Returns the text that is written for a line, and whether the line is read. */
 function answer(line) {
     let text;
     try {
@@ -21,7 +21,7 @@ function answer(line) {
     return ok ? [`${value} ${formatNs(value)}`, true] : [String(fault), false];
 }
 
-// A line feed ends each line, and may be missing after the last.
+// A line feed ends each line. It may be missing after the last line.
 const lines = readFileSync(0, "latin1").split("\n");
 if (lines.at(-1) === "") lines.pop();
 const answers = lines.map((line) => answer(Buffer.from(line, "latin1")));

@@ -10,7 +10,7 @@ import { CHOICES, optionsOf, VECTORS } from "./vectors.js";
 const HERE = fileURLToPath(new URL(".", import.meta.url));
 const NOTHING = { number: false, unit: false, operator: false, end: false };
 
-/** The error by which a text is refused. */
+/** The error that reading this text throws. */
 function errorOf(text, options) {
     try {
         parseNs(text, options);
@@ -44,7 +44,7 @@ test("tells all of a refusal", () => {
 });
 
 test("lets nothing unsafe into the message, and keeps it short", () => {
-    // What the terminal acts on, what turns the direction of writing, and what isn't seen
+    // Characters that a terminal acts on, that turn the direction of writing, or that can't be seen
     const unsafe = /[\0-\x1f\x7f-\x9f\u200b-\u200f\u2028-\u202e\u2060-\u2069\ufeff]/;
     for (let code = 0; code < 0x3000; code++) {
         for (const before of ["", "1", "1h ", "1h x"]) {

@@ -14,7 +14,7 @@ const ALL_NAMES = /type Unit =([^;]*);/.exec(TYPES)[1].trim().split("\n")
 const STYLES = Array.from(/style\?: (.*) \| undefined/.exec(TYPES)[1].matchAll(/\w+/g), String);
 const DAY = 86_400_000_000_000n;
 
-/** What is printed in each style that there is, given two of the texts. */
+/** The printed text in each style, given the short and the long one. */
 function inStyles(short, long) {
     const texts = { short, compact: short.replaceAll(" ", ""), long };
     assert.deepEqual(Object.keys(texts), STYLES);
@@ -71,7 +71,8 @@ test("prints in the units that are chosen", () => {
         [90_061_000_000_000n, { units: ["w", "h", "s"], smallest: "min" }, "25h"],
         [0n, { units: ["y", "d"] }, "0d"],
         [0n, { units: ["y", "d"], largest: "mon", style: "long" }, "0 days"],
-        // A zero has no shorter unit than a second, even if the seconds are left out.
+        // A zero is never printed in a unit shorter than the second, even if the second is left
+        // out.
         [999n, { units: ["d", "µs"] }, "0s"],
         [1n, { units: ["ns"] }, "1ns"],
         [2n ** 64n - 1n, { units: NAMES }, "584y 3q 2mon 1w 3d 23h 34min 33s 709ms 551µs 615ns"],
@@ -134,7 +135,7 @@ test("refuses limits that there are not", () => {
         [{ style: "wide" }, new RangeError(`${style} wide`)],
         [{ style: 1 }, new TypeError("the option style must be a string, not number")],
         [{ parts: "2" }, new TypeError("the option parts must be a number, not string")],
-        // What makes another text of the unit's name than a term with this unit
+        // Names that would make another text than one term with this unit
         ...["x", "", "d 6d", "1d", " d", "d*1d", "分", "__proto__"].map(
             (name) => [{ units: ["d", name] }, noUnit(name)],
         ),
@@ -183,8 +184,8 @@ test("counts the parts", () => {
                 nanoseconds: 615,
             },
         ],
-        // 400 days are a year of 365, a month of 30 and 5 more, and of months and weeks alone 13 of
-        // 30, a week and 3 more.
+        // 400 days are a year of 365 days, a month of 30 days and 5 days. Without years they are 13
+        // months, a week and 3 days.
         [400n * DAY, { largest: "y" }, { years: 1, months: 1, days: 5 }],
         [400n * DAY, { largest: "mon" }, { months: 13, weeks: 1, days: 3 }],
         [400n * DAY, { largest: "mon", parts: 2 }, { months: 13, weeks: 1 }],
@@ -232,7 +233,7 @@ test("prints milliseconds", () => {
     }
     assert.equal(format(parse("1m 30s")), "1min 30s");
     assert.equal(format(18_446_744_073_709.55, { parts: 1 }), "584y");
-    // Where a half of 32 bits is full, and where a number of nanoseconds no longer is exact
+    // Values around which a half of 32 bits is full, or a number of nanoseconds is no longer exact
     for (const whole of [4_294, 4_295, 4_294_967_295, 4_294_967_296, 9_007_199_254, 9_007_199_255]) {
         for (const fraction of [0, 0.25, 0.5]) {
             const nanoseconds = BigInt(whole) * 1_000_000n + BigInt(fraction * 1_000_000);
@@ -243,7 +244,8 @@ test("prints milliseconds", () => {
             assert.deepEqual(parts(whole + fraction), parts(nanoseconds));
         }
     }
-    // The last nanosecond that a number of milliseconds has to have, and the first that it lacks
+    // The last nanosecond that a number of milliseconds must be able to hold, and the first that it
+    // can't
     for (const [text, isSame] of [["8589934591999999ns", true], ["8589934592000001ns", false]]) {
         assert.equal(format(parse(text)) === formatNs(parseNs(text)), isSame);
     }

@@ -1,6 +1,6 @@
-// What a page has done to the prototypes of arrays and objects, before or after the package is
-// there, changes no answer. The calls are made in a realm of their own, and compared with those of
-// an untouched one.
+// Tests that no answer changes if a page changes the prototypes of arrays and objects, before or
+// after the package is loaded. The calls are made in a realm of their own, and compared with the
+// calls in an untouched realm.
 import assert from "node:assert/strict";
 import { readFileSync } from "node:fs";
 import test from "node:test";
@@ -64,7 +64,7 @@ const CALLS = [
     'parts(1, { style: "long" })',
     "fieldsOf(() => parse('1m 3-5'))",
 ];
-/** An error's fields, and what its `toJSON` gives. */
+/** An error's fields, and what its `toJSON` returns. */
 const FIELDS = `function fieldsOf(call) {
     try {
         call();
@@ -74,8 +74,8 @@ const FIELDS = `function fieldsOf(call) {
     }
 }`;
 
-/** A realm in which this runs before the package is there, and that after it, with other names too.
- */
+/** A realm in which the code `before` runs before the package is loaded, and the code `after` runs
+ * after it, with other names too. */
 function realm(file, before, after, others) {
     const source = readFileSync(new URL(`../dist/${file}`, import.meta.url), "utf8");
     const context = createContext({ module: {}, names: NAMES, ...others });
@@ -86,13 +86,13 @@ function realm(file, before, after, others) {
     return context;
 }
 
-/** What a value of another realm has itself. */
+/** Copies a value of another realm with its own properties. */
 function own(value) {
     if (typeof value !== "object" || value === null) return value;
     return Object.fromEntries(Object.entries(value).map(([name, each]) => [name, own(each)]));
 }
 
-/** What a call returns or throws in a realm. */
+/** What a call in a realm returns or throws. */
 function told(call, context) {
     try {
         return own(runInContext(call, context));
@@ -102,7 +102,8 @@ function told(call, context) {
     }
 }
 
-/** Compares a realm that is changed before or after the package is there with an untouched one. */
+/** Compares a realm that is changed before or after the package is loaded with an untouched realm.
+ */
 function same(file, before, after) {
     for (const others of [{}, { TextEncoder, TextDecoder }]) {
         const touched = realm(file, before, after, others);

@@ -7,7 +7,7 @@ import { choicesFor, holds, optionsOf, VECTORS } from "./vectors.js";
 
 const LARGEST = 2n ** 64n - 1n;
 
-// First, while the memory is small
+// This test is the first, while the memory is still small.
 test("makes room at each size, for texts and faults", () => {
     for (let count = 1; count < 1_000_000; count = Math.ceil(count * 1.2)) {
         assert.equal(
@@ -86,7 +86,7 @@ test("counts the default unit where a number has none", () => {
         ["1", "us", 0.001],
         ["1", "µs", 0.001],
         ["18446744073709", "ms", 18_446_744_073_709],
-        // The second is also the default unit where none is chosen, and leaves operators.
+        // The second is also the default unit if none is chosen, and operators are read with it.
         ["2*3", "s", 6000],
         ["2*3", undefined, 6000],
     ];

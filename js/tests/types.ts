@@ -1,5 +1,5 @@
-// The types of the package, by the compiler alone: what has to be wrong stands below a line that
-// expects an error.
+// Tests the types of the package by the compiler alone. Code that must be wrong stands below a line
+// that expects an error.
 import {
     DurationError, type Expected, type Fault, formatNs, format, type Options, parseNs, parse, type Parts, parts,
     type Refusal, tryParseNs, tryParse, version,
@@ -37,7 +37,7 @@ try {
     const index: number = error.index;
     // @ts-expect-error: there is no such code
     if (error.code === "READ") throw error;
-    // @ts-expect-error: it is told once
+    // @ts-expect-error: the field is read-only
     error.report = "";
     void [places, any, told, index];
 }
@@ -68,9 +68,9 @@ format(1, { unit: "d" });
 formatNs(1n, { style: "wide" });
 // @ts-expect-error: quarters are not counted
 parts(1n, { largest: "q" });
-// @ts-expect-error: nor if they are chosen
+// @ts-expect-error: quarters are not counted, even if they are chosen
 parts(1n, { units: ["quarters"] });
-// @ts-expect-error: nobody else makes one
+// @ts-expect-error: users can't make an error
 new DurationError("1x");
 // @ts-expect-error: a bigint is no number
 const wrong: number = parseNs("1s");

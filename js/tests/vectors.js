@@ -1,5 +1,5 @@
-// What texts are read as, why they are refused, and what durations print as: the vectors by which
-// all packages are tested.
+// The file vectors.json, by which the tests of all packages check how texts are read and refused,
+// and how durations are printed.
 import { readFileSync } from "node:fs";
 
 export const VECTORS = JSON.parse(
@@ -7,8 +7,8 @@ export const VECTORS = JSON.parse(
 );
 
 /**
- * The options with these names, which are those in C and on command lines. A name is that of an
- * option that is on, or a default unit as `default_unit=ms`.
+ * The options with these names, which are the names in C and on command lines. A name is that of an
+ * option that is on, or a default unit such as `default_unit=ms`.
  */
 export function optionsOf(names) {
     const camel = (name) => name.replace(/_(.)/, (_, letter) => letter.toUpperCase());
@@ -19,19 +19,20 @@ export function optionsOf(names) {
     ]);
 }
 
-/** All choices of the options, each as the names of those that are on. */
+/** All choices of the options, each as the names of the options that are on. */
 export const CHOICES = VECTORS.options.reduce(
     (lists, name) => lists.flatMap((names) => [names, [...names, name]]),
     [[]],
 );
 
-/** The choices for the vectors of this group, each with its required or another default unit. */
+/** The choices of options for the vectors of this group. Each includes the group's default unit, or
+ * its requirement of units, if it has one. */
 export function choicesFor({ on }) {
     const unit = on.filter((name) => !VECTORS.options.includes(name));
     return CHOICES.map((names) => [...names, ...unit]);
 }
 
-/** Whether the vectors of this group hold under the options with these names. */
+/** Whether the texts of this group are read under the options with these names. */
 export function holds({ on, off }, names) {
     return on.every((name) => names.includes(name)) && !off.some((name) => names.includes(name));
 }
