@@ -1,20 +1,22 @@
-// What the page says and marks of a refused text, and says of one that many people would read in
-// another way; and what it offers instead, which are whole texts that the library reads.
+// What the page says about a refused text, and which part it marks; what it says about a text that
+// many people would read in another way; and the texts that it offers instead, each of which the
+// library reads as a whole.
 import { formatNs, tryParseNs } from "../js/dist/duration-str.js";
 import { clean, converted } from "./conversions.js";
 import { say } from "./sentences.js";
 import { defaultUnitOf, LONG, terms, UNITS, unitOf } from "./units.js";
 import { inWords } from "./values.js";
 
-/** Days and months of a date, as the names that `cn_unit` adds */
+/** A number with the sign of a day or month, as in a date. `cn_unit` would read these. */
 const DATE = /[0-9]\s*[日月]/;
 
-/** Changes of options by which more is read. */
+/** Changes of options with which more texts are read. */
 const CALC = { noCalc: false };
 const CAPITALS = { lowercase: false };
 const CHINESE = { cnUnit: true };
 
-/** These options, and then others by which more is read, those with the fewest changes first. */
+/** These options, and then others with which more texts are read. Those with the fewest changes
+ * come first. */
 function optionsToTry(options, text) {
     const both = { ...CALC, ...CAPITALS };
     const changes = [{}, CALC, CAPITALS, CHINESE, both];
@@ -24,11 +26,12 @@ function optionsToTry(options, text) {
     return tried.map((each) => ({ ...options, ...each }));
 }
 
-/** For a unit, how many of the next smaller one it has, and what to write for that one. People
- * leave it out at the end, as in `1h 30`. */
+/** How many of the next smaller unit a unit has, and that unit's name. People leave it out at the
+ * end, as in `1h 30`. */
 const LEFT_OUT = { d: [24n, "h"], h: [60n, "m"], m: [60n, "s"] };
 
-/** A sum with the unit that is left out at its end; null if it isn't certain which that is. */
+/** Adds the unit that is left out at the end of a sum. Returns null if it isn't certain which unit
+ * that is. */
 function complete(text, options) {
     const found = Array.from(terms(text, options));
     if (found.length < 2 || found[1].operator === "*") return text;
@@ -41,7 +44,8 @@ function complete(text, options) {
     return text.trimEnd().replace(/(?<=\p{L})(?=[0-9]+$)/u, " ") + added;
 }
 
-/** A text as it is offered, with its meaning in words; no offer of null or of a refused text. */
+/** A list with the offer of a text and its meaning in words. It is empty for null and for a refused
+ * text. */
 function offer(text, options) {
     const { ok, value } = text === null ? { ok: false } : tryParseNs(text, options);
     if (!ok) return [];
@@ -49,8 +53,8 @@ function offer(text, options) {
     return [{ text, options, value, meaning: inWords(sum, options) }];
 }
 
-/** What is offered in place of a refused text: the same under other options, or with characters and
- * names that the library has, or converted. */
+/** The texts that are offered in place of a refused one: the same text under other options, or the
+ * text with characters and names that the library has, or the text converted. */
 export function offersFor(text, options) {
     if (text.trim() === "") return [];
     for (const each of [text, clean(text)]) {
@@ -62,30 +66,31 @@ export function offersFor(text, options) {
     return readings.flatMap(({ text: each }) => offer(complete(each, options), options));
 }
 
-/** The range of the text that the fault is about, as two indexes; no range if the fault has no
- * place. */
+/** The range of the text that the fault is about, as two indexes, in a list. The list is empty if
+ * the fault has no place. */
 export function markedParts({ words, start, fault }, options) {
     if (!fault || fault.index === null) return [];
     const { code, index, found } = fault;
     const part = (from, length) => [{ from: start + from, to: start + from + length }];
     if (code === "NOT_TEXT") return part(index, 1);
-    // A word of letters that no unit has is marked whole.
+    // A word is marked as a whole, even if it has letters that no unit has.
     const word = /^\p{L}*/u.exec(words.slice(index))[0];
     if (code === "SYNTAX") return part(index, Math.max(word.length, (found ?? "").length));
     const [term] = terms(words, options);
     return part(words.indexOf(term.words), term.words.length);
 }
 
-/** What the page says of a refused text; nothing if the library's line says it. */
+/** What the page says about a refused text, or nothing if the library's line is enough. */
 export function sentence(text, code, options) {
     if (text.trim() === "") return say`Type a duration, such as ${"1h 30m"}.`;
-    // A product may be shorter, with a step that isn't.
+    // The value of a product may be shorter than 584 years, although a step is longer.
     const isLarge = code === "OVERFLOW" || code === "NUMBER_TOO_LARGE";
     if (isLarge && !text.includes("*")) return say`Over 584 years, the longest duration.`;
     return code === "SYNTAX" && text.length <= LONG ? converted(text, options)?.sentence : null;
 }
 
-/** A sentence with the days of a duration that is printed in years, quarters or months. */
+/** A list with a sentence that says how many days a duration has, if it is printed in years,
+ * quarters or months. */
 function inDays(value, limits) {
     const printed = formatNs(value, { ...limits, style: "short" });
     const isPrinted = ({ names: [name] }) => new RegExp(`[0-9]${name}\\b`).test(printed);
@@ -95,7 +100,7 @@ function inDays(value, limits) {
     return [say`That is ${formatNs(value, { largest: "d" })}: ${[lengths.join(", ")]}.`];
 }
 
-/** The first term of minutes by which people mean months: after years, or before weeks or days. */
+/** The first term of minutes that people mean as months: after years, or before weeks or days. */
 function monthIn(sum) {
     const unitAt = (place) => unitOf(sum[place]?.unit ?? "")?.names[0];
     const isMonth = (place) => unitAt(place - 1) === "y" || ["w", "d"].includes(unitAt(place + 1));

@@ -1,5 +1,5 @@
-// The answer below the text: its value in all notations, or its fault and what is offered instead.
-// Of several lines, it is each line's value or fault.
+// Shows the answer below the text: the text's value in all notations, or its fault and the texts
+// that are offered instead. For several lines, it shows each line's value or fault.
 import { formatNs, tryParseNs } from "../js/dist/duration-str.js";
 import { markedParts, notesOn, offersFor, sentence } from "./advice.js";
 import {
@@ -12,7 +12,7 @@ import { AROUND, lineOf } from "./sentences.js";
 import { LONG } from "./units.js";
 import { decimal, groupDigits, iso, seconds, termRows } from "./values.js";
 
-/** What a copy button copies, by the name of the element that shows it. */
+/** The texts that the copy buttons copy, by the names of the elements that show them. */
 export const copied = {};
 
 function show(id, words, shown = words) {
@@ -26,7 +26,7 @@ function show(id, words, shown = words) {
 function markParts(target, shown, marked) {
     let end = 0;
     target.replaceChildren(...marked.flatMap(({ from, to }) => {
-        // At the end of the text a blank is marked.
+        // A fault at the end of the text is shown as a marked blank.
         const mark = make("mark", from === to ? "\u00a0" : shown.slice(from, to));
         mark.classList.toggle("thin", /^\p{Cf}$/u.test(mark.textContent));
         const before = shown.slice(end, from);
@@ -35,7 +35,7 @@ function markParts(target, shown, marked) {
     }), shown.slice(end));
 }
 
-/** The pair of a surrogate is never cut: the nearest place from there on that is in no pair. */
+/** The first index from `place` on that doesn't cut a surrogate pair. */
 function whole(shown, place) {
     return /[\udc00-\udfff]/.test(shown.charAt(place)) ? place + 1 : place;
 }
@@ -56,13 +56,14 @@ function showMarks(marked) {
 
 // ---- What is offered
 
-/** In words, the options that differ from those that are chosen. */
+/** The options that differ from the chosen ones, in words. */
 function changesTo(options) {
     const changed = changedOptions(options).map((name) => switches[name].dataset.switched);
     return changed.map((words) => `${words}, `).join("");
 }
 
-/** A button that puts the offer in place of the text, or of the part that starts and ends there. */
+/** A button that replaces the text by the offer. `part` is the start and the end if only a part of
+ * the text is replaced. */
 function offerButton({ text: words, options, meaning }, ...part) {
     const press = () => {
         choose(options);
@@ -79,7 +80,7 @@ function showOffers(offers) {
     element("offered").replaceChildren(...offers.map((offer) => offerButton(offer)));
 }
 
-/** The sentences on a line, and what is offered beside it. */
+/** The sentences about a line, and the texts that are offered for it. */
 function remarksOn({ words, value, fault }) {
     const said = fault ? [sentence(words, fault.code, chosenOptions()) ?? lineOf(fault)] : [];
     if (words.length > LONG) return { sentences: said, offers: [] };
@@ -102,7 +103,7 @@ function showFault(line) {
 
 // ---- A value
 
-/** Rows of words and of what stands beside them */
+/** Fills a table with rows. Each has a heading, and what stands beside it. */
 function fill(table, rows) {
     table.querySelector("tbody").replaceChildren(...rows.map(([words, ...content]) => {
         const heading = make("th", words);
@@ -127,7 +128,8 @@ function showValue(line) {
     showOffers(offers);
 }
 
-/** What other programs read, where they differ; nothing of a long text. */
+/** Shows what the text means to other programs that differ from the library. For a long text it
+ * shows nothing. */
 function showElsewhere({ words, ok, value }) {
     const rows = words.length <= LONG ? elsewhere(words, ok ? value : null) : [];
     element("elsewhere").hidden = rows.length === 0;
@@ -145,15 +147,16 @@ function showCode(isShown) {
 
 // ---- Several lines
 
-/** The lines that are not blank, each with the index where it starts. Of fewer than two lines, the
- * whole text is one. */
+/** The lines that are not blank, each with the index where it starts. If there are fewer than two,
+ * the whole text is one line. */
 function linesOf(whole) {
     const found = Array.from(whole.matchAll(/(?<![^\n])[^\n]*\S[^\n]*/g));
     const lines = found.map(({ 0: words, index }) => ({ words, start: index }));
     return lines.length > 1 ? lines : [{ words: whole, start: 0 }];
 }
 
-/** The lines that are shown: of very many, first the refused ones, then as many others as fit. */
+/** The lines that are shown. If there are very many, the refused ones come first, and then as many
+ * others as fit. */
 function linesToShow(lines) {
     if (lines.length <= MOST_LINES) return lines;
     const refused = lines.filter(({ ok }) => !ok);
@@ -161,7 +164,7 @@ function linesToShow(lines) {
     return [...refused, ...read].slice(0, MOST_LINES);
 }
 
-/** A line, and beside it its value or fault, and what is offered instead. */
+/** The row of a line: the line, its value or fault, and the texts that are offered instead. */
 function lineRow(line) {
     const { words, start, ok, value } = line;
     const { sentences, offers } = remarksOn(line);
@@ -181,7 +184,7 @@ function howMany(lines) {
     return `${read} of ${all} lines are read; ${MOST_LINES} are shown, the refused ones first.`;
 }
 
-/** Shows the lines, and returns what a screen reader is told of them. */
+/** Shows the lines, and returns the text for screen readers. */
 function showLines(lines) {
     fill(element("lines"), linesToShow(lines).map(lineRow));
     showOffers([]);
@@ -189,15 +192,15 @@ function showLines(lines) {
     return howMany(lines);
 }
 
-/** The sentences and what is offered, as screen readers are told them. */
+/** The text for screen readers: the sentences, and the texts that are offered. */
 function announcement(sentences) {
     const offers = Array.from(element("offered").children, (one) => one.ariaLabel);
     const tried = offers.length > 0 ? [`Try instead ${offers.join("; ")}.`] : [];
     return [...sentences, ...tried].join(" ");
 }
 
-/** Reads the text and shows its value or fault, or those of its lines. Returns what a screen reader
- * is told. */
+/** Reads the text and shows its value or fault, or the values and faults of its lines. Returns the
+ * text for screen readers. */
 export function showAnswer() {
     const options = chosenOptions();
     const lines = linesOf(text.value)

@@ -1,13 +1,13 @@
-// What is chosen in the page: the options, and how a duration is printed.
+// The choices in the page: the options, and how a duration is printed.
 import { element, make } from "./elements.js";
 import { UNITS } from "./units.js";
 
 const camel = (id) => id.replace(/_(.)/g, (_, letter) => letter.toUpperCase());
 const boxes = Array.from(document.querySelectorAll("[data-switched]"));
-/** The boxes of the options, by the names of these in JavaScript. */
+/** The boxes of the options, by the options' names in JavaScript. */
 export const switches = Object.fromEntries(boxes.map((box) => [camel(box.id), box]));
 
-/** The choice for a number without a unit: a unit's printed name, or this. */
+/** The choice for a number without a unit: a unit's printed name, or `REFUSED`. */
 export const defaultUnit = element("default_unit");
 export const REFUSED = "refused";
 /** The printed name of the default unit if none is chosen. */
@@ -19,7 +19,7 @@ export const printing = {
     smallest: element("smallest"),
     parts: element("parts"),
 };
-/** What is chosen of these where everything is printed. */
+/** The choices with which everything is printed. */
 export const WHOLE = { style: "short", largest: "y", smallest: "ns", parts: String(UNITS.length) };
 
 /** The boxes of the units that are printed, the longest first. One of them is always checked. */
@@ -30,8 +30,8 @@ export const unitBoxes = UNITS.map(({ names, printed }) => {
     return box;
 });
 
-/** How it is to be printed, less what is as in WHOLE. The units are listed if there is one between
- * the largest and the smallest that is left out. */
+/** The limits for printing, without those that are as in WHOLE. If a unit between the largest and
+ * the smallest is left out, the units are listed instead. */
 export function chosenLimits() {
     const chosen = Object.entries(printing).filter(([name, box]) => box.value !== WHOLE[name]);
     const valueOf = (name, box) => name === "parts" ? Number(box.value) : box.value;
@@ -42,7 +42,8 @@ export function chosenLimits() {
     return units.length > between ? limits : { ...others, units };
 }
 
-/** If the largest unit is now shorter than the smallest, the one that wasn't changed follows. */
+/** If the largest unit has become shorter than the smallest, the one that wasn't changed is set to
+ * the other. */
 export function agree(changed) {
     const { largest, smallest } = printing;
     if (largest.selectedIndex <= smallest.selectedIndex) return;
@@ -50,14 +51,14 @@ export function agree(changed) {
     other.value = changed.value;
 }
 
-/** The places of the largest and of the smallest unit whose boxes are checked. */
+/** The indexes of the largest and of the smallest unit whose boxes are checked. */
 function checkedLimits() {
     const checked = unitBoxes.map((box) => box.checked);
     return [checked.indexOf(true), checked.lastIndexOf(true)];
 }
 
-/** Checks the boxes of units that are now within the limits and weren't before, and those of the
- * limits themselves. No unit beyond the limits is checked. */
+/** Checks the boxes of the units that have come within the limits, and the boxes of the limits
+ * themselves. Unchecks the boxes of all units beyond the limits. */
 export function limitUnits() {
     const [largest, smallest] = [printing.largest.selectedIndex, printing.smallest.selectedIndex];
     const [first, last] = checkedLimits();
@@ -74,13 +75,13 @@ export function showLimits() {
     [printing.largest.selectedIndex, printing.smallest.selectedIndex] = checkedLimits();
 }
 
-/** Checks the boxes of these units alone. */
+/** Checks the boxes of these units, and no others. */
 export function chooseUnits(names) {
     for (const box of unitBoxes) box.checked = names.includes(box.value);
     showLimits();
 }
 
-/** What is chosen of the options; `noCalc` is on only if its own box turns it on. */
+/** The chosen options. `noCalc` is on only if its own box turns it on. */
 export function chosenOptions() {
     const chosen = Object.entries(switches)
         .map(([name, box]) => [name, box.checked && !box.disabled]);
@@ -90,7 +91,8 @@ export function chosenOptions() {
     return { ...options, defaultUnit: defaultUnit.value };
 }
 
-/** Another default unit than the second turns `no_calc` on, and its box can't be pressed. */
+/** A default unit other than the second turns `no_calc` on. Then the box of `no_calc` can't be
+ * pressed. */
 export function showNoCalc() {
     const isTurnedOn = ![REFUSED, SECOND].includes(defaultUnit.value);
     if (isTurnedOn === switches.noCalc.disabled) return;
@@ -98,13 +100,13 @@ export function showNoCalc() {
     switches.noCalc.checked = isTurnedOn;
 }
 
-/** The names of the options that have boxes and differ from those that are chosen. */
+/** The names of the options that have boxes and differ from the chosen ones. */
 export function changedOptions(options) {
     const chosen = chosenOptions();
     return Object.keys(switches).filter((name) => chosen[name] !== options[name]);
 }
 
-/** Switches to these options as pressing their boxes does. */
+/** Switches to these options by pressing their boxes. */
 export function choose(options) {
     for (const name of changedOptions(options)) switches[name].click();
 }

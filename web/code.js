@@ -1,9 +1,10 @@
-// Programs that read and print the text, in each language. Text that is read has no character that
-// JSON and one of the languages escape differently.
+// Programs that read and print the text, in each language. A text that is read has no character
+// that a language escapes differently than JSON does.
 import { format, formatNs, parse, parseNs } from "../js/dist/duration-str.js";
 import { terms, UNITS } from "./units.js";
 
-/** The names of the options that are on, but for the default unit, in JavaScript and elsewhere. */
+/** The names of the options that are on, except the default unit: in JavaScript, and in other
+ * languages. */
 const namesOf = (options) => Object.keys(options).filter((name) => options[name] === true);
 const idOf = (name) => name.replace(/[A-Z]/g, (letter) => `_${letter.toLowerCase()}`);
 const idsOf = (options) => namesOf(options).map(idOf);
@@ -31,7 +32,7 @@ function rustReading(text, { requireUnit, defaultUnit, ...options }) {
     const isPlain = names.length === 0;
     if (requireUnit && isPlain) return `parse_with_units(${literal})`;
     if (defaultUnit && isPlain) return `parse_in(${literal}, ${rustUnit(defaultUnit)})`;
-    // A factor without a unit would count the default unit, too.
+    // A factor without a unit would count the default unit too.
     if (defaultUnit) names.unshift("noCalc");
     const fields = names.map((name) => `${idOf(name)}: true, `).join("");
     const taken = fields ? `Options { ${fields}..Options::off() }` : "Options::off()";
@@ -57,14 +58,14 @@ function rust(text, options, limits) {
 /** The names in quotation marks, with commas between them. */
 const quoted = (names) => names.map((name) => JSON.stringify(name)).join(", ");
 
-/** Python's last arguments. */
+/** The last arguments of a call in Python. */
 function keywords(values) {
     const literal = (value) => Array.isArray(value) ? `(${quoted(value)})` : JSON.stringify(value);
     const words = Object.entries(values).map(([name, value]) => `, ${name}=${literal(value)}`);
     return words.join("");
 }
 
-/** A `timedelta` counts microseconds, so a text with others is read as nanoseconds. */
+/** A `timedelta` counts microseconds, so a text with nanoseconds is read by `parse_ns`. */
 function python(text, options, limits) {
     const isWhole = parseNs(text, options) % 1_000n === 0n;
     const [name, call] = isWhole ? ["duration", "parse"] : ["nanoseconds", "parse_ns"];
@@ -79,14 +80,15 @@ function python(text, options, limits) {
     ].join("\n");
 }
 
-/** JavaScript's last argument with these properties; none without any. */
+/** The last argument of a call in JavaScript, with these properties. If there are none, there is no
+ * such argument. */
 function argument(properties) {
     const literal = (value) => Array.isArray(value) ? `[${quoted(value)}]` : JSON.stringify(value);
     const fields = Object.entries(properties).map(([name, value]) => `${name}: ${literal(value)}`);
     return fields.length > 0 ? `, { ${fields.join(", ")} }` : "";
 }
 
-/** A number of milliseconds may lack the last nanoseconds, so such a text is read as a bigint. */
+/** If a number of milliseconds would lose the last nanoseconds, the text is read as a bigint. */
 function javascript(text, options, limits) {
     const taken = Object.fromEntries(Object.entries(options).filter(([, value]) => value));
     const isExact = format(parse(text, options)) === formatNs(parseNs(text, options));
@@ -127,7 +129,7 @@ function cPrintCall(limits) {
     ];
 }
 
-/** C's literal of a text, in which bytes beyond ASCII are escaped. */
+/** The literal of a text in C, in which bytes beyond ASCII are escaped. */
 function cLiteral(text) {
     const escaped = (byte) => `\\${byte.toString(8).padStart(3, "0")}`;
     const isPlain = (byte) => byte >= 0x20 && byte < 0x7f;
@@ -150,8 +152,8 @@ function c(text, options, limits) {
     ].join("\n");
 }
 
-/** `durstr` reads lines, and prints each duration in full. `duration` can do more, but it lacks
- * `no_calc`, and has a default unit for a single number alone. */
+/** `durstr` reads lines, and prints each duration in full. `duration` can do more, but it has no
+ * `no_calc`, and a default unit only for a single number. */
 function shell(text, options, limits) {
     if (/\p{C}/u.test(text)) return "";
     const { requireUnit, defaultUnit } = options;
@@ -169,8 +171,8 @@ function shell(text, options, limits) {
     return ["duration", ...taken, ...printed, "--", `'${text}'`].join(" ");
 }
 
-/** For each language, by its id in the page: its title, how to get the package in a clone, and what
- * makes the program, which is empty if there is none. */
+/** For each language, by its id in the page: its title, how to get the package in a clone, and the
+ * function that makes the program, which is empty if there is none. */
 export const LANGUAGES = {
     rust: ["Rust", 'duration-str = { path = "../duration_str/rust" }', rust],
     python: ["Python", "pip install ./python", python],

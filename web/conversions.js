@@ -1,13 +1,15 @@
-// Texts in other notations, with their exact values. A notation gets in if all of this holds:
+// Texts in other notations, with their exact values. A notation is in this list if all of the
+// following is true:
 //
-// - People write durations so: another program reads or prints it, a standard has it, or it is
-//   ordinary prose.
+// - People write durations like this: another program reads or prints it, a standard has it, or it
+//   is ordinary prose.
 // - It is recognised by the whole text, and not by a part of it.
 // - The text itself says what is meant. `10' 30"` is minutes and seconds; `5'` may be feet, so it is
 //   not in. No calendar is needed: `P1M` is not in, since months vary.
 // - If people use a text with two meanings, such as `1:30`, both are offered. A text with more
 //   meanings is not in.
-// - texts.json has texts in it with their values, and texts near it that mean something else.
+// - texts.json has texts in this notation with their values, and similar texts that mean something
+//   else.
 //
 // A notation that people type but that is not in has a row in REFUSED, with a sentence that says
 // why.
@@ -22,11 +24,11 @@ const [WEEK, DAY, HOUR, MINUTE, SECOND] = ["w", "d", "h", "m", "s"].map(unitOf);
 
 // ---- Characters and names
 
-/** Marks of direction around a text, and characters without width anywhere in it. */
+/** Marks of direction around a text, and characters without width anywhere in the text. */
 const UNSEEN = /^[\u202a\u2066]|[\u202c\u2069]$|[\u00ad\u200b-\u200f\u2060\ufeff]/g;
 
-/** The text without what is unseen, with the digits of other scripts as ASCII's, `µ` for the other
- * mu, and `microseconds` for `micro seconds`. */
+/** The text without characters that can't be seen, with ASCII digits for the digits of other
+ * scripts, with `µ` for the other mu, and with `microseconds` for `micro seconds`. */
 function plain(text) {
     const seen = text.trim().replace(UNSEEN, "");
     const joined = seen.replace(/\b(milli|micro|nano)[ -](?=sec)/gi, "$1");
@@ -38,13 +40,13 @@ function plain(text) {
     });
 }
 
-/** From a list of words for each name of the library, the name of each word. */
+/** A map from each word to the library's name, made from the list of words for each name. */
 function byWord(rows) {
     const pairs = ([name, words]) => words.split(" ").map((word) => [word, name]);
     return new Map(Object.entries(rows).flatMap(pairs));
 }
 
-/** Names that people use and the library doesn't have: those near its own, and others. */
+/** Names that people use but the library doesn't have: words near its names, and others. */
 const COMMON = new Map([
     ...UNITS.flatMap(({ near, printed }) => near.map((word) => [word, printed])),
     ...byWord({ ms: "millisec millisecs", µs: "microsec microsecs", ns: "nanosec nanosecs" }),
@@ -61,7 +63,7 @@ const FOREIGN = byWord({
     sec: "sekunde sekunden seconde secondes segundo segundos секунда секунды секунд 秒钟 秒間",
 });
 
-/** Whether one word becomes the other by one letter more, one less or another one, or if two
+/** Whether one word becomes the other if one letter is added, removed or changed, or if two
  * neighbours are swapped. */
 function isOneEdit(one, other) {
     let start = 0;
@@ -72,8 +74,8 @@ function isOneEdit(one, other) {
     return less === otherLess || less === otherRest || rest === otherLess || swapped === otherRest;
 }
 
-/** The name that a misspelt word of four letters or more means. It has the same first letter and is
- * one edit away, and so is no name of another unit. */
+/** The name that a misspelt word of four letters or more means. The name has the same first letter,
+ * and is one edit away from the word. So it can't be the name of another unit. */
 function correction(word) {
     if (word.length < 4) return null;
     const isNear = (name) => name[0] === word[0] && isOneEdit(name, word);
@@ -83,17 +85,17 @@ function correction(word) {
     return names.find((name) => name.at(-1) === word.at(-1)) ?? names[0];
 }
 
-/** The library's name for a word, be it one of the library's, a common one or misspelt; null if
- * there is none. */
+/** The library's name for a word, which may be such a name, a common word or a misspelt one. It is
+ * null if there is no such name. */
 function unitName(word) {
     const small = word.toLowerCase();
     if (unitOf(word)) return word;
-    // A capital makes it megabytes; without one, it is a label.
+    // `Mo` means megabytes, and `tag` without a capital is a label.
     if (/^mos?$/.test(small) && word !== small || small === "tag" && word !== "Tag") return null;
     return COMMON.get(small) ?? FOREIGN.get(small) ?? correction(small);
 }
 
-/** `3 x 5min` and `5min x 3`, in which one is a duration */
+/** `3 x 5min` and `5min x 3`, in which one factor is a duration */
 const TIMES = /^([1-9][0-9]*)\s*x\s*(?=[0-9]+\s*\p{L}+$)|(?<=^[0-9]+\s*\p{L}+)\s+x\s*(?=[0-9]+$)/iu;
 
 /** The same text with characters and names that the library has. */
@@ -105,8 +107,8 @@ export function clean(text) {
 
 // ---- Readings
 
-/** The nanoseconds of a count of a unit, where the count is digits times ten to this power, over a
- * divisor; null if they are not whole. */
+/** The nanoseconds of a count of a unit, or null if they are not whole. The count is the digits
+ * times ten to this power, divided by the divisor. */
 function nanosOf([digits, power, divisor = 1n], { nanos }) {
     const ten = 10n ** BigInt(Math.abs(power));
     const above = digits * nanos * (power > 0 ? ten : 1n);
@@ -114,7 +116,8 @@ function nanosOf([digits, power, divisor = 1n], { nanos }) {
     return above % below === 0n ? above / below : null;
 }
 
-/** The reading with this value, whose text counts this unit and, from days down, smaller ones. */
+/** The reading with this value. Its text counts this unit, and those smaller units that are a day
+ * or shorter. */
 function reading(nanos, longest) {
     let rest = nanos ?? 0n;
     const parts = UNITS.slice(UNITS.indexOf(DAY)).filter((unit) => unit.nanos < longest.nanos);
@@ -126,7 +129,7 @@ function reading(nanos, longest) {
     return { nanos, text: counts.filter(Boolean).join(" ") || `0${longest.names[0]}` };
 }
 
-/** What is found: the readings, each value once, if all can be read. */
+/** The meaning of a text: the readings, each value once, if the library can read all of them. */
 function meaning(text, readings, sentence) {
     const values = readings.map(({ nanos }) => nanos);
     if (values.includes(null)) {
@@ -151,11 +154,11 @@ const LED = new RegExp(String.raw`^(?:${KEY}|(?<word>(?:${LEADING})(?=[=\s])|\+)
     + String.raw`(?<words>\S.*?)\s*[,;]?$`, "is");
 const ENCLOSED = /^(?:"(.+)"|'(.+)'|`(.+)`|“(.+)”|‘(.+)’|«(.+)»|\((.+)\)|\[(.+)\]|\{(.+)\})$/s;
 
-/** So many quotes, brackets and words around a duration are taken off: those of
+/** At most this many quotes, brackets and words are taken off around a duration: as many as in
  * `{ "ttl": "5m" }`, and one more. */
 const MOST_AROUND = 4;
 
-/** What a part of a text means, as it stands or converted. */
+/** The meaning of a part of a text, which is read as it stands or converted. */
 function inside(text, options, around) {
     for (const each of [text, clean(text)]) {
         const { ok, value } = tryParseNs(each, options);
@@ -164,15 +167,15 @@ function inside(text, options, around) {
     return around < MOST_AROUND ? converted(text, options, around + 1) : null;
 }
 
-/** Whether these terms, each with a unit, may be several durations: in a sum without operators the
- * units get smaller. */
+/** Whether these terms, each with a unit, may be several durations. That is so if a unit is not
+ * smaller than the one before it, with no operator between them. */
 function isListOf(sum) {
     const lengths = sum.map(({ unit }) => unitOf(unit).nanos);
     const isLonger = (place) => place > 0 && lengths[place] >= lengths[place - 1];
     return sum.some(({ operator }, place) => !operator && isLonger(place));
 }
 
-/** One duration after a key or another word, where every term has a unit. */
+/** A duration after a key or another word. Every term must have a unit. */
 function afterKey(text, options, around) {
     const { key, word, words } = LED.exec(text)?.groups ?? {};
     if (!words) return null;
@@ -209,7 +212,8 @@ const FIELDS = String.raw`([0-9]+):([0-5][0-9])(?::([0-5][0-9]))?(?:\.([0-9]+))?
 const CLOCK = new RegExp(`^${DAYS_BEFORE}${FIELDS}$`);
 const CLOCK_AND_UNIT = /^([0-9]+)([:,])([0-5][0-9])\s*(?!M$)(\p{L}+)\.?$/u;
 
-/** `1:30h` and `1:30 min`, where the unit is the first field's; `1,30h` may be a decimal, too. */
+/** `1:30h` and `1:30 min`, in which the unit is that of the first field. `1,30h` may also be a
+ * decimal. */
 function clockWithUnit(text) {
     const [, first, mark, second, name] = CLOCK_AND_UNIT.exec(text) ?? [];
     const unit = unitOf(unitName(name ?? "") ?? "");
@@ -242,8 +246,8 @@ const COUNT = "([0-9]+(?:[.,][0-9]+)?)";
 const TIME = `(?:${COUNT}H)?(?:${COUNT}M)?(?:${COUNT}S)?`;
 const ISO = new RegExp(`^P(?=.)(?:${COUNT}W)?(?:${COUNT}D)?(?:T(?=.)${TIME})?$`, "i");
 
-/** `PT5M`, in which only the last count can be a decimal. Weeks beside days, as in `P1W2D`, are
- * from ISO 8601-2. */
+/** `PT5M`, in which only the last count can be a decimal. Weeks together with days, as in `P1W2D`,
+ * are from ISO 8601-2. */
 function iso8601(text) {
     if (!/^P[0-9T][0-9.,YMWDTHS]*$/i.test(text)) return null;
     const counts = (ISO.exec(text) ?? []).slice(1);
@@ -262,7 +266,7 @@ function iso8601(text) {
 
 const PRIMES = /^([0-9]+)\s*['′’]\s*([0-5]?[0-9])\s*(?:["″”]|['′’]{2})$/;
 
-/** `10' 30"`; one of the signs alone may stand for feet or inches. */
+/** `10' 30"`. One of the signs alone could stand for feet or inches. */
 function primes(text) {
     const [, minutes, seconds] = PRIMES.exec(text) ?? [];
     if (!minutes) return null;
@@ -299,8 +303,8 @@ function digitsOf(words) {
     return [BigInt(whole + fraction), -fraction.length];
 }
 
-/** What a number can mean, each time as digits and a power of ten, and what is wrong with it; null
- * if it means nothing. */
+/** The counts that a number can mean, each as digits and a power of ten, and what is wrong with the
+ * number. It is null if the number means nothing. */
 function numberOf(words) {
     if (/^[0-9]+$/.test(words)) return { counts: [[BigInt(words), 0]] };
     const [, mantissa, power] = EXPONENT.exec(words) ?? [];
@@ -321,8 +325,8 @@ function numberOf(words) {
 
 const isPlural = (name) => /\p{L}{2}s$/iu.test(name);
 
-/** What a number word means, in the same way; null if the unit should be in the plural, or in the
- * singular: `twenty second` may be an ordinal. */
+/** The count that a number word means, in the same form. It is null if the unit's singular or
+ * plural doesn't fit, since `twenty second` may be an ordinal. */
 function wordOf(words, name) {
     const [, hundreds = "", rest] = /^(?:(\w+) hundred(?: and)? ?)?(.*)/.exec(words.toLowerCase());
     const [first, second = ""] = rest.split(/[-\s]+/);
@@ -337,8 +341,8 @@ function wordOf(words, name) {
 
 const IN_LINE = /^(?:([0-9]+)\s+)?([0-9]{1,2})\/([0-9]{1,2})$/;
 
-/** What a fraction below one means, after a whole number or without; null if it is not in lowest
- * terms, and so may be two numbers, as in `5/10 minutes`. */
+/** The count that a fraction below one means, with or without a whole number before it. It is null
+ * if the fraction is not in lowest terms, and so may be two numbers, as in `5/10 minutes`. */
 function fractionOf(words, name) {
     const inLine = (vulgar) => ` ${vulgar.normalize("NFKD").replace("⁄", "/")}`;
     const ascii = words.replace(/[^0-9\s/]/, inLine).trim();
@@ -353,23 +357,24 @@ function fractionOf(words, name) {
     return { counts: [[count, 0, BigInt(bottom)]], sentence: say`Fractions can't be read.` };
 }
 
-/** What a number means that is a fraction, a numeral or in words. */
+/** The counts that a number means. It is a fraction, a numeral or in words. */
 function anyNumberOf(fraction, numeral, words, name) {
     if (fraction) return fractionOf(fraction, name);
     return numeral ? numberOf(numeral) : wordOf(words, name);
 }
 
-/** A term's unit and what its number can mean; null if it means nothing. */
+/** A term's unit and the counts that its number can mean, or null if it means nothing. */
 function termOf(fraction, numeral, words, name) {
     const number = anyNumberOf(fraction, numeral, words, name);
-    // With foreign words, the language decides between thousands and decimals.
+    // Before a foreign word, the language decides whether a comma groups thousands or begins a
+    // decimal.
     if (number?.counts.length === 2 && FOREIGN.has(name.toLowerCase())) return null;
     if (number && /^fortnights?$/i.test(name)) {
         const weeks = number.counts.map(([digits, ...rest]) => [2n * digits, ...rest]);
         return { ...number, counts: weeks, unit: WEEK, isForeign: true };
     }
     const unit = unitOf(unitName(name) ?? "");
-    // A quarter of an hour, or of a year
+    // It may be a quarter of an hour, or of a year.
     const isVague = words && unit?.names[0] === "q";
     if (!number || !unit || isVague || unit.chinese.includes(name)) return null;
     return { ...number, unit, isForeign: !unitOf(name) };
@@ -393,7 +398,7 @@ function halves(text) {
     const words = count ?? wholes;
     if (!words || /^half/i.test(words)) return null;
     if (after && (!isPlural(after) || /^an?$/i.test(words))) return null;
-    // After `one and a half` the unit is in the plural.
+    // After `one and a half` the unit is in the plural, but its name is looked up in the singular.
     const singular = after?.slice(0, -1);
     const unit = before ?? (/^one$/i.test(words) ? singular : after);
     const [numeral, word] = /^[0-9]/.test(words) ? [words] : [undefined, words];
@@ -403,7 +408,8 @@ function halves(text) {
     return meaning(text, [reading((2n * digits + 1n) * term.unit.nanos / 2n, term.unit)], sentence);
 }
 
-/** The terms of a sum, and whether it is a list; null if a part of the text is none of it. */
+/** The terms of a sum, and whether the sum is a list. It is null if a part of the text is not a
+ * term. */
 function termsOfSum(text) {
     const sum = [];
     let isList = false;
@@ -421,7 +427,8 @@ function termsOfSum(text) {
     return { sum, isList };
 }
 
-/** What is wrong first in a sum; null if the library says it. */
+/** The sentence about the first thing that is wrong in a sum, or null if the library's line is
+ * enough. */
 function wrongIn(sum) {
     const isWrong = ({ sentence, isForeign, joined }) => sentence || isForeign || joined.trim();
     return sum.find(isWrong)?.sentence ?? null;
@@ -448,8 +455,8 @@ function sumOfTerms(text) {
 
 const BLANKS_IN_NUMBER = /^[1-9][0-9]{0,2}(?: [0-9]{3})+(?=\s*\p{L}+\.?$)/u;
 
-/** `1 000 s`, whose blank groups digits as in SI. A number right before another one means nothing
- * else. */
+/** `1 000 s`, in which the blank groups digits as in SI. Two numbers next to each other mean
+ * nothing else. */
 function groupedByBlanks(text) {
     const grouped = text.replace(BLANKS_IN_NUMBER, (digits) => digits.replaceAll(" ", "\u202f"));
     return grouped === text ? null : sumOfTerms(grouped);
@@ -461,7 +468,7 @@ const FIRST_OF_LIST = String.raw`^(?!${NUMBER}\s*\p{L}+\.?$)${NUMBER}\s*\p{L}*\s
 const LIST = new RegExp(String.raw`${FIRST_OF_LIST}(?:[,;]|and\b|or\b)\s*[0-9]`, "iu");
 
 const EXACT = say`Only exact durations can be read.`;
-/** Notations without a reading, and what is said of them. */
+/** Notations that are not converted, and what the page says about them. */
 const REFUSED = [
     [/^[-−–]\s*[0-9P.]|^PT?-/i, say`A duration can't be negative.`],
     [/^[0-9]{4}-[0-9]{2}-[0-9]{2}/, say`A date is not a duration.`],
@@ -492,16 +499,16 @@ const REFUSED = [
     [new RegExp(`^(?:${WORD})\\b`, "i"), say`Write numbers in digits.`],
 ];
 
-/** Each returns what a text means in a notation, or null if the text is in another one. The first
- * that knows the text decides. */
+/** Each function returns what a text means in a notation, or null if the text is in another
+ * notation. The first function that knows the text decides. */
 const CONVERSIONS = [
     afterKey, withinQuotes, clock, clockWithUnit, iso8601, primes, groupedByBlanks, sumOfTerms,
     halves,
 ];
 
-/** What a text in another notation means; null if the notation is unknown. It is a list of
- * readings, each with its exact value and the text to write, and a sentence that says why the text
- * is refused, unless the library's line says it. */
+/** Returns what a text in another notation means, or null if the notation is unknown. The result
+ * has a list of readings, each with its exact value and the text to write. It also has a sentence
+ * that says why the text is refused, unless the library's line is enough. */
 export function converted(text, options, around = 0) {
     const words = plain(text);
     for (const convert of CONVERSIONS) {

@@ -1,15 +1,15 @@
-// The elements of the page. What is typed, or comes from the link, reaches them only as
+// The elements of the page. A text that is typed, or comes from the link, is only put into their
 // `textContent` and `value`.
 import { shorten } from "./sentences.js";
 
-/** Of several lines at most so many are shown. */
+/** The most lines that are shown. */
 export const MOST_LINES = 200;
 const CHINESE = /\p{Script=Han}/u;
 
 export const element = (id) => document.getElementById(id);
 export const text = element("text");
 
-/** An element with this content, in Chinese where a Chinese name stands in it. */
+/** An element with this content. Its language is Chinese if the content has a Chinese name. */
 export function make(name, ...content) {
     const one = document.createElement(name);
     one.append(...content);
@@ -17,10 +17,10 @@ export function make(name, ...content) {
     return one;
 }
 
-/** A quoted text, by itself, so that its direction turns nothing else. */
+/** A quoted text, isolated, so that its direction of writing changes nothing around it. */
 const quotation = (words) => make("code", make("bdi", shorten(words)));
 
-/** The parts of a sentence, as they are shown. */
+/** The nodes that show the parts of a sentence. */
 export function parts(sentence) {
     return sentence.map((part) => part.quoted === undefined ? part : quotation(part.quoted));
 }
@@ -32,8 +32,8 @@ export function button(press, ...content) {
     return one;
 }
 
-/** Puts the words in place of the text, or of the part that starts and ends there. It does so as
- * typing does, so that it can be undone. */
+/** Replaces the text, or the part from `start` to `end`, by the words. It does so as if they were
+ * typed, so that it can be undone. */
 export function write(words, start = 0, end = text.value.length) {
     text.focus();
     if (words === text.value.slice(start, end)) return;

@@ -1,6 +1,6 @@
-// What a text means to other programs, each in one version; others may read it in another way.
-// tests/elsewhere.test.js compares this with the programs of these versions. Each reader returns
-// nanoseconds, which may be negative, or null if the program refuses the text.
+// What a text means to other programs. It is right for one version of each, and other versions may
+// differ. tests/elsewhere.test.js compares this with the programs of these versions. Each reader
+// returns nanoseconds, which may be negative, or null if the program refuses the text.
 import { formatNs } from "../js/dist/duration-str.js";
 
 const MICROSECOND = 1_000n;
@@ -11,7 +11,7 @@ const HOUR = 60n * MINUTE;
 const DAY = 24n * HOUR;
 const WEEK = 7n * DAY;
 const YEAR = DAY * 1461n / 4n;
-/** What an integer of 64 bits can't hold */
+/** The first number that an integer of 64 bits can't hold */
 const LIMIT = 2n ** 64n;
 
 /** The lengths of units, from lists of their names. */
@@ -20,7 +20,8 @@ function unitsOf(...rows) {
     return new Map(rows.flatMap(pairs));
 }
 
-/** A unit's names as a pattern, the longer ones first, since one may begin another. */
+/** The units' names as a pattern. Longer names come first, since a name may begin with another one.
+ * */
 function anyOf(units) {
     return [...units.keys()].sort((one, other) => other.length - one.length).join("|");
 }
@@ -30,7 +31,7 @@ const GO_UNITS = unitsOf(["ns", 1n], ["us µs μs", MICROSECOND], ["ms", MILLISE
 const GO_TERM = `([0-9]*)(?:\\.([0-9]*))?(?<=[0-9]\\.?)(${anyOf(GO_UNITS)})`;
 const GO_LIMIT = 2n ** 63n;
 
-/** Go's time.ParseDuration: a sign, and decimals, each with its unit; `0` needs none. */
+/** Go's time.ParseDuration reads a sign, and decimals that each have a unit. `0` needs no unit. */
 function go(text) {
     const [, sign, terms] = /^([+-]?)(.*)$/s.exec(text);
     if (terms === "0") return 0n;
@@ -47,14 +48,14 @@ function go(text) {
     return sum < GO_LIMIT ? sum : null;
 }
 
-/** In milliseconds, which ms counts in */
+/** The lengths of ms's units in milliseconds */
 const MS_UNITS = unitsOf(["ms msec msecs millisecond milliseconds", 1],
     ["s sec secs second seconds", 1e3], ["m min mins minute minutes", 6e4],
     ["h hr hrs hour hours", 36e5], ["d day days", 864e5], ["w week weeks", 6048e5],
     ["y yr yrs year years", 315576e5]);
 const MS_TEXT = new RegExp(`^(-?[0-9]*\\.?[0-9]+) *(${anyOf(MS_UNITS)})?$`, "i");
 
-/** `ms` for JavaScript: one decimal, whose unit is milliseconds unless there is another. */
+/** `ms` for JavaScript reads one decimal. Without a unit it counts milliseconds. */
 function ms(text) {
     const [whole, number, name = "ms"] = text.length <= 100 ? MS_TEXT.exec(text) ?? [] : [];
     if (!whole) return null;
@@ -71,14 +72,15 @@ const HUMANTIME_TEXT = new RegExp(
     `^(?:${HUMANTIME_TERM}(?=[0-9\\p{White_Space}]|$))+\\p{White_Space}*$`, "u",
 );
 
-/** humantime for Rust: whole numbers, in which blanks are ignored, each with its unit. */
+/** humantime for Rust reads whole numbers, each with its unit. It ignores blanks in them. */
 function humantime(text) {
     if (!HUMANTIME_TEXT.test(text)) return null;
     let sum = 0n;
     for (const [, digits, name] of text.matchAll(new RegExp(HUMANTIME_TERM, "gu"))) {
         const length = HUMANTIME_UNITS.get(name);
         const count = BigInt(digits.replace(/[^0-9]/g, ""));
-        // A term has at most 64 bits, in nanoseconds or, from seconds on, in seconds.
+        // A term must fit into 64 bits: in nanoseconds, or in seconds if its unit is a second or
+        // longer.
         if (!length || count * length >= LIMIT * (length < SECOND ? 1n : SECOND)) return null;
         sum += count * length;
     }
@@ -93,8 +95,8 @@ const SYSTEMD_TERM = `(?:\\+?([0-9]+))?(?:\\.([0-9]+))?(?<=[0-9])`
     + `(?:[ \\t\\n\\r]*(${anyOf(SYSTEMD_UNITS)})[ \\t\\n\\r]*|[ \\t\\n\\r]+|$)`;
 const SYSTEMD_LIMIT = (2n ** 64n - 1n) * MICROSECOND;
 
-/** systemd's time spans: decimals, whose unit is seconds unless there is another. What is below a
- * microsecond is cut off. */
+/** systemd's time spans are decimals. Without a unit they count seconds. Parts of a microsecond are
+ * cut off. */
 function systemd(text) {
     const words = text.replace(/^[ \t\n\r]+/, "");
     if (!new RegExp(`^(?:${SYSTEMD_TERM})+$`).test(words)) return null;
@@ -114,20 +116,21 @@ function systemd(text) {
     return sum;
 }
 
-/** The readers, by the program and its version. */
+/** The readers, by the programs and their versions. */
 export const READERS = {
     "Go 1.19": go, "humantime 2.1": humantime, "ms 2.1": ms, "systemd 252": systemd,
 };
 
-/** A value that another program reads, which may be longer than the library's, or negative. */
+/** A value that another program reads, in words. It may be negative, or too long for the library.
+ * */
 function inWords(nanos) {
     const size = nanos < 0n ? -nanos : nanos;
     const words = size < LIMIT ? formatNs(size, { largest: "d" }) : "over 584 years";
     return nanos < 0n ? `-${words}` : words;
 }
 
-/** The programs to which the text means something else than to the library, each with what it means
- * there. The library reads the text as this value; null says that it refuses it. */
+/** The programs to which the text means something else than to the library, each with that meaning.
+ * `value` is the value that the library reads, or null if it refuses the text. */
 export function elsewhere(text, value) {
     const answers = Object.entries(READERS).map(([name, read]) => [name, read(text)]);
     const others = answers.filter(([, other]) => other !== value);

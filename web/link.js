@@ -13,14 +13,15 @@ const boxes = Object.values(switches);
 const lists = { ...printing, default_unit: defaultUnit };
 const printedNames = UNITS.map(({ printed }) => printed);
 
-/** The word for a number without a unit; none if it counts seconds. */
+/** The word in the link for the default unit. There is none if a number without a unit counts
+ * seconds. */
 function defaultUnitWords() {
     if (defaultUnit.value === SECOND) return [];
     if (defaultUnit.value === REFUSED) return ["require_unit"];
     return [`default_unit=${encodeURIComponent(defaultUnit.value)}`];
 }
 
-/** Writes the text and what is chosen into the address, and returns that. */
+/** Writes the text and the choices into the address, and returns the address. */
 export function writeLink() {
     let note = "";
     try {
@@ -47,7 +48,7 @@ function isChoice(id, value) {
     return Array.from(lists[id].options, (one) => one.value).includes(value);
 }
 
-/** Takes the units that are printed, and returns whether there are these. */
+/** Takes the units to print, and returns whether all of them exist. */
 function takeUnits(names) {
     if (!names.every((name) => printedNames.includes(name))) return false;
     chooseUnits(names);
@@ -68,7 +69,7 @@ function take(word) {
     return true;
 }
 
-/** Takes the state from the link. Words that are unknown or badly written change nothing; they are
+/** Takes the state from the link. Words that are unknown or badly written change nothing, and are
  * returned. */
 export function readLink() {
     for (const box of boxes) box.checked = false;

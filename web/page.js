@@ -1,4 +1,4 @@
-// The page's behaviour: what is typed, pressed and chosen.
+// The page's behaviour when something is typed, pressed or chosen.
 import { tryParseNs } from "../js/dist/duration-str.js";
 import { copied, showAnswer } from "./answer.js";
 import {
@@ -10,9 +10,10 @@ import { button, element, make, text, write } from "./elements.js";
 import { readLink, showUnknown, writeLink } from "./link.js";
 import { UNITS } from "./units.js";
 
-/** The milliseconds without a key after which the answer is told and the link is written. */
+/** After this many milliseconds without a key, screen readers get the answer and the link is
+ * written. */
 const PAUSE = 500;
-/** How long is shown what was copied, in milliseconds. */
+/** How long the page shows what was copied, in milliseconds. */
 const SHOWN = 4_000;
 const EXAMPLES = ["90m + 45s", "1h 30", "1.5h", "5 mins", "PT5M", "3m-1s"];
 
@@ -22,14 +23,14 @@ let shownCopy;
 function read() {
     const told = showAnswer();
     clearTimeout(pause);
-    // Screen readers are told the answer, and the link is written, once nothing more is typed.
+    // Screen readers get the answer, and the link is written, once nothing more is typed.
     pause = setTimeout(() => {
         element("announcement").textContent = told;
         writeLink();
     }, PAUSE);
 }
 
-/** Adds a unit to the text, where it can go on so, or writes it anew. */
+/** Adds a unit to the text if one can follow, and otherwise starts a new text. */
 function addUnit(name) {
     const isChinese = UNITS.some(({ chinese }) => chinese.includes(name));
     if (isChinese) choose({ ...chosenOptions(), cnUnit: true });
@@ -37,7 +38,8 @@ function addUnit(name) {
     write(texts.find((each) => tryParseNs(each, chosenOptions()).ok).trimStart());
 }
 
-/** Makes the buttons in a toolbar one stop of the tab key. Arrow keys lead from one to the next. */
+/** Makes the buttons in a toolbar a single stop of the tab key. Arrow keys move from one to the
+ * next. */
 function roam(toolbar) {
     const buttons = Array.from(toolbar.querySelectorAll("button"));
     for (const one of buttons) one.tabIndex = one === buttons[0] ? 0 : -1;
@@ -101,7 +103,7 @@ function showPrinting() {
     for (const box of unitBoxes) {
         box.checked = true;
         box.addEventListener("change", () => {
-            // The last one stays.
+            // The last box stays checked.
             box.checked ||= unitBoxes.every((each) => !each.checked);
             showLimits();
             read();
@@ -109,7 +111,7 @@ function showPrinting() {
     }
 }
 
-/** A place for the code in a language, which a button copies. */
+/** Makes the place for the code in a language, with a button that copies it. */
 function placeForCode([id, [title, got]]) {
     const said = `the code in ${title}`;
     const code = Object.assign(make("pre"), { id, tabIndex: 0, role: "group", ariaLabel: said });
@@ -125,7 +127,7 @@ function showLanguages() {
     element("codes").replaceChildren(...Object.entries(LANGUAGES).map(placeForCode));
 }
 
-/** Copies what the element shows; where that can't be done, selects it. */
+/** Copies what the element shows, or selects it if it can't be copied. */
 async function copy(id) {
     if (id === "link-note") copied[id] = writeLink();
     let said = `Copied: ${copied[id].split("\n", 1)}`;
@@ -174,5 +176,5 @@ if (location.hash) {
 element("needs").remove();
 document.querySelector("main").hidden = false;
 text.focus();
-// What is typed or pasted first stands in place of the example, not after it.
+// The first text that is typed or pasted replaces the example.
 if (!location.hash) text.select();

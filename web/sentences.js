@@ -1,17 +1,17 @@
-// Sentences, which are lists of strings and of quoted texts. This module needs no browser, nor do
-// advice.js, conversions.js, units.js and values.js, which know what a text means.
+// Sentences, which are lists of strings and of quoted texts. This module needs no browser. Neither
+// do advice.js, conversions.js, units.js and values.js, which know what a text means.
 
-/** How much of a long text is shown, or stands on each side of a fault, in UTF-16 units. */
+/** How many UTF-16 units of a long text are shown, or are shown on each side of a fault. */
 export const AROUND = 40;
 
-/** This text, or its first 40 characters where it is longer. */
+/** This text, or its first 40 characters if it is longer. */
 export function shorten(found) {
     const first = Array.from(found.slice(0, 2 * AROUND)).slice(0, AROUND).join("");
     return first.length < found.length ? `${first}…` : first;
 }
 
-/** A sentence: say`A comma can't follow ${"1h"}.` quotes 1h. A list among the values stands as it
- * is. */
+/** Makes a sentence: say`A comma can't follow ${"1h"}.` quotes 1h. A list among the values is not
+ * quoted. */
 export function say(strings, ...values) {
     const quoted = values.map((value) => Array.isArray(value) ? value : [{ quoted: value }]);
     const [first, ...others] = strings;
@@ -21,7 +21,7 @@ export function say(strings, ...values) {
 /** The library's line as a sentence with the words that it quotes. */
 export function lineOf({ message }) {
     const line = `${message.replace(/^./, (letter) => letter.toUpperCase())}.`;
-    // Every other part is what stood between quotation marks.
+    // Every other part stood between quotation marks.
     const parts = line.split(/"((?:[^"\\]|\\.)*)"/);
     return parts.map((part, place) => place % 2 === 1 ? { quoted: part } : part);
 }

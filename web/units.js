@@ -2,8 +2,8 @@
 // means.
 import { formatNs, parseNs } from "../js/dist/duration-str.js";
 
-/** A longer text, in UTF-16 units, is marked in an excerpt instead of the input, and the link
- * doesn't hold it. */
+/** A text with more UTF-16 units than this is marked in an excerpt instead of the input, and the
+ * link doesn't contain it. */
 export const LONG = 2_000;
 
 // The list is made by tests/repository --write.
@@ -31,19 +31,19 @@ export const UNITS = [
 
 const CHINESE_LETTERS = UNITS.flatMap(({ chinese }) => chinese).join("");
 
-/** The unit that has this name under some options; undefined if there is none. */
+/** The unit that has this name under some options, or undefined if there is none. */
 export function unitOf(word) {
     const name = word.replace(/[A-Z]/g, (letter) => letter.toLowerCase());
     return UNITS.find(({ names, chinese }) => names.includes(name) || chinese.includes(name));
 }
 
-/** The unit that a number without one counts under these options; null if it is refused. */
+/** The unit that a number without a unit counts under these options, or null if it is refused. */
 export function defaultUnitOf({ requireUnit, defaultUnit = "s" }) {
     return requireUnit ? null : unitOf(defaultUnit);
 }
 
-/** The terms of a text that is read, or of the part before its fault: the operator before each, the
- * term as it is written, its number and its unit's name. */
+/** The terms of a text that is read, or of the part before its fault. Each has the operator before
+ * it, the term as it is written, its number and its unit's name. */
 export function* terms(text, { cnUnit }) {
     const letters = `A-Za-zµ${cnUnit ? CHINESE_LETTERS : ""}`;
     const sign = "(?:([+*])[ \t\r\n]*)?";

@@ -3,7 +3,7 @@ import { parseNs, parts } from "../js/dist/duration-str.js";
 import { defaultUnitOf, terms, UNITS, unitOf } from "./units.js";
 
 const [MINUTE, SECOND] = ["m", "s"].map((name) => unitOf(name).nanos);
-/** So many terms are shown. */
+/** The most terms that are shown. */
 const SHOWN = 20;
 
 /** Whole digits in groups of three: `193,029`. */
@@ -11,7 +11,8 @@ export function groupDigits(digits) {
     return digits.replace(/^[0-9]+/, (whole) => whole.replace(/\B(?=([0-9]{3})+$)/g, ","));
 }
 
-/** This count of a unit: `30 minutes`, or `6 months of 30 days`, since those of a calendar vary. */
+/** A count of a unit in words: `30 minutes`, or `6 months of 30 days`, since the months of a
+ * calendar vary. */
 function countInWords(number, unit) {
     const count = BigInt(number).toString();
     const name = count === "1" ? unit.names.at(-2) : unit.names.at(-1);
@@ -52,7 +53,7 @@ export function iso(nanos) {
 
 const inSeconds = (nanos) => `${groupDigits(seconds(nanos))} s`;
 
-/** The steps of a product, as the library takes them: first the later terms from left to right, and
+/** The steps of a product, in the library's order: first the later terms from left to right, and
  * then the first term. */
 function steps(values) {
     const rows = [];

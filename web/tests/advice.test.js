@@ -1,6 +1,6 @@
-// What the page says about texts and offers for them, without a browser.
-// Run js/build first, then: node --test web/tests/advice.test.js
-// texts.json has the texts and what is expected of them; page.py describes its parts.
+// Tests what the page says about texts and offers for them, without a browser. Run js/build first,
+// then: node --test web/tests/advice.test.js texts.json has the texts and what is expected of them;
+// page.py describes its parts.
 import assert from "node:assert/strict";
 import { readFileSync } from "node:fs";
 import test from "node:test";
@@ -12,7 +12,7 @@ import { lineOf, shorten } from "../sentences.js";
 import { decimal, groupDigits, iso, seconds, termRows } from "../values.js";
 
 const TEXTS = JSON.parse(readFileSync(new URL("texts.json", import.meta.url), "utf8"));
-/** A sentence of the page has at most so many words; a quoted text counts as one. */
+/** The most words in a sentence of the page. A quoted text counts as one. */
 const MOST_WORDS = 9;
 
 /** The names of the options in JavaScript, and their names in texts.json. */
@@ -24,7 +24,7 @@ const OPTIONS = {
 };
 const NONE = optionsOf([]);
 
-/** The options with these names, of which one may be `default_unit=ms`. */
+/** The options with these names. A name may also be a default unit, such as `default_unit=ms`. */
 function optionsOf(names) {
     const pairs = Object.entries(OPTIONS).map(([name, id]) => [name, names.includes(id)]);
     const [, defaultUnit] = /default_unit=(\S+)/.exec(names.join(" ")) ?? [];
@@ -109,11 +109,12 @@ for (const [group, rows] of Object.entries(TEXTS.meant)) {
         for (const [text, ...meant] of rows) {
             const { ok, value, fault } = tryParseNs(text);
             const offers = ok ? notesOn(text, value, NONE).offers : offersFor(text, NONE);
-            // What the text is read as is not offered.
+            // The value that the text is read as is not offered.
             const wanted = meant.filter(Boolean).map(nanosOf).filter((each) => each !== value);
             assert.deepEqual(offers.map((each) => each.value), wanted, text);
             for (const each of offers) {
-                // The meaning in words is a text, too: "1,000 seconds", "2 months of 30 days".
+                // The meaning in words is also a text that can be read: "1,000 seconds", "2 months
+                // of 30 days".
                 const inWords = each.meaning.replace(/,| of \d+ days/g, "");
                 assert.equal(parseNs(inWords), each.value, text);
             }

@@ -1,5 +1,6 @@
-// Compares what web/elsewhere.js says of texts with the programs themselves: Go, humantime, ms and
-// systemd, of which Debian has all. A program is skipped if it is missing, or of another version.
+// Compares what web/elsewhere.js says about texts with the programs themselves: Go, humantime, ms
+// and systemd, all of which Debian has. A program is skipped if it is missing, or has another
+// version.
 import assert from "node:assert/strict";
 import { execFileSync, spawnSync } from "node:child_process";
 import { mkdtempSync, readFileSync, readdirSync, rmSync, writeFileSync } from "node:fs";
@@ -11,7 +12,7 @@ import test, { after } from "node:test";
 import { READERS } from "../elsewhere.js";
 
 const PAGE_TEXTS = JSON.parse(readFileSync(new URL("texts.json", import.meta.url), "utf8"));
-/** Near limits, and where the programs differ */
+/** Texts near limits, and texts that the programs read in different ways */
 const MORE = [
     "100", "0", "-0", "+0", "1h30", "1h 30", "5M", "5m", "1.h", ".5h", "1.5.5s", "1h1h", "3ms2s",
     "1 000 s", "1 2h", "2 h3m", "1ms1", "5s5", "1sec1", "3w2d", "0.1us", "0.000000001s",
@@ -29,14 +30,14 @@ const TEXTS = [...MEANT, ...PAGE_TEXTS.typed, ...MORE];
 const room = mkdtempSync(join(tmpdir(), "elsewhere-"));
 after(() => rmSync(room, { recursive: true }));
 
-/** The first group of the pattern in what a command writes; undefined if there is none. */
+/** The first group of the pattern in the output of a command, or undefined if there is none. */
 function written(pattern, ...words) {
     const { stdout } = spawnSync(words[0], words.slice(1), { encoding: "utf8" });
     return pattern.exec(stdout ?? "")?.[1];
 }
 
-/** Tests a program if it is there in the version that READERS names. `found` is the version that is
- * there, if any, and Debian has the program in this package. */
+/** Tests a program if it is installed in the version that READERS names. `found` is the installed
+ * version, if any. `debianPackage` is the package that has the program. */
 function compare(program, found, debianPackage, answers) {
     const name = Object.keys(READERS).find((each) => each.startsWith(`${program} `));
     const wanted = name.slice(program.length + 1);
@@ -46,7 +47,7 @@ function compare(program, found, debianPackage, answers) {
     test(name, { skip }, () => same(name, answers()));
 }
 
-/** Compares each text's value with what the program says: nanoseconds, or null. */
+/** Compares each text's value with the program's answer, which is nanoseconds or null. */
 function same(name, answers) {
     const read = TEXTS.filter((_, place) => answers[place] !== null);
     assert.ok(read.length > 30, `${name} reads ${read.length}`);
@@ -55,8 +56,8 @@ function same(name, answers) {
     });
 }
 
-/** The answers of a program that reads lines, each a text in hexadecimal digits, and writes
- * nanoseconds for each, or `-`. */
+/** The answers of a program that reads a text in hexadecimal digits from each line, and writes its
+ * nanoseconds, or `-`. */
 function answersOf(program) {
     const input = TEXTS.map((text) => `${Buffer.from(text).toString("hex")}\n`).join("");
     const lines = execFileSync(program, { input, encoding: "utf8" }).trimEnd().split("\n");
@@ -93,7 +94,7 @@ const RUST = `fn main() {
     }
 }`;
 
-/** The version of Debian's crate of humantime; undefined if there is none. */
+/** The version of Debian's crate of humantime, or undefined if it is not installed. */
 function humantimeVersion() {
     try {
         const crates = readdirSync(CRATES).map((name) => /^humantime-([0-9.]+)$/.exec(name)?.[1]);
@@ -128,7 +129,7 @@ compare("systemd", systemdVersion, "systemd", () => {
         const words = ["timespan", "--", text];
         const { stdout } = spawnSync("systemd-analyze", words, { encoding: "utf8" });
         const [, micros] = /s: ([0-9]+)$/m.exec(stdout) ?? [];
-        // "infinity" is no length, and is shown as the greatest number.
+        // "infinity" is no length. systemd shows it as the greatest number.
         const isLength = micros !== undefined && BigInt(micros) < 2n ** 64n - 1n;
         return isLength ? BigInt(micros) * 1_000n : null;
     });

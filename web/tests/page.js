@@ -1,4 +1,4 @@
-// What page.py asks of the page, in which it is run before the page's own script.
+// The functions that page.py calls in the page. This script runs before the page's own.
 window.violations = [];
 addEventListener("securitypolicyviolation", (event) => violations.push(event.violatedDirective));
 
@@ -13,8 +13,8 @@ function put(text) {
 }
 
 /**
- * Puts the text into the input, also as pasting does, and gives the milliseconds until it is
- * answered and drawn.
+ * Puts the text into the input, as typing or as pasting does, and passes on the milliseconds until
+ * the answer is drawn.
  */
 function timeAnswer(text, pasted, done) {
     const start = performance.now();
@@ -25,8 +25,8 @@ function timeAnswer(text, pasted, done) {
 }
 
 /**
- * Each name of a unit, and the text and its nanoseconds after its button is pressed for the empty
- * text.
+ * For each name of a unit: the name, and the text and its nanoseconds after the name's button is
+ * pressed with an empty text.
  */
 function pressedUnits() {
     return all("#units button").map((button) => {
@@ -36,7 +36,7 @@ function pressedUnits() {
     });
 }
 
-/** Where the answer stands, for each beginning of the texts. */
+/** The position of the answer for each beginning of the texts. */
 function places(texts) {
     const beginnings = texts.flatMap(
         (text) => Array.from({ length: text.length + 1 }, (_, end) => text.slice(0, end)),
@@ -47,13 +47,13 @@ function places(texts) {
     });
 }
 
-/** The lowest point of the answer and of the first thing that is offered. */
+/** The lowest point of the answer and of the first offer. */
 function lowest() {
     const parts = [...seen("#printed, #notes, #sentence"), ...seen("#offered button").slice(0, 1)];
     return Math.max(...parts.map((element) => element.getBoundingClientRect().bottom));
 }
 
-/** Texts and edges that stand out too little from what is behind them. */
+/** The texts and edges whose contrast with their background is too low. */
 function pale() {
     const channels = (colour) => colour.match(/[0-9.]+/g).map(Number);
     const light = (colour) => channels(colour).slice(0, 3).map((c) => c / 255)
@@ -80,7 +80,7 @@ function pale() {
     return excerpts([...texts, ...edges]);
 }
 
-/** What breaks a rule of accessibility, by the rule. */
+/** The elements that break a rule of accessibility, by the rule. */
 function brokenRules() {
     const ids = all("[id]").map((element) => element.id);
     const named = (attribute) => all(`[${attribute}]`).flatMap(

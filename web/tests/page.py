@@ -1,16 +1,15 @@
-"""page.py FILE [--pictures]: tries the page in this file in Chromium, or takes its pictures; called
-by check.
+"""page.py FILE [--pictures]: tries the page in this file in Chromium, or takes its pictures.
+web/check calls it.
 
-texts.json has texts and what is shown of them, worked out by hand from docs/GRAMMAR.md:
+texts.json has texts and what the page shows for them, worked out by hand from docs/GRAMMAR.md:
 "values", printed and in nanoseconds, milliseconds, seconds and ISO 8601; the rows of their "terms";
 "notes" on them; the mark and the sentence of "faults", if that is not the library's line; what
-texts mean "elsewhere"; the answers to "lines"; and what is offered where an option is "switched".
-"meant" has the values in seconds that people mean by texts: several where people use a text with
-several meanings, null where nothing may be offered. advice.test.js tries all but the "lines"
-without a browser.
-"typed" texts are typed character by character; "hostile" ones must be shown, and do nothing else,
-and "hostile links" must choose nothing. Of what advice.test.js tries, one row of each kind is tried
-here. page.js runs in the page.
+texts mean "elsewhere"; the answers to "lines"; and what is offered if an option is "switched".
+"meant" has the values in seconds that people mean by texts. There are several if people use a text
+with several meanings, and null if nothing may be offered. advice.test.js tries all of this except
+the "lines" without a browser. "typed" texts are typed character by character. "hostile" texts must
+be shown and do nothing else, and "hostile links" must choose nothing. Of the rows that
+advice.test.js tries, one of each kind is tried here. page.js runs in the page.
 """
 import ast
 import base64
@@ -37,21 +36,23 @@ from selenium.webdriver.support.ui import Select  # noqa: E402
 
 TEXTS = json.loads((HERE / "texts.json").read_text(encoding="utf-8"))
 SCHEMES = ("light", "dark")
-# A little longer than the page waits after the last key before it tells the answer and writes the
-# link
+# A little longer than the page waits after the last key before it announces the answer and writes
+# the link
 PAUSE = 0.8
-# How many bytes the page may have
+# The most bytes that the page may have
 LARGEST = 110_000
-# What the keyboard of a phone of 375 by 667 pixels leaves free
+# The height that the keyboard of a phone of 375 by 667 pixels leaves free
 FREE = 300
 PICTURES = ROOT / "docs/images"
 PICTURE_WIDTH = 640
 PICTURE_MARGIN = 12
-# The options that have boxes. Rows may also have `require_unit` or, say, `default_unit=ms`.
+# The options that have boxes. Rows may also have `require_unit`, or a default unit such as
+# `default_unit=ms`.
 OPTIONS = reference_parser.Options._fields
 
 MEGABYTE = 1 << 20
-# Texts of 1 MiB, and what is printed of them, or None; 349,525 s are 4 d 1 h 5 min 25 s.
+# Texts of 1 MiB, and their printed values, or None if they are refused. 349,525 s are 4 d 1 h 5 min
+# 25 s.
 LONG = [
     ("1s " * 349_525 + " ", "4d 1h 5min 25s"),
     ("1h\n" + " " * MEGABYTE, "1h"),
@@ -67,7 +68,7 @@ LONG = [
 
 
 class Page:
-    """The page in a Chromium of its own, and what was found wrong."""
+    """The page in a Chromium of its own, and the faults that were found."""
 
     def __init__(self, file):
         self.address = pathlib.Path(file).resolve().as_uri()
@@ -87,7 +88,7 @@ class Page:
         self.before("(() => {" + (HERE / "page.js").read_text(encoding="utf-8") + "})()")
 
     def before(self, script):
-        """Has the script run before the scripts of each page that is opened."""
+        """Lets the script run before the scripts of each page that is opened."""
         self.driver.execute_cdp_cmd("Page.addScriptToEvaluateOnNewDocument", {"source": script})
 
     def same(self, what, expected, got):
@@ -108,13 +109,12 @@ class Page:
         return self.driver.find_element(By.ID, name)
 
     def text_of(self, name):
-        """The text of an element, or None where it is not to be seen."""
+        """The text of an element, or None if it can't be seen."""
         element = self.find(name)
         return element.get_property("textContent") if element.is_displayed() else None
 
     def put(self, text, pasted=False):
-        """Puts the text into the input, and gives the milliseconds until it is answered and
-        drawn."""
+        """Puts the text into the input, and returns the milliseconds until the answer is drawn."""
         script = "asked.timeAnswer(JSON.parse(arguments[0]), arguments[1], arguments[2])"
         return self.driver.execute_async_script(script, json.dumps(text), pasted)
 
@@ -142,11 +142,12 @@ class Page:
         self.driver.find_element(By.CSS_SELECTOR, selector).click()
 
     def answer_line(self, expression):
-        """What the expression is, by JSON, which also carries lone surrogates."""
+        """The value of a JavaScript expression, passed on as JSON, which can also hold lone
+        surrogates."""
         return json.loads(self.run(f"return JSON.stringify({expression})"))
 
     def words(self, selector):
-        """The text of each element."""
+        """The texts of all elements that the selector finds."""
         return self.answer_line(f"asked.words({json.dumps(selector)})")
 
     def text(self):
@@ -156,8 +157,8 @@ class Page:
         return next(iter(self.words("mark")), None)
 
     def key(self, *keys):
-        """Presses the keys in the element that has the focus, and returns the name of the one that
-        has it then.
+        """Presses the keys in the element that has the focus, and returns the name of the element
+        that has it afterwards.
         """
         self.driver.switch_to.active_element.send_keys(*keys)
         return self.run(
@@ -166,7 +167,7 @@ class Page:
 
 
 def default_unit_in(names):
-    """The choice for a number without a unit that is among these names of options."""
+    """The choice for a number without a unit that these names of options contain."""
     if "require_unit" in names:
         return "refused"
     return next((name.split("=")[1] for name in names if "=" in name), "s")
@@ -178,7 +179,7 @@ def answer_to(text, *names):
 
 
 def line_of(text, *options):
-    """The line of a refusal as a sentence, in which what is quoted stands without its quotes."""
+    """The line of a refusal as a sentence, without the quotation marks."""
     line = reference_parser.one_line(text, answer_to(text, *options))
     return re.sub(r'"((?:[^"\\]|\\.)*)"', r"\1", f"{line[0].upper()}{line[1:]}.")
 
@@ -210,7 +211,8 @@ def try_values(page):
 
 
 def kind_of_fault(row):
-    """What is marked, and which sentence is shown, of a text that is short or long."""
+    """The kind of a row: what is marked, which sentence is shown, and whether the text is short or
+    long."""
     text, options, marked, *sentence = row
     return marked in (None, "\u00a0") and marked, bool(options), bool(sentence), len(text) > 40
 
@@ -248,7 +250,7 @@ def try_faults(page):
 
 
 def try_elsewhere(page):
-    """Other programs are named where they read a text in another way."""
+    """Other programs are named if they read a text in another way."""
     page.open()
     for text, rows in one_of_each(TEXTS["elsewhere"], lambda row: bool(row[1])):
         page.put(text)
@@ -261,7 +263,7 @@ def try_elsewhere(page):
 
 
 def try_lines(page):
-    """Of several lines each has its value or its fault, and is mended alone."""
+    """Each of several lines has its value or its fault, and is mended by itself."""
     page.open("#text=1:30")
     for text, marks, expected in TEXTS["lines"]:
         page.put(text)
@@ -323,8 +325,8 @@ def try_switching(page):
 
 
 def try_examples(page):
-    """Each is in one row, puts its text, and some are read and some refused with something to
-    try."""
+    """The buttons are in one row. Each puts its text into the input. Some texts are read, and some
+    are refused with something to try."""
     page.open()
     examples = page.driver.find_elements(By.CSS_SELECTOR, "#examples button")
     found = []
@@ -490,14 +492,14 @@ def try_code(page):
 
 
 def no_calc_box(page):
-    """Whether its box is selected, and whether it can be pressed."""
+    """Whether the box of `no_calc` is selected, and whether it can be pressed."""
     box = page.find("no_calc")
     return [box.is_selected(), box.is_enabled()]
 
 
 def try_printing(page):
-    """A duration of 90,061.000000001 s, which is 1 day 1 hour 1 minute 1 second 1 nanosecond, in
-    chosen ways.
+    """Tries a duration of 90,061.000000001 s, which is 1 day 1 hour 1 minute 1 second 1 nanosecond,
+    printed in chosen ways.
     """
     rows = [
         ({}, "1d 1h 1min 1s 1ns", {"shell": "printf '%s\\n' '90061s 1ns' | durstr"}),
@@ -581,7 +583,7 @@ def try_printing(page):
 
 
 def try_units_printed(page):
-    """The boxes of units and the two limits follow one another."""
+    """The boxes of units follow the two limits, and the limits follow the boxes."""
 
     def same(what, printed, units):
         checked = page.words("#printed_units label:has(:checked)")
@@ -789,7 +791,7 @@ def try_keyboard(page):
 
 
 def try_readers(page):
-    """What screen readers are told: a name for each field, and one line after a pause."""
+    """Screen readers get a name for each field, and one line after a pause."""
     page.open()
     for field in page.driver.find_elements(
         By.CSS_SELECTOR, "input, select, textarea, pre, button:not(#units button)"
@@ -837,7 +839,7 @@ def emulate(page, scheme, width, height=1100, forced=False):
 
 
 def try_rules(page):
-    """Rules of accessibility, in a page with all that it can show."""
+    """Tries rules of accessibility in a page that shows everything that it can."""
     for text in ("1:30", "1h\n1h 30\n5 mins", "3m + 13s + 29ms"):
         page.open("#cn_unit&text=" + urllib.parse.quote(text))
         for what, broken in page.answer_line("asked.brokenRules()").items():
@@ -861,7 +863,7 @@ def try_rules(page):
 
 
 def try_place(page):
-    """The answer, and so all that is above it, doesn't move while a text is typed."""
+    """The answer, and so everything above it, doesn't move while a text is typed."""
     for width in (320, 900):
         emulate(page, "light", width)
         page.open()
@@ -870,7 +872,7 @@ def try_place(page):
 
 
 def try_phone(page):
-    """On a phone the answer and the first suggestion stand above the keyboard."""
+    """On a phone the answer and the first suggestion are above the keyboard."""
     emulate(page, "light", 375, 667)
     for text in ("3m + 13s + 29ms", "1h 30", "1:30", "5 mins", "5m, 10m"):
         page.open("#text=" + urllib.parse.quote(text))
@@ -880,7 +882,7 @@ def try_phone(page):
 
 def try_looks(page):
     papers = {}
-    # 320 pixels are also what 640 leave at 200 %.
+    # At 200 %, 640 pixels leave as much room as 320.
     for scheme in SCHEMES:
         for width in (320, 900):
             for text in (
@@ -916,7 +918,7 @@ def try_looks(page):
 
 
 def shown_in_picture(page, scheme):
-    """Opens what the pictures show, and gives how high that is."""
+    """Opens the page as the pictures show it, and returns its height."""
     emulate(page, scheme, PICTURE_WIDTH)
     page.open("#text=1%3A30")
     page.run("document.activeElement.blur()")
@@ -927,8 +929,8 @@ def shown_in_picture(page, scheme):
 
 
 def said_in_picture(page):
-    """The words in the pictures, and a digest of how they look: whether a picture is stale is seen
-    by these."""
+    """The words in the pictures, and a digest of how the pictures look. They show whether a picture
+    is out of date."""
     selectors = ["header", "#examples", "#options", "#answer"]
     words = page.answer_line(
         f"{json.dumps(selectors)}.map((each) => document.querySelector(each).innerText)"
@@ -963,8 +965,8 @@ def try_pictures(page):
 
 
 def try_outside(page):
-    """Nothing was asked for outside so far, no rule was broken and nothing complained of; and the
-    policy holds.
+    """So far the page has asked for nothing outside, has broken no rule, and the browser has
+    reported no error. And the content security policy works.
     """
     messages = [
         json.loads(entry["message"])["message"] for entry in page.driver.get_log("performance")
@@ -995,8 +997,8 @@ def try_outside(page):
 
 
 def try_without(page):
-    """Without scripts or WebAssembly the page says so first, and shows nothing else but its title
-    and its end.
+    """Without scripts or WebAssembly the page says so first, and shows nothing else except its
+    title and its end.
     """
 
     def same(what, works):
