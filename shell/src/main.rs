@@ -13,14 +13,14 @@ use std::io::{self, BufRead, BufReader, BufWriter, IsTerminal, Read, Write};
 use std::os::fd::AsFd;
 use std::os::unix::ffi::OsStrExt;
 
-/// The most bytes of a line.
+/// The most bytes that a line may have.
 const LONGEST: usize = 1 << 20;
 
-/// C's `main`: Rust's opens /dev/null for a closed stream, and ignores the signal of a pipe that
-/// nobody reads.
+/// C's `main`. Rust's would open /dev/null for a closed stream, and would ignore the signal for a
+/// pipe that nobody reads.
 #[unsafe(no_mangle)]
 extern "C" fn main(count: c_int, words: *const *const c_char) -> c_int {
-    // SAFETY: C calls it with so many words, each with a zero at its end.
+    // SAFETY: C calls `main` with `count` words, each with a zero at its end.
     let word =
         |at| OsStr::from_bytes(unsafe { CStr::from_ptr(*words.add(at)) }.to_bytes()).to_os_string();
     run((0..count as usize).map(word)).unwrap_or_else(|error| {
@@ -29,7 +29,7 @@ extern "C" fn main(count: c_int, words: *const *const c_char) -> c_int {
     })
 }
 
-/// Does what the words say, and returns the status.
+/// Does what the command line says, and returns the status.
 fn run(words: impl Iterator<Item = OsString>) -> io::Result<c_int> {
     let choices = match Choices::of(words) {
         Ok(choices) => choices,
@@ -58,7 +58,7 @@ fn run(words: impl Iterator<Item = OsString>) -> io::Result<c_int> {
     run.all().map(|()| run.has_refused.into())
 }
 
-/// A stream as a file, whose errors are not hidden where the stream is closed.
+/// A stream as a file. Unlike the stream, it doesn't hide the error if the stream is closed.
 fn file(stream: impl AsFd) -> io::Result<File> {
     Ok(stream.as_fd().try_clone_to_owned()?.into())
 }
@@ -70,14 +70,14 @@ fn of_input(error: io::Error) -> io::Error {
 struct Run<'a> {
     output: BufWriter<Box<dyn Write>>,
     end: u8,
-    /// Whether the last line has no end, in a file of which lines stay.
+    /// Whether the last line has no line end, in a file in which other text is kept.
     is_open: bool,
     choices: &'a Choices,
     has_refused: bool,
 }
 
 impl Run<'_> {
-    /// Answers each argument, or without any each line of standard input.
+    /// Answers each argument, or, if there are none, each line of standard input.
     fn all(&mut self) -> io::Result<()> {
         if let Some(shell) = self.choices.completions {
             self.output
@@ -100,7 +100,7 @@ impl Run<'_> {
     fn lines(&mut self, mut input: BufReader<File>) -> io::Result<()> {
         let mut line = Vec::new();
         for number in 1.. {
-            // What is answered is written before more is awaited.
+            // All answers so far are written before the program waits for more input.
             if !input.buffer().contains(&self.end) {
                 self.output.flush()?;
             }
@@ -131,15 +131,15 @@ impl Run<'_> {
         Ok(())
     }
 
-    /// Reads a line with its end, or the beginning of one that is too long. False at the end of the
-    /// input.
+    /// Reads a line with its line end, or the beginning of a line that is too long. Returns false
+    /// at the end of the input.
     fn next(&self, input: &mut BufReader<File>, line: &mut Vec<u8>) -> io::Result<bool> {
         line.clear();
         let read = input.take(LONGEST as u64 + 1).read_until(self.end, line);
         Ok(read.map_err(of_input)? > 0)
     }
 
-    /// Reads the rest of a line that is too long, and writes all of it where it stays.
+    /// Reads the rest of a line that is too long, and, if `stays` is true, writes the whole line.
     fn pass(
         &mut self,
         input: &mut BufReader<File>,
@@ -164,8 +164,8 @@ impl Run<'_> {
         }
     }
 
-    /// Writes the object of a text that is read. Its nanoseconds are a text, since other programs
-    /// drop digits of a number.
+    /// Writes the JSON object of a text that is read. Its nanoseconds are a string, since other
+    /// programs drop digits of a number.
     fn object(&mut self, text: &str, nanos: u64) -> io::Result<()> {
         self.output.write_all(b"{\"text\":")?;
         serde_json::to_writer(&mut self.output, text)?;
@@ -186,8 +186,8 @@ impl Run<'_> {
         self.put(&rest.map(str::as_bytes))
     }
 
-    /// The text of a line, all of it or a field without blanks and quotation marks, and what is
-    /// before and after it.
+    /// Divides a line into the part before the text, the text, and the part after it. The text is
+    /// the whole line, or a field without blanks and quotation marks around it.
     fn parts<'a>(&self, line: &'a [u8]) -> Option<[&'a [u8]; 3]> {
         let Some(number) = self.choices.field else {
             return Some([b"", line, b""]);
@@ -206,7 +206,7 @@ impl Run<'_> {
         Some([&line[..first], &line[first..end], &line[end..]])
     }
 
-    /// Says why a text is refused, and writes its line as it was if a field is converted.
+    /// Says why a text is refused. If a field is converted, writes the line as it was.
     fn refuse(&mut self, refusal: Refusal, parts: [&[u8]; 3], number: u64) -> io::Result<()> {
         self.tell(refusal, parts[1], number)?;
         if self.choices.field.is_some() {
@@ -225,7 +225,7 @@ impl Run<'_> {
         if self.choices.quiet {
             return Ok(());
         }
-        // A terminal shows what was answered before that first.
+        // A terminal should show the answers before this one first.
         self.output.flush()?;
         let field = self
             .choices
@@ -242,7 +242,7 @@ impl Run<'_> {
         parts
             .iter()
             .try_for_each(|part| self.output.write_all(part))?;
-        // jq takes a NUL for the end, and says nothing.
+        // jq would take a NUL for the end of its input, without an error.
         let end = if self.choices.json { b'\n' } else { self.end };
         self.output.write_all(if self.is_open {
             b""

@@ -1,4 +1,4 @@
-//! The arguments, and how they have durations read and printed.
+//! The arguments of the command, and how they say to read and print durations.
 use clap::builder::{PossibleValuesParser, TypedValueParser};
 use clap::error::ErrorKind;
 use clap::{Command, CommandFactory, Parser, ValueEnum, value_parser};
@@ -10,8 +10,8 @@ use std::ffi::{OsStr, OsString};
 use std::os::unix::ffi::OsStrExt;
 use std::time::Duration;
 
-/// What says how to print for people. clap doesn't miss an option that is required and can't stand
-/// beside these.
+/// The options that say how to print for people. If an option requires another one that is in
+/// conflict with these, clap doesn't report that it is missing.
 const SHAPES: [&str; 5] = ["style", "parts", "units", "largest", "smallest"];
 
 /// Read durations such as 1h 30m, and print them for people or as numbers
@@ -30,7 +30,7 @@ pub struct Choices {
     /// Print a number in this unit, with as many decimals as needed, up to nine
     #[arg(long, value_name = "UNIT", value_parser = unit, conflicts_with_all = SHAPES)]
     pub to: Option<TimeUnit>,
-    /// Print so many decimals, 0 to 9
+    /// Print N decimals, 0 to 9
     #[arg(long, value_name = "N", requires = "to", conflicts_with_all = SHAPES,
         value_parser = value_parser!(u8).range(..=9))]
     decimals: Option<u8>,
@@ -46,7 +46,7 @@ pub struct Choices {
         PossibleValuesParser::new(["short", "compact", "long"])
             .try_map(|word| word.parse::<Style>()))]
     style: Style,
-    /// Print at most so many parts, and leave out the rest
+    /// Print at most N parts, and leave out the rest
     #[arg(long, value_name = "N", default_value = "11",
         value_parser = value_parser!(u8).range(1..))]
     parts: u8,
@@ -78,7 +78,7 @@ pub struct Choices {
     /// End lines with NUL instead of a line feed
     #[arg(short, long)]
     pub zero_terminated: bool,
-    /// Tell capitals from small letters, so that 1M is refused
+    /// Don't read capitals as small letters, so that 1M is refused
     #[arg(long)]
     pub lowercase: bool,
     /// Read the Chinese names of units too
@@ -93,7 +93,7 @@ pub struct Choices {
     pub completions: Option<Shell>,
 }
 
-/// The units of a list, in its order.
+/// The units of a list, in the order of the list.
 #[derive(Clone)]
 struct UnitList(Vec<TimeUnit>);
 
@@ -115,7 +115,7 @@ Examples:
   $ duration -d, --field 2 --header --to s <jobs.csv";
 
 impl Choices {
-    /// Those of the command line, or what is to be said in place of answers.
+    /// The choices of the command line, or the text to print instead of answers.
     pub fn of(words: impl Iterator<Item = OsString>) -> Result<Choices, clap::Error> {
         let choices = Choices::try_parse_from(words.map(escape))?;
         if choices.format().units != Units::NONE {
@@ -129,7 +129,7 @@ impl Choices {
         Err(clap::Error::raw(ErrorKind::ArgumentConflict, told))
     }
 
-    /// How to print for people.
+    /// The format for printing to people.
     fn format(&self) -> Format {
         let format = Format::whole()
             .largest(self.largest)
@@ -151,7 +151,8 @@ impl Choices {
     }
 }
 
-/// A number of this unit, with so many decimals, or else those that are needed, up to nine.
+/// The nanoseconds as a number of this unit. It has this many decimals, or, if that is `None`, as
+/// many as it needs, up to nine.
 pub fn in_unit(nanos: u64, unit: TimeUnit, decimals: Option<u8>, round: Round) -> String {
     let length = unit.nanos();
     let (whole, rest) = (nanos / length, nanos % length);
@@ -162,7 +163,7 @@ pub fn in_unit(nanos: u64, unit: TimeUnit, decimals: Option<u8>, round: Round) -
     let more = [0, length - 1, length / 2][round as usize];
     let parts = (u128::from(rest) * u128::from(steps) + u128::from(more)) / u128::from(length);
     let (whole, part) = (whole + parts as u64 / steps, parts as u64 % steps);
-    // With a one before them, the decimals keep their zeros.
+    // `steps` puts a one before the decimals, so that they keep their leading zeros.
     let mut number = [&whole.to_string(), ".", &(steps + part).to_string()[1..]].concat();
     if decimals.is_none_or(|count| count == 0) {
         number.truncate(number.trim_end_matches('0').trim_end_matches('.').len());
@@ -170,7 +171,7 @@ pub fn in_unit(nanos: u64, unit: TimeUnit, decimals: Option<u8>, round: Round) -
     number
 }
 
-/// The byte of which a text is. A character beyond ASCII has two or more.
+/// The byte of a text of one byte. A character beyond ASCII has two or more bytes.
 fn one_byte(text: &str) -> Result<u8, &'static str> {
     match text.as_bytes() {
         [byte] => Ok(*byte),
@@ -178,7 +179,7 @@ fn one_byte(text: &str) -> Result<u8, &'static str> {
     }
 }
 
-/// The unit that a word names. Another is refused with the help that a text gets.
+/// The unit that a word names. Any other word is refused, with the help that a text would get.
 fn unit(word: &str) -> Result<TimeUnit, String> {
     word.parse().map_err(|unknown: UnknownUnit| {
         let line = parse_duration(&format!("1{word}"))
@@ -191,7 +192,8 @@ fn unit(word: &str) -> Result<TimeUnit, String> {
     })
 }
 
-/// The units that words between commas name. The help for another word names it.
+/// The units that the words between commas name. If a word names no unit, the help says which word
+/// it is.
 fn list_of_units(words: &str) -> Result<UnitList, String> {
     let units = words
         .split(',')
@@ -199,7 +201,7 @@ fn list_of_units(words: &str) -> Result<UnitList, String> {
     units.collect::<Result<_, _>>().map(UnitList)
 }
 
-/// What completions offer for a unit.
+/// The words that completions offer for a unit.
 // Made by tests/repository --write.
 const WORDS: [&str; 11] = ["y", "q", "mon", "w", "d", "h", "min", "s", "ms", "us", "ns"];
 
@@ -221,15 +223,15 @@ pub fn completions(shell: Shell) -> String {
     )
 }
 
-/// A script of clap, which knows no lists. In place of its one word `LIST` stands what completes
-/// each word of a list of units.
+/// Makes a script of clap complete lists of units, which clap doesn't know. The script's one word
+/// `LIST` is replaced by code that completes each word of a list.
 fn with_list(shell: Shell, script: &str) -> String {
     match shell {
         Shell::Fish => {
             let (before, after) = script.split_once("LIST").expect("clap writes the word");
             let (before, _) = before.rsplit_once('"').expect("it is in quotation marks");
             let (_, after) = after.split_once('"').expect("they are two");
-            // After a tab fish would explain the word.
+            // After a tab fish expects an explanation of the word, which is empty here.
             let words = WORDS.join(r"\t,") + r"\t";
             format!(r#"{before}"(__fish_complete_list , 'string split , {words}')"{after}"#)
         }
@@ -238,21 +240,21 @@ fn with_list(shell: Shell, script: &str) -> String {
             script.replace("(LIST)", &format!("_sequence compadd - {words}"))
         }
         _ => {
-            // Each word after all that is before it
+            // Each word, after the part of the list that is there already
             let words = WORDS.map(|word| format!(r#"${{cur%"${{cur##*,}}"}}{word}"#));
             script.replace("LIST", &words.join(" "))
         }
     }
 }
 
-/// What no word has, before one that begins as a number below zero, so that clap takes it for no
-/// option.
+/// A byte that no argument has. It is put before an argument that begins like a negative number, so
+/// that clap doesn't take it for an option.
 pub const ESCAPE: &[u8] = b"\0";
 
 fn escape(word: OsString) -> OsString {
     match word.as_encoded_bytes() {
         [b'-', b'.' | b'0'..=b'9', ..] => [OsStr::from_bytes(ESCAPE), &word].into_iter().collect(),
-        // Of which clap would take the sign away.
+        // Of `-d=` clap would take the sign away.
         b"-d=" => "-d==".into(),
         _ => word,
     }

@@ -1,10 +1,10 @@
-//! Reading by the library, and why a text is refused.
+//! Reads a text by the library, and says why it is refused.
 use crate::options::{Choices, Round};
 use duration_str::{Fault, Options, TimeUnit, parse_with_default_unit};
 use serde_json::json;
 
-/// Why a text is refused. For a syntax fault there are its place, what stands there, and the text
-/// with a caret.
+/// Why a text is refused. A syntax fault also has its place, the token there, and the text with a
+/// caret.
 #[derive(Default)]
 pub struct Refusal {
     pub message: String,
@@ -21,7 +21,7 @@ impl Refusal {
         }
     }
 
-    /// The object for the text of a line or an argument.
+    /// The JSON object for the refused text of a line or an argument.
     pub fn json(&self, text: &[u8], what: &str, number: u64) -> String {
         let text = String::from_utf8_lossy(text);
         let column = json!(self.place.map(|place| text[..place].chars().count() + 1));
@@ -47,7 +47,8 @@ impl From<Fault<'_>> for Refusal {
     }
 }
 
-/// Reads a text. Under --from a bare number has that unit, and any other must have its own.
+/// Reads a text. With --from, a text that is only a number counts that unit, and in all other texts
+/// each number must have its unit.
 pub fn read<'a>(bytes: &'a [u8], choices: &Choices) -> Result<(&'a str, u64), Refusal> {
     let text = std::str::from_utf8(bytes).map_err(|_| Refusal::new("not UTF-8"))?;
     if let Some((number, nanos)) = choices
@@ -73,9 +74,9 @@ pub fn read<'a>(bytes: &'a [u8], choices: &Choices) -> Result<(&'a str, u64), Re
     Ok((text, duration.as_nanos() as u64))
 }
 
-/// A text without blanks that is a bare number of this unit, such as `12.5`, `.5` or `1.2e-05`, and
-/// its nanoseconds. Of the decimals that it has without an exponent the first 18 count, and what
-/// they make is rounded down; or both up.
+/// If a text is only a number, such as `12.5`, `.5` or `1.2e-05`, returns it without the blanks
+/// around it, with its nanoseconds in this unit. Written without an exponent, the first 18 decimals
+/// count, and the result is rounded down. With `Round::Up`, both are rounded up.
 fn bare_number(text: &str, unit: TimeUnit, round: Round) -> Option<(&str, u128)> {
     let number = text.trim_matches([' ', '\t', '\r', '\n']);
     let (digits, exponent) = number.split_once(['e', 'E']).unwrap_or((number, "0"));
@@ -88,8 +89,8 @@ fn bare_number(text: &str, unit: TimeUnit, round: Round) -> Option<(&str, u128)>
         .parse::<isize>()
         .ok()
         .filter(|_| is_number && digits.ends_with(|last| last != '.'))?;
-    // So many zeros on both sides that the point can move by the exponent, or beyond all digits
-    // that count.
+    // There are enough zeros on both sides for the point to move by the exponent, or beyond all
+    // digits that count.
     let exponent = exponent.clamp(-(digits.len() as isize) - 99, digits.len() as isize + 99);
     let zeros = "0".repeat(1 + exponent.unsigned_abs());
     let all = [&zeros, whole, decimals, &zeros].concat();
@@ -102,7 +103,7 @@ fn bare_number(text: &str, unit: TimeUnit, round: Round) -> Option<(&str, u128)>
         Round::Up => part.div_ceil(steps),
         Round::Down | Round::Nearest => part / steps,
     };
-    // A whole part that doesn't fit makes more than any duration.
+    // If the whole part doesn't fit, the result is more than any duration.
     Some((
         number,
         whole

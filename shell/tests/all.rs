@@ -1,4 +1,5 @@
-//! Runs the program. What it says of a refused text is compared with what the library says.
+//! Tests the program by running it. What it says about a refused text is compared with what the
+//! library says.
 use duration_str::{parse_duration, parse_with_units};
 use serde_json::{Value, json};
 use std::ffi::OsStr;
@@ -10,7 +11,7 @@ use std::process::{Child, Command, Output, Stdio};
 
 const PROGRAM: &str = env!("CARGO_BIN_EXE_duration");
 
-/// The program, which ends after a minute where it waits for more.
+/// The program. If it waits for more input, it is ended after a minute.
 fn program(words: &[&str]) -> Command {
     let mut command = Command::new("timeout");
     command.args(["60", PROGRAM]).args(words);
@@ -29,14 +30,14 @@ fn piped(words: &[&str]) -> Child {
 fn output(words: &[&str], input: &[u8]) -> Output {
     let mut child = piped(words);
     let (mut stdin, input) = (child.stdin.take().unwrap(), input.to_vec());
-    // It may end before it has read everything.
+    // The program may end before it has read everything.
     let writer = std::thread::spawn(move || drop(stdin.write_all(&input)));
     let output = child.wait_with_output().unwrap();
     writer.join().unwrap();
     output
 }
 
-/// The status, what is written and what is said on standard error.
+/// Runs the program, and returns its status, its output and its standard error.
 fn run(words: &[&str], input: &[u8]) -> (i32, String, String) {
     let Output {
         status,
@@ -47,14 +48,14 @@ fn run(words: &[&str], input: &[u8]) -> (i32, String, String) {
     (status.code().unwrap(), text(stdout), text(stderr))
 }
 
-/// A run over arguments without a refusal.
+/// Runs the program with arguments of which none is refused, and returns its output.
 fn answer(words: &[&str]) -> String {
     let (status, output, errors) = run(words, b"");
     assert_eq!((status, &*errors), (0, ""), "{words:?}");
     output
 }
 
-/// The line of the library.
+/// The library's line for a refused text.
 fn line(text: &str) -> String {
     parse_duration(text).unwrap_err().to_string()
 }
@@ -167,7 +168,7 @@ fn prints_in_chosen_units() {
     assert!(object.ends_with("\"printed\":\"60min 5s\"}\n"), "{object}");
 }
 
-/// The faults are those of a grammar in which each number has a unit, also under other options.
+/// The faults are those of the grammar in which each number has a unit, also under other options.
 #[test]
 fn requires_units() {
     for (text, line) in [
@@ -241,8 +242,8 @@ fn takes_bare_numbers_as_a_unit() {
             (1, "".into(), errors)
         );
     }
-    // 2^64 nanoseconds, a number of 2^64, 2^119 seconds, which are 0 in 128 bits, and one of which
-    // a quote has 40 digits
+    // Each text is 2^64 nanoseconds or more. WRAPPING is 2^119 seconds, whose nanoseconds would be
+    // 0 in 128 bits. The last text has more digits than a quote shows.
     const WRAPPING: &str = "664613997892457936451903530140172288";
     for text in [
         "18446744073.709551616",
@@ -268,7 +269,7 @@ fn takes_bare_numbers_as_a_unit() {
         answer(&["--from", "s", "--to", "ns", "18446744073.709551615"]),
         "18446744073709551615\n"
     );
-    // Under --round up a text above zero is above zero, and what is whole stays.
+    // With --round up a text above zero is above zero, and a whole number stays the same.
     for (unit, text, nanos) in [
         ("s", "1e-10", 1),
         ("y", "1e-40", 1),
@@ -409,7 +410,7 @@ fn refuses_wrong_usage() {
     ] {
         assert!(run(&words, b"").2.starts_with(&format!("error: {wanted}")));
     }
-    // The last of an option's values counts, as for an alias that has another.
+    // If an option is given twice, the last value counts, so that an alias can have another one.
     assert_eq!(answer(&["--to", "s", "-q", "--to", "ms", "1h", "-q"]), "");
     assert_eq!(answer(&["--to", "s", "--to", "ms", "1h"]), "3600000\n");
     let word = OsStr::from_bytes(b"1h\xff");
@@ -450,7 +451,7 @@ fn reads_hostile_lines() {
         run(&[], &longest.repeat(2)).2,
         told(1, "line of over 1,048,576 bytes")
     );
-    // Such a line stays if a field is converted or if it is a header.
+    // A line that is too long is kept if a field is converted or if it is a header.
     let [long, exact] = [3 << 20, (1 << 20) - 1].map(|count| format!("a,{}", "x".repeat(count)));
     let lines = format!("{long}\nb,60s\n{exact}\n{long}");
     for (word, numbers) in [("--field=2", &[1, 3, 4][..]), ("--header", &[3, 4])] {
@@ -476,7 +477,7 @@ fn answers_before_it_waits() {
         child.stdin.take().unwrap(),
         BufReader::new(child.stdout.take().unwrap()).lines(),
     );
-    // The beginning of the next line is there already.
+    // The beginning of the next line has arrived already.
     stdin.write_all(b"1h\n1m ").unwrap();
     assert_eq!(lines.next().unwrap().unwrap(), "1h");
     stdin.write_all(b"1s\n").unwrap();
