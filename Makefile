@@ -1,30 +1,31 @@
-# make                 builds the program, the library for C and, where its crates are, the command,
-#                      and says where they lie
-# make program         the program alone
-# make library         the library alone: an archive and a shared library, or a WebAssembly module
-# make duration        the command duration, where Debian's packages of the crates that it uses are
-#                      there
-# make setup           installs what the tests need, on Debian, as root or where sudo asks for no
-#                      password; with all=yes also the many packages that few of them need
+# make                 builds the program, the library for C and, if its crates are installed, the
+#                      command duration, and says where they are
+# make program         builds only the program
+# make library         builds only the library: an archive and a shared library, or a WebAssembly
+#                      module
+# make duration        builds the command duration, if Debian's packages of the crates that it uses
+#                      are installed
+# make setup           installs what the tests need, on Debian, as root or by sudo without a
+#                      password; with all=yes also the many packages that few tests need
 # make prove           proves everything, by the Rattle toolchain's command rt
-# make check           proves everything, where there is rt, and tests what is built, in half an
-#                      hour to an hour
+# make check           proves everything, if there is rt, and tests everything that is built; this
+#                      takes half an hour to an hour
 # make quick           runs the tests that take seconds and the checks of what has changed
 # make format          lays out all files that no tool here makes, by the usual tool of each
 #                      language
-# make coverage        names the lines by hand that no test runs, in some minutes
-# make install         puts these, the header, the manual pages and completions below
+# make coverage        names the lines written by hand that no test runs, in some minutes
+# make install         installs what was built, the header, the manual pages and completions below
 #                      prefix=/usr/local, or into bindir=, libdir=, includedir=, mandir=, docdir=
 #                      and datarootdir=, all below DESTDIR= if that is set
 # make uninstall       removes them again, given the same variables
 # make release         fills dist/, or dist=FOLDER, with packages for machines without a toolchain
 # make page            writes out/duration_str.html, a page to try texts on
-# make clean           removes what was built and proved here, except dist/
+# make clean           removes everything that was built and proved here, except dist/
 #
-# cargo builds all of this, from Rust 1.85 on, of the proved sources without their contracts, and
-# without a network; for another machine with target=TARGET, by rustc's name, as
-# aarch64-unknown-linux-gnu; with static=yes the program needs no shared library. Where there is rt
-# and no cargo, it builds the program.
+# cargo, from Rust 1.85 on, builds all of this from the proved sources without their contracts. It
+# needs no network. For another machine, set target=TARGET to rustc's name of it, such as
+# aarch64-unknown-linux-gnu. With static=yes the program needs no shared library. If there is rt but
+# no cargo, rt builds the program.
 SHELL := bash
 .SHELLFLAGS := -euo pipefail -c
 .ONESHELL:
@@ -47,7 +48,7 @@ help:
 
 # ---- What is built
 
-# ./durstr takes the profile `quick`; what is installed and released, the other.
+# ./durstr is built with the profile `quick`, and files to install or release with `release`.
 profile = release
 host := $(or $(shell rustc -vV 2>/dev/null | sed -n 's/^host: //p'),\
     $(notdir $(firstword $(wildcard out/cargo/$(shell uname -m)-*))))
@@ -58,8 +59,8 @@ cargo = tools/cargo-for $(call quoted,$(target)) $(1) --quiet --profile $(profil
 static =
 comma := ,
 
-# Where nothing can be written, or is to be installed without cargo, as often under sudo, what is
-# there serves if it is current: $(call serves,FILE,FOLDERS)
+# $(call serves,FILE,FOLDERS): if nothing can be written, or if make installs without cargo, as
+# often under sudo, an existing file is used if it is up to date
 installing =
 serves = { { [ ! -w . ] $(if $(installing),|| ! type -P cargo >/dev/null); } && [ -e $(1) ] && \
     [ -z "$$(find Cargo.toml $(2) rust/core -newer $(1) -print -quit)" ]; }
@@ -83,7 +84,7 @@ program:
 	fi
 	echo $$program
 
-# Of rustc's own archive 4.3 MB are helpers that nothing calls; the object has all that is needed.
+# 4.3 MB of rustc's own archive are helpers that nothing calls. The object has everything needed.
 library:
 	@archive="$(built)/libduration_str.a"
 	if ! $(call serves,"$$archive",c); then
@@ -94,9 +95,9 @@ library:
 	fi
 	echo $(built)
 
-# It depends on crates of others. cargo hashes the absolute path of what lies outside of a
-# workspace, and so gives other bytes in each folder: so out/command is a workspace around both, of
-# copies, since the gate refuses links.
+# The command depends on crates of others. cargo hashes the absolute path of a crate outside of the
+# workspace, and so makes other bytes in each folder. So out/command is a workspace around both. It
+# has copies, since the gate refuses links.
 command = out/cargo/$(host)/release/duration
 crates = clap clap_complete clap_derive serde_json
 commanded = shell/Cargo.toml shell/src rust/Cargo.toml rust/macros rust/src
@@ -154,36 +155,37 @@ installed = $(addprefix $(bindir)/,durstr duration) $(addprefix $(mandir)/man1/,
     $(addprefix $(libdir)/,libduration_str.a $(shared) pkgconfig/duration_str.pc $(cmake_files)) \
     $(patsubst %,$(mandir)/man3/%.3,duration_str $(calls)) $(addprefix $(docdir)/,LICENSE NOTICE)
 
-# put FROM TO: installs the file as TO; put_program: the same of a program; put_text TO: of its
-# input, since without /proc there is no /dev/stdin. $$said has what `install` says, as the folders
-# that it makes, which $(folders) keeps for uninstalling.
+# `put FROM TO` installs a file as TO, and `put_program FROM TO` a program. `put_text TO` installs
+# its input, since without /proc there is no /dev/stdin. $$said has the output of `install`. It
+# names the folders that were made, which $(folders) keeps for uninstalling.
 put = said=$$(mktemp) && trap 'rm -f "$$said"*' EXIT; \
     put() { LC_ALL=C $(INSTALL_DATA) -v -D "$$1" "$$DESTDIR$$2" >>"$$said"; }; \
     put_text() { cat >"$$said.text" && put "$$said.text" "$$1"; }; \
     put_program() { LC_ALL=C $(INSTALL_PROGRAM) -v -D "$$1" "$$DESTDIR$$2" >>"$$said"; }
 folders = $(docdir)/folders
 
-# The manual page in that file, for what is installed: with the calls, the header and its units
+# $(call page,FILE): the manual page in this file, with the calls, the header and the units of the
+# installed version
 description = LC_ALL=C awk $(1) -f c/manual-page.awk $(header)
 page = sed -e 's/^@CALLS@$$/.Nm $(subst $(space), $(comma)\n.Nm ,$(calls))/' \
     -e '/^@SYNOPSIS@$$/{e $(call description,-v synopsis=1)' -e 'd}' -e '/^@HEADER@$$/{e $(call description)' -e 'd}' \
     -e '/^@UNITS@$$/{e $(call description) | sed -n "/^Units: /,/^A year has/p"' -e 'd}' -e 's/@VERSION@/$(version)/' $(1)
 
-# From a folder of what is installed up to the prefix, so that all of it can be moved; the prefix
-# where the folder is not below it: $(call up,FOLDER,FROM), where FROM stands for the folder
+# $(call up,FOLDER,FROM): the way from an installed folder up to the prefix, so that the whole can
+# be moved. FROM is written for the folder. If the folder is not below the prefix, it is the prefix
 space := $() $()
 up = $(if $(filter $(prefix)/%,$(1)),$(2)$(subst $(space),,$(patsubst %,/..,$(subst /, ,$(1:$(prefix)/%=%)))),$(prefix))
 
-# The template in that file, for what is installed there; VARIABLE stands for the prefix:
-# $(call filled,FILE,VARIABLE,PREFIX)
+# $(call filled,FILE,VARIABLE,PREFIX): the template in this file, filled for the installed folders.
+# VARIABLE is written for the prefix
 filled = sed 's|@PREFIX@|$(3)|; s|@VERSION@|$(version)|; s|@LIBDIR@|$(call below,$(libdir),$(2))|; \
     s|@INCLUDEDIR@|$(call below,$(includedir),$(2))|' c/$(1).in
 below = $(patsubst $(prefix)/%,$${$(2)}/%,$(1))
 cmake_up = $(call up,$(libdir)/cmake/duration_str,$${CMAKE_CURRENT_LIST_DIR})
 
 variables = prefix bindir libdir includedir datarootdir mandir docdir
-# Some characters pkg-config takes for something else, and others it quotes, so that compilers
-# misread them.
+# pkg-config takes some characters of a folder for something else, and quotes others so that
+# compilers misread them.
 installable:
 	@export LC_ALL=C
 	for folder in $(foreach name,$(variables),$(call quoted,$($(name)))); do
@@ -198,7 +200,8 @@ installable:
 	    ;;
 	esac
 
-# What BusyBox's tools of these names lack is noticed before anything is written.
+# If BusyBox's sed or install is found, which lack what is needed, make stops before anything is
+# written.
 install: installing = yes
 install: installable
 	@sed 'e :' </dev/null 2>/dev/null || { echo 'install: needs GNU sed' >&2; exit 1; }
@@ -216,8 +219,9 @@ install: installable
 	put "$$libraries/libduration_str.a" $(libdir)/libduration_str.a
 	put "$$libraries/libduration_str.so" $(libdir)/$(soname)
 	ln -sf $(soname) "$$DESTDIR$(libdir)/libduration_str.so"
-	# Before the soname 2 the file was named by the version, so the next version's file took its place
-	# below the older soname's link. Programs crash by such a link, whose name its library lacks.
+	# Before the soname 2 the library's file was named by its version. So the file of a newer version
+	# took the place of the one to which an older soname's link leads. Programs crash by such a link,
+	# so it is removed if the library does not contain the link's name.
 	for link in "$$DESTDIR$(libdir)"/libduration_str.so.[0-9]*; do
 	    [ ! -L "$$link" ] || grep -aqF "$${link##*/}" "$$link" || rm -fv "$$link"
 	done
@@ -255,17 +259,17 @@ install: installable
 	sed -n "s/^[^:]*: creating directory '\(.*\)'$$/\1/p" "$$said" |
 	    xargs -r realpath -m --relative-to=$(prefix) >>$(folders)
 
-# Folders that were there before stay, and those with files of others.
+# Folders that were there before are kept, and so are folders with other files.
 uninstall: installable
 	@made=$$(cat "$$DESTDIR$(folders)" 2>/dev/null || true)
 	for file in $(installed) $(folders); do rm -fv "$$DESTDIR$$file"; done
-	# Pages of older versions too
+	# The manual pages of older versions are removed too.
 	rm -fv "$$DESTDIR$(mandir)"/man3/duration_str_*.3
 	for library in "$$DESTDIR$(libdir)"/libduration_str.so.[0-9]*; do
 	    [ ! -e "$$library" ] ||
 	        echo "uninstall: left for programs that were linked with it: $$library"
 	done
-	# Below DESTDIR nothing says which folders were made, so all that are empty go.
+	# Below DESTDIR nothing says which folders were made, so all empty ones are removed.
 	if [ -n "$$DESTDIR" ]; then
 	    [ -d "$$DESTDIR" ] || exit 0
 	    cd "$$DESTDIR"

@@ -1,8 +1,9 @@
-"""Hands what `duration` prints to the programs that shell/README.md and docs/MIGRATING.md name, and
-compares what they make of it with the duration: duration_consumers.py PROGRAM [SECONDS [SEED]]
+"""duration_consumers.py PROGRAM [SECONDS [SEED]]: gives the output of `duration` to the programs
+that shell/README.md and docs/MIGRATING.md name, and compares what they make of it with the
+duration.
 
-Programs that are missing are named and left out. `sleep` and `timeout` get a library that tells how
-long they would wait instead of waiting.
+Programs that are missing are named and left out. `sleep` and `timeout` get a library that prints
+how long they would wait instead of waiting.
 """
 import datetime
 import fractions
@@ -19,7 +20,8 @@ LENGTHS = [
     10**9 * each for each in (31_536_000, 7_862_400, 2_592_000, 604_800, 86_400, 3_600, 60, 1)
 ]
 LENGTHS += [10**6, 10**3, 1]
-# A number of seconds is kept as a double, which has 53 bits, and its ninth decimal is the last.
+# Some programs keep a number of seconds as a double, which has 53 bits. Its ninth decimal is the
+# last.
 PRECISION = fractions.Fraction(1, 2**52)
 WAITS = r"""
 #include <stdio.h>
@@ -70,7 +72,8 @@ def output_of(words, lines=(), **environment):
 
 
 def same(what, got, wanted, slack=0):
-    """Sees that two lists of nanoseconds are the same, or as near as `slack` and a double are."""
+    """Checks that two lists of nanoseconds are the same, or differ by no more than `slack` and what
+    a double loses."""
     got = [fractions.Fraction(each) for each in got]
     if len(got) != len(wanted):
         sys.exit(f"{what}: {len(got)} answers to {len(wanted)} durations")
@@ -91,7 +94,8 @@ class Consumers:
         return output_of([self.program, *options], [f"{each}ns" for each in nanos])
 
     def duration(self, nanos):
-        """The command itself reads back each style, and each unit with all its decimals."""
+        """The command itself reads back each style, and a number of each unit with all its
+        decimals."""
         for style in ("short", "compact", "long"):
             lines = self.printed(nanos, "--style", style)
             same(style, output_of([self.program, "--to", "ns"], lines), nanos)
@@ -105,7 +109,7 @@ class Consumers:
             )
 
     def jq(self, nanos):
-        """Numbers and texts of JSON; a text of nanoseconds is exact."""
+        """jq reads the numbers and the strings of the JSON. The string of nanoseconds is exact."""
         lines = self.printed(nanos, "--json")
         rows = [
             line.split("\t")
@@ -123,7 +127,7 @@ class Consumers:
         same("awk", in_nanos(got), nanos, slack=1)
 
     def sort(self, nanos):
-        """Numbers of any unit sort as the durations do, also with `-h`."""
+        """Numbers of any unit sort in the same order as the durations, also with `-h`."""
         for unit, option in (("ns", "-n"), ("s", "-n"), ("s", "-h"), ("h", "-n")):
             lines = self.printed(nanos, "--to", unit, *["--decimals=9"] * (unit != "ns"))
             wanted = [line for _, line in sorted(zip(nanos, lines))]
@@ -141,7 +145,7 @@ class Consumers:
         )
 
     def bash(self, nanos):
-        """Arithmetic has 63 bits."""
+        """Arithmetic in bash has 63 bits."""
         nanos = [each for each in nanos if each < 2**63]
         lines = self.printed(nanos, "--to", "ns")
         same(
@@ -159,8 +163,8 @@ class Consumers:
         same("date", [each - start * 10**9 for each in in_nanos(got)], nanos)
 
     def systemd_analyze(self, nanos):
-        """systemd has weeks and shorter units as they are here: down to microseconds, and in the
-        long style down to seconds.
+        """systemd reads weeks and shorter units as this library does: down to microseconds, and in
+        the long style down to seconds.
         """
         for style, smallest, length in (
             ("short", "us", 10**3),
@@ -176,7 +180,7 @@ class Consumers:
             )
 
     def waits(self):
-        """The library that tells of a wait."""
+        """The library that prints how long a program would wait."""
         source, library = (os.path.join(self.room, name) for name in ("waits.c", "waits.so"))
         if not os.path.exists(library):
             with open(source, "w") as file:
@@ -185,14 +189,14 @@ class Consumers:
         return library
 
     def sleep(self, nanos):
-        """GNU sleep takes a double, and waits for 24 days at a time."""
+        """GNU sleep reads a double, and waits for at most 24 days at a time."""
         nanos = nanos[:20]
         for line, each in zip(self.printed(nanos, "--to", "s"), nanos):
             told = output_of(["sleep", line], LD_PRELOAD=self.waits())
             same("sleep", [sum(map(int, told))], [each], slack=1)
 
     def timeout(self, nanos):
-        """0 would mean no limit: as MIGRATING says, whole seconds are rounded up."""
+        """0 would mean no limit, so whole seconds are rounded up, as MIGRATING says."""
         nanos = [each for each in nanos if each][:20]
         lines = self.printed(nanos, "--to", "s", "--decimals", "0", "--round", "up")
         for line, each in zip(lines, nanos):
@@ -204,7 +208,8 @@ NEEDS = {"systemd_analyze": "systemd-analyze", "sleep": "cc", "timeout": "cc", "
 
 
 def durations(choice):
-    """Short and long ones, and those beside a unit's multiples and the limit."""
+    """Random durations: short and long ones, and ones near a multiple of a unit or near the
+    limit."""
     length = choice.choice(LENGTHS)
     near = length * choice.randrange(1 + ((LIMIT - 1) // length >> choice.randrange(50)))
     some = (choice.randrange(LIMIT) >> choice.randrange(64), near + choice.choice((-1, 0, 0, 1)))

@@ -1,6 +1,6 @@
-"""Runs the command `duration` over random options, arguments and lines, and compares what it says
-and its status with a model made of shell/README.md and `duration --help` alone: duration_model.py
-PROGRAM [SECONDS [SEED]]
+"""duration_model.py PROGRAM [SECONDS [SEED]]: runs the command `duration` with random options,
+arguments and lines, and compares its output and its status with a model that was made only from
+shell/README.md and `duration --help`.
 """
 import collections
 import fractions
@@ -45,8 +45,8 @@ quoted = json.JSONEncoder(ensure_ascii=False).encode
 
 
 def rounded(number, way):
-    """The whole number next below, next above, or the nearest, of two that are as near the upper
-    one.
+    """The next whole number below or above, or the nearest one. If two are equally near, it is the
+    upper one.
     """
     return {"up": -(-number // 1), "nearest": (number + fractions.Fraction(1, 2)) // 1}.get(
         way, number // 1
@@ -54,7 +54,7 @@ def rounded(number, way):
 
 
 def number_in(nanos, unit, decimals=None, way="down"):
-    """A duration as a number of this unit, with so many decimals or those that are needed."""
+    """A duration as a number of this unit, with this many decimals, or with as many as it needs."""
     digits = 9 if decimals is None else decimals
     whole, rest = divmod(
         rounded(fractions.Fraction(nanos * 10**digits, LENGTHS[unit]), way), 10**digits
@@ -87,8 +87,8 @@ def units_of(options):
 
 
 def read_number(text, options):
-    """The nanoseconds of a bare number; what is cut off after 18 decimals also makes it larger
-    under `--round up`.
+    """The nanoseconds of a bare number. With `--round up` decimals that are cut off after the 18th
+    also make it larger.
     """
     way = options["round"] if options.get("round") == "up" else "down"
     decimals = rounded(fractions.Fraction(text) * 10**18, way)
@@ -124,8 +124,8 @@ def read(data, options):
 
 
 def field_in(line, options):
-    """Where the field begins and ends, but for what is around its text; None where it is
-    missing."""
+    """Where the text of the field begins and ends, without the blanks and quotation marks around
+    it, or None if there is no such field."""
     pattern = "(?<![^{0}])[^{0}]*" if "delimiter" in options else "[^{0}]+"
     fields = re.finditer(pattern.format(re.escape(options.get("delimiter", BLANKS))).encode(), line)
     field = dict(enumerate(fields, 1)).get(options["field"])
@@ -142,7 +142,7 @@ def json_object(text, answer, options, where):
 
 
 def said_of(line, options, where):
-    """What is said of an argument or a line; `where` is as `line 1`."""
+    """The message about an argument or a line. `where` is, for example, `line 1`."""
     too_long, begin, end = len(line) > LONGEST_LINE, 0, len(line)
     if "field" in options:
         begin, end = field_in(line, options) or (None, None)
@@ -170,7 +170,8 @@ def end_of(options):
 
 
 def wanted(options, texts, data):
-    """What the program must say to these texts or, without any, to the lines of these bytes."""
+    """What the program must write for these texts, or, if there are none, for the lines of these
+    bytes."""
     end = end_of(options)
     lines = texts or (data.removesuffix(end).split(end) if data else [])
     header, kind = options.get("header", 0), "argument" if texts else "line"
@@ -189,7 +190,7 @@ def wanted(options, texts, data):
 
 
 def is_wrong(options, texts):
-    """Whether these options can't stand together, or beside texts."""
+    """Whether these options can't be used together, or with texts."""
     names = set(options)
     numbers = (
         names & {"style", "parts", "units", "largest", "smallest"}
@@ -280,7 +281,8 @@ class Commands(Texts):
         return end_of(options).join(lines) + self.choice((b"", end_of(options)))
 
     def command(self):
-        """A command's options, texts and input; of one in ten the options may be wrong."""
+        """The options, texts and input of a command. In one command of ten the options may be
+        wrong."""
         likely = {"to": 60, "from": 40, "round": 40, "decimals": 40, "quiet": 4, "json": 12}
         options = {
             name: self.value(name)
@@ -299,8 +301,8 @@ class Commands(Texts):
 
 
 def run(words, options, data, cuts):
-    """What the program says to bytes that come in pieces, whose lines it must answer before the
-    next one comes.
+    """Gives the program bytes in pieces. It must answer the lines of a piece before the next piece
+    comes. Returns what it writes.
     """
     process = subprocess.Popen(
         words, 0, stdin=subprocess.PIPE, stdout=subprocess.PIPE, stderr=subprocess.PIPE

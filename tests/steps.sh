@@ -1,9 +1,9 @@
 # shellcheck shell=bash disable=SC2034 # the scripts read what is set here
 #
-# What the checks in shell share. `. tests/steps.sh NAME` sets $room, a temporary folder that goes
-# when the script ends, and $status, with which the script exits: 1 once a step has failed. NAME
-# stands before each line. A script goes on after a step that failed, unless what follows needs it;
-# then it says `runs .. || exit`.
+# The functions that the checks in shell share. `. tests/steps.sh NAME` sets $room, a temporary
+# folder that is removed when the script ends, and $status, which is 1 once a step has failed, and
+# with which the script exits. NAME is written before each line. A script goes on after a step that
+# failed. If the next steps need it, the script has `runs .. || exit`.
 steps=$1
 status=0
 rows=0
@@ -11,11 +11,11 @@ room=$(mktemp -d)
 log=$room/log
 clears() { chmod -R u+w "$room" && rm -rf "$room"; }
 trap clears EXIT
-# What cargo builds for tests alone is built once.
+# Code that cargo builds only for tests is built once, so it needs no incremental builds.
 export CARGO_INCREMENTAL=0 CARGO_PROFILE_DEV_DEBUG=0
 
-# runs WHAT WORDS..: runs the words as a step; the end of what they say, which $log has whole, is
-# shown where they fail. After a minute it says what it is doing.
+# runs WHAT WORDS..: runs the words as a step. Their whole output is in $log. If they fail, the end
+# of it is shown. After a minute a line says that the step is still running.
 runs() {
     local started=$SECONDS ended end
     exec {end}> >(read -rt 60 || [ $? -le 128 ] || echo "$steps: $1: is still running")
@@ -32,7 +32,7 @@ runs() {
     fi
 }
 
-# quietly WORDS..: runs the words, and says something only where they fail
+# quietly WORDS..: runs the words, and says something only if they fail
 quietly() {
     local said
     said=$(runs "$*" "$@") || {
@@ -42,8 +42,8 @@ quietly() {
     }
 }
 
-# same WHAT WANTED GOT: whether both texts are the same; the difference is shown where they are not.
-# $rows has how many were tried
+# same WHAT WANTED GOT: returns whether both texts are the same, and shows the difference if they
+# are not. $rows counts the comparisons
 same() {
     rows=$((rows + 1))
     [ "$2" = "$3" ] && return
@@ -52,14 +52,14 @@ same() {
     return 1
 }
 
-# skips WHAT WHY..: says that this is skipped, all of the script where it has no name, and fails
+# skips WHAT WHY..: says that WHAT is skipped, or the whole script if WHAT is empty, and returns 1
 skips() {
     echo "$steps: ${1:+$1 }skipped, ${*:2}"
     return 1
 }
 
-# has WHAT TOOL..: whether the commands are there; WHAT is skipped where one is missing, as by the
-# next two
+# has WHAT TOOL..: returns whether the commands are there. If one is missing, WHAT is skipped. The
+# next two functions do the same
 has() {
     local tool
     for tool in "${@:2}"; do
@@ -68,22 +68,22 @@ has() {
     done
 }
 
-# finds WHAT COMMAND WORDS..: whether `COMMAND --missing WORDS..` names nothing, as
-# tools/cargo-debian does
+# finds WHAT COMMAND WORDS..: returns whether `COMMAND --missing WORDS..` names nothing. One such
+# command is tools/cargo-debian
 finds() {
     local missing
     ! missing=$("$2" --missing "${@:3}") || skips "$1" "missing: $missing (make setup all=yes)"
 }
 
-# can WHAT NEED WORDS..: whether the words succeed; NEED is what is missing where they fail, and how
-# to get it
+# can WHAT NEED WORDS..: returns whether the words succeed. If they fail, NEED says what is missing,
+# and how to get it
 can() { "${@:3}" >/dev/null 2>&1 || skips "$1" "missing: $2"; }
 
-# copies FOLDER: copies the files into the folder as they are here, but for what is built
+# copies FOLDER: copies the files into the folder as they are here, except what was built
 copies() { mkdir "$1" && tar -c --exclude={.git,dist,out,target,__pycache__} . | tar -x -C "$1"; }
 
-# path_without NAME..: the path, on which a folder of links to all else stands for each folder that
-# has one of these commands
+# path_without NAME..: the path without these commands. Each folder that has one of them is replaced
+# by a folder of links to everything else in it
 path_without() {
     local folder made path=
     while read -r -d : folder; do
@@ -97,15 +97,16 @@ path_without() {
     echo "${path%:}"
 }
 
-# calls HEADER: those that it declares; exports LIBRARY: what a shared library has
+# calls HEADER: the calls that a header declares. exports LIBRARY: the symbols that a shared library
+# has
 calls() (
     export LC_ALL=C
     sed '/^static /d' "$1" | grep -o '\<duration_str_[a-z_]*(' | tr -d '(' | sort -u
 )
 exports() { nm -D --defined-only "$1" | awk '{print $3}' | sort; }
 
-# writeless FOLDER WORDS..: runs the words, which can write nothing in the folder, also where root
-# runs them
+# writeless FOLDER WORDS..: runs the words so that they can't write in the folder, even if root runs
+# them
 writeless() {
     local words=("${@:2}") ended
     [ "$(id -u)" != 0 ] ||

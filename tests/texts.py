@@ -1,9 +1,9 @@
 #!/usr/bin/env python3
 """The texts and durations with which compare and the fuzzer try the library, generated from a seed.
 
-texts.py FOLDER COUNT [SEED]  writes for the fuzzer so many texts into FOLDER/texts, each after its
-                              length in two bytes; a file in FOLDER/seeds for each of the first 500;
-                              and libFuzzer's FOLDER/dictionary
+texts.py FOLDER COUNT [SEED]  writes files for the fuzzer: COUNT texts into FOLDER/texts, each after
+                              its length in two bytes; a file in FOLDER/seeds for each of the first
+                              500 texts; and libFuzzer's FOLDER/dictionary
 """
 import pathlib
 import random
@@ -14,8 +14,8 @@ from reference_parser import LIMIT, NEAR_WORDS, SECOND, SMALL_WORDS, UNITS  # no
 
 
 class Texts:
-    """Generated texts: terms with operators and blanks, of which most are then spoilt at a place or
-    two.
+    """Generated texts. They are terms with operators and blanks, and most are then damaged at one
+    or two places.
     """
 
     BLANKS = ("", "", "", " ", " ", "  ", "\t", "\r", " \r\t ", "\n")
@@ -159,7 +159,7 @@ class Texts:
         return secs, self.choice((0, 1, 999_999_999, self.random.randrange(SECOND)))
 
     def printed(self):
-        """A duration, the number of a set of units, and how many parts at most."""
+        """A duration, the number of a set of units, and the greatest number of parts."""
         bits = self.random.randrange(2 ** len(UNITS))
         return self.duration(), bits, self.random.randrange(len(UNITS) + 2)
 
