@@ -1,4 +1,4 @@
-"""The table of units of crates/duration_str/specs/Units.antt."""
+"""Reads the table of units in crates/duration_str/specs/Units.antt."""
 import pathlib
 import re
 import typing
@@ -12,7 +12,7 @@ ROW = re.compile(
 
 class Unit(typing.NamedTuple):
     """A unit: its variant, its length in nanoseconds, its printed and its long name, its names, and
-    those of `cn_unit`.
+    the names that `cn_unit` adds.
     """
 
     variant: str
