@@ -1,10 +1,10 @@
-"""What a text means, as docs/GRAMMAR.md says it, computed the naive way.
+"""Computes what a text means, as docs/GRAMMAR.md says it, in the naive way.
 
-This is the parser against which `compare` holds the program, the library and the packages. It was
-written from the documents, not from the Rattle code, and works in another manner: it tries all the
-ways to split a text into terminals, and keeps those that are sentences; it tries which terminals go
-on after a beginning; and its numbers are whole numbers without bound. Where the documents say that
-there is only one of something, it looks for all of them and fails where it finds another.
+tests/compare compares the program, the library and the packages with this parser. It was written
+from the documents, not from the Rattle code, and works in another way. It tries all ways to split a
+text into terminals, and keeps those that are sentences. It tries which terminals can follow a
+beginning. And its numbers are whole numbers without bound. If the documents say that there is only
+one of something, it looks for all of them, and fails if it finds another one.
 """
 import functools
 import itertools
@@ -18,7 +18,7 @@ LIMIT = 2**64
 
 
 class Unit(typing.NamedTuple):
-    """A unit: its length in nanoseconds, its printed name, its names, and those that `cn_unit`
+    """A unit: its length in nanoseconds, its printed name, its names, and the names that `cn_unit`
     adds.
     """
 
@@ -43,7 +43,7 @@ UNITS = (
     Unit(1, "ns", "ns nsec nanosecond nanoseconds", "纳秒"),
 )
 
-# The places of the units there, by each name.
+# The index of a unit in UNITS, by each of its names.
 PLACES = {name: place for place, unit in enumerate(UNITS) for name in unit.names.split()}
 
 # The line of a syntax fault where a unit could stand, and the most bytes that a printed duration
@@ -84,7 +84,7 @@ CHOICES = [
 
 
 class Choice(typing.NamedTuple):
-    """How a text is read: a choice of options, and the default unit, or None if a unit is
+    """How a text is read: a choice of options, and the default unit. It is None if units are
     required.
     """
 
@@ -113,7 +113,7 @@ class Choice(typing.NamedTuple):
 
 
 # All sets of units, in the order of their numbers for C. A set's number is the sum of 2^n over the
-# places n of its units in UNITS.
+# indexes n of its units in UNITS.
 SETS = [
     tuple(unit for place, unit in enumerate(UNITS) if bits >> place & 1)
     for bits in range(2 ** len(UNITS))
@@ -160,7 +160,7 @@ def unit_of(word, options):
 
 @functools.lru_cache(1 << 16)
 def sort_of(token, options):
-    """What a token is made of: digits, letters, one operator, one other character; None for
+    """What a token is made of: digits, letters, one operator or one other character. It is None for
     anything else.
     """
     if token and all(character in DIGITS for character in token):
@@ -174,7 +174,7 @@ def sort_of(token, options):
 
 @functools.lru_cache(1 << 16)
 def terminal_of(token, options):
-    """The terminal that a token is, if it is one."""
+    """The terminal that a token stands for, or None if it stands for none."""
     match sort_of(token, options):
         case "digits":
             return Terminal("number", token)
@@ -213,10 +213,10 @@ KINDS = ("number", "unit", "operator")
 
 @functools.lru_cache(1 << 20)
 def begins_sentence(kinds, options, default_unit):
-    """Whether some sentence has these kinds of terminals in front.
+    """Whether some sentence begins with these kinds of terminals.
 
-    A rule of the grammar asks for at most a number and a unit after what it has read, so if any
-    sentence goes on after them, one does with one or two terminals.
+    A rule of the grammar needs at most a number and a unit after the terminals that it has read. So
+    if any sentence continues them, one does with one or two terminals.
     """
     return is_sentence(list(kinds), options, default_unit) or any(
         is_sentence([*kinds, *more], options, default_unit)
@@ -226,7 +226,7 @@ def begins_sentence(kinds, options, default_unit):
 
 @functools.lru_cache(1 << 10)
 def terminals_at_each_place(text, options):
-    """For each place, each terminal that begins there, with its end."""
+    """For each place, the terminals that begin there, each with its end."""
     places = []
     for at in range(len(text)):
         terminals = []
@@ -241,7 +241,7 @@ def terminals_at_each_place(text, options):
 
 
 def list_of(pairs):
-    """The list that is given as pairs of its first item and the rest."""
+    """The list that is written as pairs of its first item and the rest."""
     items = []
     while pairs:
         item, pairs = pairs
@@ -250,19 +250,19 @@ def list_of(pairs):
 
 
 def sentences(text, options, default_unit):
-    """All sentences that spell the text: each way to split it into blanks and terminals that the
-    grammar allows.
+    """All sentences that spell the text. Each is a way to split the text into blanks and terminals
+    that the grammar allows.
 
-    The rests of the text are gone through from the shortest on. For each stands what it can be
-    split into: a sentence; what is left of one after a number; what is left of one after a number
-    and a unit.
+    The loop goes over the rests of the text, from the shortest on. For each it lists the ways to
+    split the rest: into a sentence, into what is left of a sentence after a number, and into what
+    is left of one after a number and a unit.
     """
     whole, after_number, after_unit = (
         [()] * len(text) + [[]],
         [()] * len(text) + [[] if default_unit is None else [()]],
         [()] * len(text) + [[()]],
     )
-    # `no_calc` tells sentences apart, but neither terminals nor tokens.
+    # `no_calc` changes which sentences there are, but neither terminals nor tokens.
     places = terminals_at_each_place(text, options._replace(no_calc=False))
     for at in reversed(range(len(text))):
         if text[at] in BLANKS:
@@ -290,11 +290,11 @@ def sentences(text, options, default_unit):
 
 @functools.lru_cache(1 << 10)
 def token_lists(text, options):
-    """All ways to cut the text into blanks and tokens, where no two tokens of digits or of letters
-    touch each other.
+    """All ways to cut the text into blanks and tokens, so that no two tokens of digits, and no two
+    tokens of letters, touch each other.
 
-    A token is given with the place of its first character. The rests of the text are gone through
-    from the shortest on.
+    Each token comes with the place of its first character. The loop goes over the rests of the
+    text, from the shortest on.
     """
     lists = [()] * len(text) + [[()]]
     for at in reversed(range(len(text))):
@@ -316,8 +316,8 @@ def token_lists(text, options):
 
 
 class Front(typing.NamedTuple):
-    """The longest list of first tokens that begins a sentence, and the token that comes next, if
-    there is one.
+    """The terminals of the first tokens, as many as begin a sentence, and the token that comes
+    next, if there is one.
     """
 
     terminals: tuple
@@ -340,8 +340,7 @@ def front_of(text, options, default_unit):
 
 
 def syntax_fault(text, front, options, default_unit):
-    """The fault that is after the front; None where the front is all of the text, and a
-    sentence."""
+    """The syntax fault after the front, or None if the front is the whole text and a sentence."""
     ends = is_sentence(list(front.kinds()), options, default_unit)
     if front.next is None and ends:
         return None
@@ -377,7 +376,8 @@ class Term(typing.NamedTuple):
 
 
 def terms_of(terminals, default_unit):
-    """The terms of a sentence, or of the beginning of one whose last number may lack its unit."""
+    """The terms of a sentence, or of the beginning of a sentence, whose last number may lack its
+    unit."""
     terms = []
     operator = "+"
     for at, terminal in enumerate(terminals):
@@ -392,7 +392,7 @@ def terms_of(terminals, default_unit):
 
 
 def product(values):
-    """A product of later terms in seconds, from left to right, each step rounded down to
+    """The product of later terms in seconds, from left to right. Each step is rounded down to
     nanoseconds.
     """
     result = SECOND
@@ -409,7 +409,7 @@ def value_of(terms):
 
 
 def evaluation_fault(terms):
-    """The first fault of the later terms, in order, and then of the whole."""
+    """The first fault of the later terms, in order, or otherwise that of the whole."""
     later = terms[1:]
     for count, term in enumerate(later, 1):
         if term.operator != later[0].operator:
@@ -423,8 +423,8 @@ def evaluation_fault(terms):
 
 
 def first_term_fault(front, default_unit):
-    """The fault of the first term, where that stands: with its unit, or, if it may lack one, before
-    an operator or the end.
+    """The fault of the first term, if that term is complete: its unit follows its number; or, if
+    there is a default unit, an operator or the end does.
     """
     kinds = front.kinds()
     if (
@@ -439,8 +439,8 @@ def first_term_fault(front, default_unit):
 
 
 def standing_fault(front, default_unit):
-    """Under `no_calc`: the first fault of the terms that stand: with their unit, or, if the last
-    one may lack its unit, before the end.
+    """The first fault of the complete terms under `no_calc`. A term is complete if its unit follows
+    its number; or, if there is a default unit, if the end does.
     """
     kinds = front.kinds()
     terms = terms_of(front.terminals, default_unit)
@@ -459,10 +459,11 @@ def standing_fault(front, default_unit):
 
 
 def answer_of(text, options, default_unit=SECOND):
-    """What the text is read as under these options, or the refusal that comes first.
+    """The value of the text under these options, or the refusal that comes first.
 
-    Folding does nothing where no capital is, and the Chinese names have Chinese letters alone, so
-    that the answer for a text is computed once for all the choices that it can't tell apart.
+    `lowercase` changes nothing for a text without capitals, and `cn_unit` changes nothing for a
+    text without Chinese letters. So the answer to a text is computed once for all choices that make
+    no difference to it.
     """
     folds = options.lowercase and text != text.translate(FOLDED)
     knows = options.cn_unit and any(character in CHINESE for character in text)
@@ -473,7 +474,7 @@ def answer_of(text, options, default_unit=SECOND):
 def computed_answer(text, options, default_unit):
     if not text:
         return Answer("empty")
-    # The grammar doesn't tell one default unit from another.
+    # The grammar is the same for all default units.
     front, fault = parsed(text, options, None if default_unit is None else SECOND)
     early_fault = standing_fault if options.no_calc else first_term_fault
     if refusal := early_fault(front, default_unit) or fault:
@@ -486,7 +487,7 @@ def computed_answer(text, options, default_unit):
 
 @functools.lru_cache(1 << 16)
 def parsed(text, options, default_unit):
-    """The front of a text, and its syntax fault, or None if the front is a sentence, which then
+    """The front of a text, and its syntax fault. The fault is None if the front is a sentence that
     spells the text.
     """
     front = front_of(text, options, default_unit)
@@ -499,8 +500,8 @@ def parsed(text, options, default_unit):
 
 
 def prepare(text, choices):
-    """Computes the answers for bytes under some choices, which are kept for a while: together that
-    takes less time.
+    """Computes the answers to bytes under some choices, and keeps them for a while, since computing
+    them together takes less time.
     """
     try:
         text = text.decode()
@@ -511,8 +512,8 @@ def prepare(text, choices):
 
 
 def quotients(nanos, lengths, chosen):
-    """A count for each of these lengths: of the chosen ones how often each goes into what is left,
-    of others 0.
+    """A count for each of these lengths. The count of a chosen length is how often it goes into
+    what is left, and the count of any other length is 0.
     """
     counts = []
     for length in lengths:
@@ -522,8 +523,8 @@ def quotients(nanos, lengths, chosen):
 
 
 def print_whole(nanos):
-    """The breakdown with the greatest first count, then the greatest second one, and so on; counts
-    of 0 are left out.
+    """Prints the breakdown with the greatest first count, then the greatest second count, and so
+    on. Counts of 0 are left out.
     """
     lengths = [unit.length for unit in UNITS]
     return (
@@ -538,16 +539,17 @@ def print_whole(nanos):
 
 @functools.lru_cache(1 << 16)
 def counts_within(nanos, lengths, parts):
-    """The lexicographically greatest counts for these lengths, of which at most so many are not 0
-    and which together are at most the duration: the greatest for any choice of so many lengths.
+    """The lexicographically greatest counts for these lengths that have at most `parts` counts
+    other than 0, and together are at most the duration. They are the greatest over all choices of
+    `parts` lengths.
     """
     chosen = itertools.combinations(lengths, min(parts, len(lengths)))
     return max(quotients(nanos, lengths, each) for each in chosen)
 
 
 def search_small_worlds():
-    """Fails where `counts_within` is not the greatest of all lists of counts, among units few and
-    short enough.
+    """Fails if `counts_within` is not the greatest of all lists of counts, for some small sets of
+    short lengths.
     """
     for lengths in ((7, 3, 1), (5, 4, 2), (6, 4), (3,), ()):
         for nanos, parts in itertools.product(range(24), range(len(lengths) + 2)):
@@ -562,16 +564,16 @@ def search_small_worlds():
 
 
 def print_part(count, unit, style):
-    """A count with its unit's printed name; in the long style with a space and the last of its
-    names, or for one the last but one.
+    """A count with its unit's printed name. In the long style it is a count, a space and the last
+    of the unit's names, or the last but one for a count of 1.
     """
     one, many = unit.names.split()[-2:]
     return f"{count} {one if count == 1 else many}" if style == "long" else f"{count}{unit.printed}"
 
 
 def print_within(nanos, units, parts, style="short"):
-    """What a duration prints as in some of UNITS, which are in order, in at most so many parts and
-    in one of the styles short, compact and long.
+    """The text of a duration in these units, which are in the order of UNITS, in at most `parts`
+    parts, and in one of the styles short, compact and long.
     """
     counts = counts_within(nanos, tuple(unit.length for unit in units), parts)
     printed_parts = [print_part(count, unit, style) for count, unit in zip(counts, units) if count]
@@ -582,7 +584,7 @@ def print_within(nanos, units, parts, style="short"):
 
 
 def line_of(answer):
-    """The line that says what is wrong."""
+    """The line that says what is wrong, as in the message of `duration-str` 0.19.0."""
     match answer.cause:
         case "syntax" if "unit" in answer.expected:
             return UNIT_LINE
@@ -596,7 +598,7 @@ def line_of(answer):
 
 
 def message(text, answer):
-    """What is told of a refused text."""
+    """The message about a refused text, which the program writes."""
     line = line_of(answer)
     if answer.place is None:
         return line
@@ -607,8 +609,9 @@ def message(text, answer):
 
 # ---- A fault in one line
 
-# What people write for a unit, and the name to write: in capitals too, but for the first row. The
-# last row is for those without the micro sign: some write the Greek mu in its place.
+# The words that people write for a unit, by the name to write instead. The words of SMALL_WORDS
+# count only in small letters, and the others in capitals too. The last row has the words for the
+# microsecond without the micro sign. Some of them have the Greek mu in its place.
 SMALL_WORDS = {"mon": "mo mos"}
 NEAR_WORDS = {
     "y": "yr yrs",
@@ -626,17 +629,18 @@ NEAR_WORDS = {
 ALL_UNITS = "write y, q, mon, w, d, h, min, s, ms, us or ns"
 QUOTED = 40
 
-# Control characters, blanks but the space, and what Unicode lets a reader ignore.
+# Control characters, blanks except the space, and characters that Unicode allows programs to
+# ignore.
 HIDDEN = re.compile(
     "[\0-\x1f\x7f-\xa0\xad\u034f\u061c\u115f\u1160\u1680\u17b4\u17b5\u180b-\u180f\u2000-\u200f\u2028-\u202f\u205f-\u206f"
     "\u2800\u3000\u3164\ufe00-\ufe0f\ufeff\uffa0\ufff0-\ufffb\U0001bca0-\U0001bca3\U0001d173-\U0001d17a\U000e0000-\U000e0fff]"
 )
-# No letters, though beyond ASCII: signs of Latin 1 but the micro sign, punctuation, arrows,
-# mathematical signs and the like.
+# Characters beyond ASCII that are no letters: the signs of Latin 1 except the micro sign,
+# punctuation, arrows, mathematical signs and others.
 SIGNS = re.compile("[\xa1-\xb4\xb6-\xbf\xd7\xf7\u2010-\u2bff\u3001-\u303f\uff00-\uff20]")
 ESCAPES = {'"': '\\"', "\\": "\\\\", "\t": "\\t", "\n": "\\n", "\r": "\\r"}
 
-# The help for a text that goes on so at the place.
+# The help for a text that matches the pattern at the place.
 LETTER = r"A-Za-z\x80-\U0010ffff"
 HELP = {
     rf"(?<=[{LETTER}])\.": "units have no point",
@@ -644,7 +648,7 @@ HELP = {
     r"(?<=[0-9])([,_'](?=[0-9])|[Ee](?=[-+0-9]))": "numbers have digits only",
     r"(?<=[0-9]):(?=[0-9])": "clock times are not read: write 1h 30m or 1m 30s",
 }
-# The same where only blanks stand before the place.
+# The same if there are only blanks before the place.
 FIRST_HELP = {
     "-(?=[0-9.])": "negative durations are not read",
     r"\+(?=[0-9.])": 'a leading "+" is not read',
@@ -660,7 +664,7 @@ def escape(character):
 
 
 def quote(text):
-    """A text in quotes, with dots in place of what would need more characters than so many."""
+    """A text in quotes, cut to 40 characters, with dots if something is left out."""
     parts = [escape(each) for each in text]
     lengths = itertools.accumulate(map(len, parts))
     fits = sum(length <= QUOTED for length in lengths)
@@ -668,8 +672,9 @@ def quote(text):
 
 
 def kind_in_line(character):
-    """Digits and letters stand together in a piece; a letter is one of ASCII, or beyond it what is
-    neither hidden nor a sign.
+    """Whether a character is a letter or a digit, which form pieces with their like, or None for
+    neither. A letter is one of ASCII, or a character beyond ASCII that is neither hidden nor a
+    sign.
     """
     if character.isascii():
         return "letter" if character.isalpha() else "digit" if character in DIGITS else None
@@ -677,7 +682,7 @@ def kind_in_line(character):
 
 
 def piece_at(text, place):
-    """The digits or the letters that stand at a place, or one other character."""
+    """The run of digits or of letters at a place, or the one other character there."""
     kind = kind_in_line(text[place]) if place < len(text) else None
     end = place + 1
     while kind and end < len(text) and kind_in_line(text[end]) == kind:
@@ -686,7 +691,8 @@ def piece_at(text, place):
 
 
 def near_name(word):
-    """The name to write for a word that people write for a unit, if it is one."""
+    """The name to write instead of a word that people write for a unit, or None for any other
+    word."""
     small = word.translate(FOLDED)
     found = [name for name, words in NEAR_WORDS.items() if small in words.split()]
     return next(
@@ -695,7 +701,7 @@ def near_name(word):
 
 
 def help_at(text, place, piece, expected):
-    """The words of help: for what people put between durations, or for a notation that the grammar
+    """The help for words that people put between durations, and for notations that the grammar
     doesn't have.
     """
     if {"number", "end"} <= set(expected) and piece.translate(FOLDED) in {",", "&", "and"}:
@@ -707,7 +713,8 @@ def help_at(text, place, piece, expected):
 
 
 def expected_in_line(expected):
-    """What could stand at the place: a unit or a number, and then operators and the end."""
+    """The words for what could stand at the place: a unit or a number, and then operators and the
+    end."""
     kinds = [
         ("unit", "a unit"),
         ("number", "a number"),
@@ -719,8 +726,8 @@ def expected_in_line(expected):
 
 
 def report(text, answer):
-    """What is told of a refused text in a terminal: below the text and a caret, where a quote would
-    show all of it.
+    """The report about a refused text for a terminal. It has the text and a caret above the line,
+    if a quote would escape nothing in the text.
     """
     line = one_line(text, answer)
     if answer.cause != "syntax" or len(text) > 80 or any(escape(each) != each for each in text):
@@ -732,7 +739,7 @@ def report(text, answer):
 
 
 def one_line(text, answer):
-    """What is told of a refused text in one line."""
+    """The line about a refused text."""
     match answer.cause:
         case "empty":
             return "empty text"
@@ -766,7 +773,7 @@ def one_line(text, answer):
 
 def output_of(line, choice, told=message):
     """What the program writes for a line of bytes, without the line feed at its end, and whether
-    the line is accepted. Of a refusal it writes what is told.
+    the line is accepted. For a refusal it writes the result of `told`.
     """
     try:
         text = line.decode()
