@@ -1,7 +1,8 @@
-"""Times from Python: what is timed, a tab, and the nanoseconds a text or value. Texts are `1h 30m`,
-or where it is said ones as `3m 13s 29ms`; of them a column has a million, or fewer where each takes
-a call. Of each it is the least of the rounds, which take turns, and the time of the processor,
-since a call is longer than what a busy machine gives a program at once.
+"""Prints times from Python: the name of the call, a tab, and the nanoseconds for a text or a value.
+Texts are like `1h 30m`, or, if the name says so, like `3m 13s 29ms`. A column has a million texts,
+or fewer if each takes a call. The time is the least of several rounds, in which the calls take
+turns. It is the processor's time, since a call takes longer than a busy machine lets a program run
+at once.
 """
 
 import random
@@ -62,7 +63,7 @@ def main():
     ]:
         raise SystemExit("columns: pytimeparse reads the texts otherwise")
     data, offsets = "".join(texts).encode(), array("q", accumulate(map(len, texts), initial=0))
-    # Each is a str of its own.
+    # Each text is a str of its own.
     same = [f"{1}h {30}m" for _ in range(FEW)]
 
     timed = [
@@ -97,6 +98,6 @@ def main():
         print(f"{what}\t{min(taken):.0f}")
 
 
-# Worker processes read this file, too.
+# Worker processes import this file too.
 if __name__ == "__main__":
     main()

@@ -1,6 +1,6 @@
-// Times of the package for JavaScript over the lines of the standard input: a line for each call
-// with what it is, a tab, and the nanoseconds a call, the least of many rounds, which are short, so
-// that some run undisturbed.
+// Prints times of the package for JavaScript over the lines of the standard input. There is a line
+// for each call, with its name, a tab, and the nanoseconds. These are the least of many rounds,
+// which are short, so that some run undisturbed.
 import { existsSync, readFileSync } from "node:fs";
 import { createRequire } from "node:module";
 
@@ -9,7 +9,7 @@ import { parse as parsePlain } from "../js/dist/plain.js";
 
 const ROUNDS = 2_500;
 const HALF_HOUR = 1_800_000;
-/** Debian's package node-ms; without it, its lines are left out. */
+/** Debian's package node-ms. If it is missing, its lines are left out. */
 const MS = "/usr/share/nodejs/ms/index.js";
 
 const texts = readFileSync(0, "utf8").trimEnd().split("\n");
@@ -33,7 +33,7 @@ const OF_MS = [
     ["`ms` of half hours, which it rounds to a unit", (length) => ms(length), halfHours],
 ];
 
-/** The calls, and what each is called with. */
+/** The calls, each with its arguments. */
 const calls = [
     ["`parseNs`", (text) => parseNs(text), texts],
     ["`parse`", (text) => parse(text), texts],

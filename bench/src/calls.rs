@@ -1,24 +1,24 @@
-//! Single calls of this library, for a program that counts instructions. It needs no other crate,
-//! so that `rustc` alone builds it. SIDE is `crate` (the Rust crate) or `archive` (the archive
-//! through C), and the last word, COUNT, is how many calls.
+//! Single calls of this library, for a tool that counts instructions. The program needs no other
+//! crate, so `rustc` alone builds it. SIDE is `crate` (the Rust crate) or `archive` (the archive,
+//! called through C). The last word, COUNT, is the number of calls.
 //!
-//! - `calls SIDE nothing COUNT`: the loop alone.
-//! - `calls SIDE read COUNT`, `calls SIDE print COUNT`: `3m 13s 29ms`, read, and printed into a
+//! - `calls SIDE nothing COUNT`: only the loop.
+//! - `calls SIDE read COUNT`, `calls SIDE print COUNT`: reads `3m 13s 29ms`, and prints it into a
 //!   buffer.
-//! - `calls SIDE print NANOS COUNT`, `calls crate parts PARTS NANOS COUNT`: a duration printed into
-//!   a buffer, and in at most so many parts.
-//! - `calls SIDE units COUNT`: the same text, read where units are required.
-//! - `calls crate print-string COUNT`: the same printed into a `String`.
+//! - `calls SIDE print NANOS COUNT`, `calls crate parts PARTS NANOS COUNT`: prints a duration into
+//!   a buffer, whole and in at most PARTS parts.
+//! - `calls SIDE units COUNT`: reads the same text, with units required.
+//! - `calls crate print-string COUNT`: prints its duration into a `String`.
 //! - `calls SIDE with OPTIONS TEXT COUNT`: reads a text under the options, the bits of
 //!   `duration_str.h`.
-//! - `calls SIDE text BYTES COUNT`: reads a text of so many bytes.
+//! - `calls SIDE text BYTES COUNT`: reads a text of BYTES bytes.
 //! - `calls SIDE read-expressions COUNT`, `.. print-expressions ..`, `.. print-below-day ..`: reads
-//!   the 1,000 expressions of `texts.rs`, prints their values into a buffer, or the part of each
-//!   below a day.
-//! - `calls SIDE refuse NAME COUNT`: a refused text, and its line written into a buffer. `texts.rs`
-//!   has the names.
-//! - `calls SIDE error NAME COUNT`, `calls SIDE printed-error NAME COUNT`: a text refused by
-//!   `parse_duration`, and the error printed into a `String`.
+//!   the 1,000 expressions of `texts.rs`, prints their values into a buffer, or prints the part of
+//!   each value below a day.
+//! - `calls SIDE refuse NAME COUNT`: reads a refused text, and writes its line into a buffer.
+//!   `texts.rs` has the names.
+//! - `calls SIDE error NAME COUNT`, `calls SIDE printed-error NAME COUNT`: reads a refused text by
+//!   `parse_duration`. The second call also prints the error into a `String`.
 #[allow(dead_code)] // for the other program
 mod ours;
 mod texts;

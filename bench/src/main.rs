@@ -1,14 +1,17 @@
-//! Times of this library and of humantime, and single calls of humantime for a program that counts
-//! instructions. `calls.rs` has those of this library. The Rust crate is measured.
+//! Times of this library and of humantime, and single calls of humantime for a tool that counts
+//! instructions. `calls.rs` has the single calls of this library. The times of this library are
+//! those of the Rust crate.
 //!
-//! - `bench expressions`: the 1,000 expressions of `texts.rs`, a line each.
-//! - `bench times`: nanoseconds a call over them, a line with WHAT, OURS and THEIRS for reading and
-//!   for printing. In all these lines a tab stands between the words.
-//! - `bench styles`: nanoseconds to print in styles and limits: a line with WHAT, those below a day
-//!   and those of all values.
-//! - `bench peer human_format` or `to_string`: what `bench/peers` asks, of the texts of the
-//!   standard input.
-//! - `bench calls WORDS COUNT`: humantime's calls, by the words of `calls.rs` after SIDE.
+//! - `bench expressions`: prints the 1,000 expressions of `texts.rs`, one on each line.
+//! - `bench times`: prints the nanoseconds of a call over the expressions, in a line with WHAT,
+//!   OURS and THEIRS for reading and for each way to print. In all such lines a tab is between the
+//!   words.
+//! - `bench styles`: prints the nanoseconds that printing takes in styles and limits, in a line
+//!   with WHAT, the figure for values below a day, and the figure for all values.
+//! - `bench peer human_format` or `to_string`: prints the figures that `bench/peers` needs, for the
+//!   texts of the standard input.
+//! - `bench calls WORDS COUNT`: makes humantime's calls. The words are those of `calls.rs` after
+//!   SIDE.
 mod ours;
 mod texts;
 
@@ -30,7 +33,7 @@ impl Library for Humantime {
         humantime::parse_duration(text).expect("a text that humantime reads")
     }
 
-    /// It has no options.
+    /// humantime has no options.
     fn reading_with(text: &str, _: u32) -> Duration {
         Humantime::reading(text)
     }
@@ -61,8 +64,9 @@ impl Library for Humantime {
     }
 }
 
-/// Nanoseconds a call: of each side the least of many rounds, which take turns, since the machine's
-/// speed may change, and are short, so that some run undisturbed.
+/// The nanoseconds of a call, for each side. They are the least of many rounds. The sides take
+/// turns, since the machine's speed may change, and the rounds are short, so that some run
+/// undisturbed.
 fn nanos_a_call<const SIDES: usize>(calls: usize, sides: [&dyn Fn(); SIDES]) -> [f64; SIDES] {
     const ROUNDS: usize = 2_500;
     let mut least = [f64::INFINITY; SIDES];
@@ -92,8 +96,8 @@ fn all<T: Copy, R>(of: &[T], call: impl Fn(T) -> R) {
     });
 }
 
-/// A line for reading and for each way to print: what it is, and the nanoseconds a call of each
-/// side.
+/// Prints a line for reading and for each way to print: its name, and the nanoseconds of a call for
+/// each side.
 fn times() {
     let (texts, lengths) = expressions();
     let sides: [(&str, &dyn Fn(), &dyn Fn()); 3] = [
@@ -115,8 +119,8 @@ fn times() {
     }
 }
 
-/// A line for each limit and style: what it is, and the nanoseconds a call below a day and of the
-/// expressions' values.
+/// Prints a line for each limit and style: its name, and the nanoseconds of a call, for values
+/// below a day and for all values.
 fn styles() {
     let (_, lengths) = expressions();
     let short: Vec<Duration> = lengths
@@ -140,7 +144,8 @@ fn styles() {
     }
 }
 
-/// What `bench/peers` asks of each program, by the calls for a text and a string of this name.
+/// Prints the figures that `bench/peers` needs of each program. `printing` is the name of the call
+/// that prints.
 fn peer(printing: &str) {
     let texts: Vec<String> = std::io::stdin()
         .lines()

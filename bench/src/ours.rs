@@ -1,4 +1,4 @@
-//! The calls that are measured: those of the Rust crate, and those of the archive through C.
+//! The calls that are measured: the calls of the Rust crate, and those of the archive through C.
 use crate::texts::{EXPRESSION, below_day, expressions, long_text, refusal, repeat};
 use duration_str::{
     DurationError, FORMAT_BUFFER_SIZE, Fault, Format, HumanFormat, Options, STYLED_BUFFER_SIZE,
@@ -9,34 +9,34 @@ use duration_str::{
 use std::hint::black_box;
 use std::time::Duration;
 
-/// The bytes of a buffer for a line.
+/// The size of a buffer for a line.
 pub const ROOM: usize = Fault::BUFFER_LEN;
 
 /// One way to a library.
 pub trait Library {
-    /// What a value is read as.
+    /// The type of the values that are read.
     type Value;
     /// The value of a text.
     fn reading(text: &str) -> Self::Value;
     /// The value of a text under these options, which are the bits of the header.
     fn reading_with(text: &str, options: u32) -> Self::Value;
-    /// The value of a text whose numbers must have units, where the library has that rule.
+    /// The value of a text whose numbers must have units, if the library has that rule.
     fn reading_units(_: &str) -> Self::Value {
         unimplemented!()
     }
     /// Prints a duration into a buffer, and returns the length of the text.
     fn printing(length: Duration) -> usize;
-    /// The same in at most so many parts, where the library does so.
+    /// Prints a duration in at most this many parts, if the library can.
     fn printing_parts(_: Duration, _: u32) -> usize {
         unimplemented!()
     }
-    /// A duration printed into a `String`, where the library does so.
+    /// Prints a duration into a `String`, if the library can.
     fn printing_string(_: Duration) -> String {
         unimplemented!()
     }
     /// Writes the error of a refused text into the buffer, and returns its length.
     fn refusing(text: &str, buffer: &mut [u8; ROOM]) -> usize;
-    /// What a refused text's error is.
+    /// The type of the error of a refused text.
     type Error: ToString;
     /// The error of a refused text, as a service gets it.
     fn error(text: &str) -> Self::Error;
@@ -100,17 +100,17 @@ impl Library for Crate {
 pub struct Archive;
 
 impl Archive {
-    /// Reads a text under the options; the answer, and whether it is read.
+    /// Reads a text under the options. Returns the answer, and whether the text is read.
     fn answer(text: &str, options: u32) -> (Answer, bool) {
         let mut answer = Answer::default();
-        // SAFETY: the pointer and length are a slice's, and `answer` is laid out as the header's.
+        // SAFETY: the pointer and length are a slice's, and `answer` is laid out as in the header.
         let read =
             unsafe { duration_str_parse_with(text.as_ptr(), text.len(), options, &mut answer) };
         (answer, read)
     }
 }
 
-/// `struct duration_str_answer`, of which `nanos` alone is read here.
+/// `struct duration_str_answer`, of which only `nanos` is read here.
 #[repr(C)]
 #[derive(Default)]
 struct Answer {
@@ -149,7 +149,7 @@ impl Library for Archive {
     #[inline(always)]
     fn reading(text: &str) -> u64 {
         let mut nanos = 0;
-        // SAFETY: the pointer and length are a slice's, and `nanos` is written alone.
+        // SAFETY: the pointer and length are a slice's, and only `nanos` is written.
         let read = unsafe { duration_str_parse(text.as_ptr(), text.len(), &mut nanos) };
         assert!(read, "refused: {text}");
         nanos
@@ -176,15 +176,15 @@ impl Library for Archive {
 
     fn refusing(text: &str, buffer: &mut [u8; ROOM]) -> usize {
         let (mut answer, buffer) = (Answer::default(), buffer.as_mut_ptr());
-        // SAFETY: the pointer and length are a slice's, `answer` is laid out as the header's, and
-        // the buffer is as long as there.
+        // SAFETY: the pointer and length are a slice's, `answer` is laid out as in the header, and
+        // the buffer is as long as the header says.
         let length =
             unsafe { duration_str_one_line(text.as_ptr(), text.len(), 0, &mut answer, buffer) };
         assert!(length > 0, "read: {text}");
         length
     }
 
-    /// C has no error but the answer.
+    /// In C the answer is the only error.
     type Error = u32;
 
     fn error(text: &str) -> u32 {
@@ -192,8 +192,8 @@ impl Library for Archive {
     }
 }
 
-/// Prints the expressions' values, or what is made of them, so many times; apart, so that other
-/// calls stay as compiled.
+/// Prints the values that `of` makes of the expressions' values, `count` times. It is a function of
+/// its own, so that the other calls are compiled as before.
 #[inline(never)]
 fn print_all<L: Library>(count: u64, of: fn(Duration) -> Duration) {
     let lengths: Vec<Duration> = expressions()
@@ -207,7 +207,7 @@ fn print_all<L: Library>(count: u64, of: fn(Duration) -> Duration) {
     });
 }
 
-/// Calls a library so many times, as the first lines of `calls.rs` say.
+/// Calls a library `count` times, as the first lines of `calls.rs` say.
 pub fn calls<L: Library>(words: &[&str], count: u64) {
     let length = Duration::new(193, 29_000_000);
     let of_nanos = |nanos: &str| Duration::from_nanos(nanos.parse().expect("nanoseconds"));

@@ -1,10 +1,10 @@
-//! The texts of single calls, and calls repeated.
+//! The texts of the single calls, and a loop for these calls.
 use std::time::Duration;
 
 pub const EXPRESSION: &str = "3m 13s 29ms";
 
-/// The units with the names that both libraries read, the longest first, and up to which count each
-/// is taken.
+/// The units, by names that both libraries read, the longest first. The number is the limit of each
+/// unit's counts.
 const UNITS: [(&str, u64); 10] = [
     ("y year years", 24),
     ("month months", 11),
@@ -18,8 +18,8 @@ const UNITS: [(&str, u64); 10] = [
     ("ns nsec", 999),
 ];
 
-/// A thousand expressions of one to five terms, the same in every run: those of a linear
-/// congruential generator.
+/// A thousand expressions of one to five terms. A linear congruential generator makes them, so they
+/// are the same in every run.
 pub fn expressions() -> Vec<String> {
     let mut state: u64 = 19;
     let mut below = move |bound: u64| {
@@ -32,7 +32,7 @@ pub fn expressions() -> Vec<String> {
         let mut terms = 1 + below(5);
         let mut text = String::new();
         for ((names, most), units_left) in UNITS.iter().zip((1..=10).rev()) {
-            // Each choice of so many units is as likely as any other.
+            // All choices of this many units are equally likely.
             if below(units_left) < terms {
                 terms -= 1;
                 let names: Vec<&str> = names.split(' ').collect();
@@ -58,7 +58,7 @@ pub fn below_day(length: Duration) -> Duration {
     Duration::new(length.as_secs() % 86_400, length.subsec_nanos())
 }
 
-/// A text of so many bytes: terms of one nanosecond, and blanks.
+/// A text of `bytes` bytes: terms of one nanosecond, and blanks.
 pub fn long_text(bytes: usize) -> String {
     let mut text = "1ns ".repeat(bytes / 4);
     while text.len() < bytes {
@@ -81,8 +81,8 @@ pub fn refusal(name: &str) -> String {
     text.to_string()
 }
 
-/// Calls so many times. The function is inlined, so that one more call takes the same around it in
-/// every program.
+/// Makes the call `count` times. The function is inlined, so that the loop around a call takes the
+/// same in every program.
 #[inline(always)]
 pub fn repeat(count: u64, mut call: impl FnMut()) {
     for _ in 0..count {
