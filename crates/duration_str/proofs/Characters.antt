@@ -1,4 +1,4 @@
--- Characters, numbers, and the names of units.
+-- The lemmas about characters, numbers, and the names of units.
 pub mod UnitLemmas
 pub mod NumberLemmas
 pub mod PackedLemmas

@@ -1,4 +1,4 @@
--- How a text is cut into tokens.
+-- The lemmas about cutting a text into tokens.
 pub mod PositionLemmas
 pub mod TokenLemmas
 pub mod SortLemmas

@@ -1,4 +1,4 @@
--- The printer writes the printed text.
+-- The lemmas that the printer writes the text that the definitions say.
 pub mod MessageLemmas
 pub mod OneLineLemmas
 pub mod ReportLemmas

@@ -1,4 +1,5 @@
--- Worked examples, computed: what texts are read as, why others are refused, and what durations print as.
+-- Examples that were worked out by hand, and are computed here: the values of texts, the causes for which others are
+-- refused, and the texts of durations.
 use Rattle.duration_str.proofs.Common.{ALL, answer, answer_with, Bool, Cause, codes, Compact, counts_of, Empty, encode_utf8_all, Err, Expected, false, flat_map, if◌then◌else◌, length, List, Long, map, MAX_LONG_LEN, MAX_PRINTED_LEN, message_of, Mixed, nanos_of, nat_lt, None, NumberTooLarge, off, Ok, older_row_of, older_unit_of_word, Options, OutOfRange, Overflow, Plus, printed_counts, Quarter, refl, replicate, Result, row_of, Short, Some, Star, Style, Syntax, TimeUnit, true, unit_lengths, unit_of_word, units, [], ℕ, ◌++◌, ◌∷◌, ◌≡◌}
 use Rattle.duration_str.specs.declared.format.Format.{Format}
 use Rattle.duration_str.specs.declared.unit.TimeUnit.TheVariants.{Day, Hour, MicroSecond, MilliSecond, Minute, Month, NanoSecond, Second, Week, Year}
@@ -43,7 +44,7 @@ after_unit-no_calc = record { number = true; unit_word = false; operator = false
 abbrev unit_alone : Expected
 unit_alone = record { number = false; unit_word = true; operator = false; text_end = false }
 
--- ---- What texts are read as, and why others are refused
+-- ---- The values of texts, and the causes of refused ones
 
 pub record Answers : Type 0 where
   -- ---- Terms and sums
@@ -65,7 +66,7 @@ pub record Answers : Type 0 where
   pub product-middle_step_rounded : answer off (codes "1*1ns*1ns*1000000000") ≡ Ok 0
   pub plus_then_star : answer off (codes "1m 2s*3") ≡ Err (Mixed Plus Star)
   pub star_then_plus : answer off (codes "1m*2*3+4") ≡ Err (Mixed Star Plus)
-  -- the first term is added last, so that 585 years are no fault of the second one
+  -- the first term is added last, so that the second term, with which the sum is 585 years, has no fault
   pub first_added_last : answer off (codes "580y 5y 1s*2") ≡ Err (Mixed Plus Star)
   -- ---- The limits of numbers
   pub leading_zeros : answer off (codes "00000000000000000000000001") ≡ Ok 1_000_000_000
@@ -127,7 +128,7 @@ pub record Answers : Type 0 where
   pub capital_quarters-read : answer off (codes "2 Quarters") ≡ Ok 15_724_800_000_000_000
   pub capital_quarter-lowercase_refused : answer with_lowercase (codes "1Q") ≡ Err (Syntax 1 after_number)
   pub longer_word_than_quarter-refused : answer off (codes "1qs") ≡ Err (Syntax 1 after_number)
-  -- Before the quarter was added, its names named no unit, and there were 40 others.
+  -- Before the quarter was added, its names named no unit, and units had 40 other names.
   pub quarter_was_no_unit : map (older_unit_of_word off) (row_of Quarter).names ≡ None ∷ None ∷ None ∷ []
 
 pub answers : Answers
@@ -199,7 +200,7 @@ pub record PrintedTexts : Type 0 where
   pub printed-first_that_overflows : printed 18_446_744_073_709_551_616 ≡ first_that_overflows
   pub printed-greatest_duration : printed 18_446_744_073_709_551_615_999_999_999 ≡ greatest_duration
   pub printed-longest : printed 3_153_600_000_031_190_399_999_999_999 ≡ longest
-  -- The bound on printed bytes is reached.
+  -- A printed text reaches the bound on the number of bytes.
   pub longest-bytes : length (encode_utf8_all longest) ≡ MAX_PRINTED_LEN
   pub overflows-greatest_duration : answer off greatest_duration ≡ Err (Overflow (Some 0))
 
@@ -222,7 +223,7 @@ pub record DefaultUnits : Type 0 where
   pub milliseconds-greatest : in_milliseconds (codes "18446744073709") ≡ Ok 18_446_744_073_709_000_000
   pub milliseconds-overflow : in_milliseconds (codes "18446744073710") ≡ Err (Overflow (Some 0))
   pub milliseconds-product : in_milliseconds (codes "2*3") ≡ Ok 6_000
-  -- a factor is a length too
+  -- a factor without a unit counts the default unit too
   pub milliseconds-factor : in_milliseconds (codes "90s*2") ≡ Ok 180_000_000
   pub milliseconds-two_numbers : in_milliseconds (codes "1 2") ≡ Err (Syntax 2 after_number)
   pub milliseconds-later_overflow : in_milliseconds (codes "1+18446744073710") ≡ Err (Overflow None)
@@ -250,11 +251,11 @@ default_units = assumption
 
 -- ---- Within limits
 
--- the text of so many nanoseconds in a format
+-- the text of this many nanoseconds in a format
 abbrev limited : Format → ℕ → List ℕ
 limited format nanos = text_within format (counts_within (lengths_within format) format.parts nanos)
 
--- the format with these units alone
+-- the format with only these units
 abbrev only : List TimeUnit → Format
 only us = record whole_format { units = intersection ALL (set_of us) }
 
@@ -285,7 +286,7 @@ pub record LimitedTexts : Type 0 where
   pub weeks_alone : limited (only (Week ∷ [])) 10_281_600_000_000_000 ≡ codes "17w"
   pub weeks_alone-days : limited (only (Week ∷ [])) 518_400_000_000_000 ≡ codes "0w"
   pub milliseconds_alone : limited (only (MilliSecond ∷ [])) 1_500_999_999 ≡ codes "1500ms"
-  -- the second's name for the zero of shorter units, also where it is not among them
+  -- if all units are shorter than a second, the zero has the second's name
   pub milliseconds_alone-zero : limited (only (MilliSecond ∷ [])) 999_999 ≡ codes "0s"
   pub years_and_milliseconds-long : limited (record (only (Year ∷ MilliSecond ∷ [])) { style = Long })
       31_536_000_001_000_000 ≡ codes "1 year 1 millisecond"
@@ -306,12 +307,12 @@ pub limited_texts : LimitedTexts
 unfolding chars digits encode chosen is_in
 limited_texts = assumption
 
--- the units from the first on that is not longer than the largest
+-- these units, from the first one that is not longer than the largest
 abbrev units_from : TimeUnit → List TimeUnit → List TimeUnit
 units_from largest [] = []
 units_from largest (u ∷ us) = if nat_lt (nanos_of largest) (nanos_of u) then units_from largest us else u ∷ us
 
--- the units before the first that is shorter than the smallest
+-- these units, up to the last one that is not shorter than the smallest
 abbrev units_down_to : TimeUnit → List TimeUnit → List TimeUnit
 units_down_to smallest [] = []
 units_down_to smallest (u ∷ us) = if nat_lt (nanos_of u) (nanos_of smallest) then [] else u ∷ units_down_to smallest us
@@ -325,7 +326,7 @@ unfolding chosen is_in
 each_range Year = assumption
 each_range largest = assumption
 
--- What a largest and a smallest unit leave are the units from the one to the other.
+-- The units that a largest and a smallest unit leave are the units from the one to the other.
 pub ranges : (largest smallest : TimeUnit) → IsRange largest smallest
 ranges largest = each_unit (IsRange largest) (each_range largest)
 
@@ -452,7 +453,7 @@ pub record Classes : Type 0 where
       0 ∷ 0x1F ∷ 0x7F ∷ 0xA0 ∷ 0xAD ∷ 0x34F ∷ 0x61C ∷ 0x115F ∷ 0x1160 ∷ 0x1680 ∷ 0x17B4 ∷ 0x17B5 ∷ 0x180B ∷ 0x180F
       ∷ 0x2000 ∷ 0x200F ∷ 0x2028 ∷ 0x202F ∷ 0x205F ∷ 0x206F ∷ 0x2800 ∷ 0x3000 ∷ 0x3164 ∷ 0xFE00 ∷ 0xFE0F ∷ 0xFEFF ∷ 0xFFA0
       ∷ 0xFFF0 ∷ 0xFFFB ∷ 0x1BCA0 ∷ 0x1BCA3 ∷ 0x1D173 ∷ 0x1D17A ∷ 0xE0000 ∷ 0xE0FFF ∷ []) ≡ false
-  -- those beside them
+  -- the characters next to these ranges
   pub seen : list_all is_plain (
       0x20 ∷ 0x7E ∷ 0xA1 ∷ 0xAC ∷ 0xAE ∷ 0x34E ∷ 0x350 ∷ 0x61B ∷ 0x61D ∷ 0x115E ∷ 0x1161 ∷ 0x167F ∷ 0x1681 ∷ 0x17B3 ∷ 0x17B6
       ∷ 0x180A ∷ 0x1810 ∷ 0x1FFF ∷ 0x2010 ∷ 0x2027 ∷ 0x2030 ∷ 0x205E ∷ 0x2070 ∷ 0x27FF ∷ 0x2801 ∷ 0x2FFF ∷ 0x3001 ∷ 0x3163
@@ -465,7 +466,7 @@ pub record Classes : Type 0 where
   pub letters : list_all is_letter (
       0x41 ∷ 0x5A ∷ 0x61 ∷ 0x7A ∷ 0xB5 ∷ 0xC0 ∷ 0xD6 ∷ 0xD8 ∷ 0xF6 ∷ 0xF8 ∷ 0x1FFF ∷ 0x2C00 ∷ 0x3040 ∷ 0xFEFE
       ∷ 0xFF21 ∷ []) ≡ true
-  -- What is no character counts as four bytes.
+  -- A number that is no character counts as four bytes.
   pub widths : map width (
       0x7F ∷ 0x80 ∷ 0x7FF ∷ 0x800 ∷ 0xD7FF ∷ 0xD800 ∷ 0xDFFF ∷ 0xE000 ∷ 0xFFFF ∷ 0x10000 ∷ 0x110000 ∷ [])
       ≡ 1 ∷ 2 ∷ 2 ∷ 3 ∷ 3 ∷ 4 ∷ 4 ∷ 3 ∷ 3 ∷ 4 ∷ 4 ∷ []
@@ -515,10 +516,10 @@ names_of_one_unit = assumption
 pub forty_three_names : length (flat_map (λ u. (row_of u).names) units) ≡ 43
 forty_three_names = refl
 
--- With those of `cn_unit`, of which there were eleven.
+-- the names from before the quarter, including the eleven that `cn_unit` adds
 abbrev older_names : List (List ℕ)
 older_names = flat_map (λ u. option_map_or (λ row. row.names ++ row.chinese) (older_row_of u) []) units
 
--- There were 51 names, each of them once.
+-- There were 51 names, each of which occurred once.
 pub fifty_one_older_names : map (λ name. count_by (bytes_eq name) older_names) older_names ≡ replicate 51 1
 fifty_one_older_names = refl

@@ -1,4 +1,4 @@
--- Sentences, their spelling and their evaluation.
+-- The lemmas about sentences, their spelling and their evaluation.
 pub mod FrontLemmas
 pub mod SpellingLemmas
 pub mod SumLemmas

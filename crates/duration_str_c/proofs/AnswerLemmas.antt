@@ -10,7 +10,7 @@ use Rattle.duration_str_c.specs.declared.answer.Answer.{Answer}
 use Rattle.duration_str_c.specs.Answers.{AreOptions, IsAnswerTo, IsReadBy, IsRefusedBy, options_of_bits, TellsFault, value_answer}
 use Rattle.duration_str_c.specs.Messages.{IsSaidOf, IsShown, ShowsRefusal}
 
--- ---- What is told of one text is told of an equal text.
+-- ---- An answer to one text is right for an equal text
 
 pub value_answers : (bits nanos : ℕ) (bytes same : List ℕ) (answer : Answer) → AreOptions bits → IsUtf8 same
     → bytes ≡ same → IsReadBy bits (chars bytes) nanos → answer ≡ value_answer nanos → IsAnswerTo bits same answer
@@ -29,7 +29,7 @@ refusal_answers o bits bytes same cause answer known utf8 e f refused tells =
           (subst (λ (q : Options). TellsFault q bytes cause answer) e tells),
     )))
 
--- ---- What is said without a fault
+-- ---- The line if the text has no fault
 
 pub said_shown : (bits : ℕ) {len : ℕ} {bytes line old new : List ℕ} (shown : Cause → List ℕ)
     → IsSaidOf bits bytes line → IsShown line old len new → ShowsRefusal shown bits bytes old len new

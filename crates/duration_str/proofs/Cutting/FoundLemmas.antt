@@ -34,7 +34,7 @@ module _ (o : Options) where
       without_first at place c (front ++ text) (omega (arith, before some))
       ∙ rw add_assoc at (without_front (at + width c) place front text (λ _. omega (arith, before some)))
 
--- ---- Tokens so many bytes later
+-- ---- Tokens that start `by` bytes later
 
 -- the same token, `by` bytes later
 abbrev later_token : ℕ → Token → Token

@@ -214,7 +214,7 @@ printed_within format nanos bytes utf8 same =
     let counts = counts_within (lengths_within format) format.parts nanos in
     (counts, greatest_within format nanos, sym (chars_from_encodes (text_within format counts) bytes utf8 (sym same)))
 
--- ---- The table of what is printed of each unit
+-- ---- The table of the units for printing
 
 -- the row that stands for one beyond the end of the table
 abbrev pub beyond : Printed

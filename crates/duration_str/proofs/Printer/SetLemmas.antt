@@ -258,7 +258,7 @@ longest_none bits small high = chosen_from (record { bits = bits }) units 11 (om
       | inr some ↦ rw ((bit_at-trailing_zeros w32 bits (grind (arith, nat_tests)) small).2 j (omega arith))
     ])) ∙ chosen_none (record { bits = bits })
 
--- ---- The table of what is printed of each unit
+-- ---- The table of the units for printing
 
 mapped : (us : List TimeUnit) (j : ℕ) → j < length us → (d : Printed) (e : TimeUnit)
     → slice_index_or (map printed_row us) j d ≡ printed_row (slice_index_or us j e)

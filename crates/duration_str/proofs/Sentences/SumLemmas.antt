@@ -65,7 +65,7 @@ pub sum_fits_each : (terms : List Term) → sum_of terms < 2 ^ 64 → EachFits t
 sum_fits_each [] h = tt
 sum_fits_each (t ∷ terms) h = (omega arith, sum_fits_each terms (omega arith))
 
--- ---- Terms that fit have no fault but that of their sum
+-- ---- The only fault of terms that fit is that of their sum
 
 abbrev pub overflow : ℕ → Option Cause
 overflow n = unless (fits n) (Overflow None)
