@@ -93,6 +93,6 @@ answer_with default_unit o (c ∷ text) =
     answer_at default_unit o.no_calc (start_after n (byte_len (c ∷ text)) (tokens_of o (c ∷ text)))
     (take n terminals) (drop n terminals)
 
--- the same with the second as the default unit
+-- `answer_with`, with the second as the default unit
 abbrev pub answer : Options → Characters → Result ℕ Cause
 answer o text = answer_with (Some Second) o text

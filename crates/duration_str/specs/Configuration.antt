@@ -1,4 +1,4 @@
--- What the calls return that read signed durations and configuration values, with all options off.
+-- The results of the calls that read signed durations and configuration values, with all options off.
 use Rattle.std.specs.Prelude.{◌≡◌, ℕ, ℤ, pos, [], ◌∷◌, Bool, true, false, Option, None, IsSomeAnd, Result, Ok, chars}
 use Rattle.serde_json.specs.Data.{Data, null, string}
 use Rattle.duration_str.specs.declared.cause.Cause.TheVariants.{NotText}

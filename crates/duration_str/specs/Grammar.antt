@@ -73,6 +73,6 @@ abbrev pub IsSentenceWith : Option TimeUnit → Options → List Characters → 
 IsSentenceWith default_unit o lexemes text =
     IsSentence default_unit o.no_calc (map (terminal_of o) lexemes) × Spells lexemes text
 
--- The same with the second as the default unit.
+-- `IsSentenceWith`, with the second as the default unit.
 abbrev pub IsSentenceOf : Options → List Characters → Characters → Type 0
 IsSentenceOf o lexemes text = IsSentenceWith (Some Second) o lexemes text

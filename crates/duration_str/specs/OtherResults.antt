@@ -1,4 +1,4 @@
--- What the other calls that read a text return: values of other types, nanoseconds, the number of looks.
+-- The results of the other calls that read a text: values of other types, nanoseconds, the number of looks.
 use Rattle.std.specs.Prelude.{◌≡◌, ℕ, ◌≤◌, Option, Result, Ok, Err, IfOk, IfErr, IsOk, length, take, chars}
 use Rattle.duration_str.specs.declared.options.Options.{Options}
 use Rattle.duration_str.specs.declared.cause.Cause.{Cause}

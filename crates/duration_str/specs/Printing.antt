@@ -76,6 +76,6 @@ abbrev pub IsPrintedIn : Style → ℕ → Characters → Type 0
 IsPrintedIn style nanos text =
     (counts : List ℕ) × IsGreatestBreakdown unit_lengths nanos counts × (text ≡ printed_counts style counts)
 
--- The same in the short style.
+-- `IsPrintedIn`, in the short style.
 abbrev pub IsPrinted : ℕ → Characters → Type 0
 IsPrinted = IsPrintedIn Short

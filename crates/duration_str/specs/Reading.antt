@@ -1,4 +1,4 @@
--- What a text is read as: the value of the sentence that spells it, or a refusal.
+-- When a text is read as a value, and when it is refused for a cause.
 use Rattle.std.specs.Prelude.{◌≡◌, ℕ, Bool, List, [], ◌∷◌, ◌++◌, Option, Some, None, if◌then◌else◌, length}
 use Rattle.duration_str.specs.declared.options.Options.{Options}
 use Rattle.duration_str.specs.declared.unit.TimeUnit.{TimeUnit}

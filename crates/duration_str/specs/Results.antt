@@ -1,4 +1,4 @@
--- What a call that reads a text returns.
+-- The result of a call that reads a text.
 use Rattle.std.specs.Prelude.{◌≡◌, ℕ, ◌^◌, ◌<◌, Option, Some, Result, IfOk, IfErr, IsOk, chars}
 use Rattle.std.specs.Duration.{as_nanos}
 use Rattle.std.specs.declared.time.Duration.{Duration}
@@ -17,6 +17,6 @@ pub record ParsesWith (default_unit : Option TimeUnit) (o : Options) (bytes : By
   pub refused : IfErr result (λ f. (f.text.now ≡ bytes) × IsRefusedWith default_unit o (chars bytes) f.cause)
   pub fits : IfOk result (λ d. as_nanos d < 2 ^ 64)
 
--- The same with the second as the default unit.
+-- `ParsesWith`, with the second as the default unit.
 abbrev pub ParsesText : Options → Bytes → Result Duration Fault → Type 0
 ParsesText o bytes result = ParsesWith (Some Second) o bytes result

@@ -50,7 +50,7 @@ terms_of default_unit terminals = terms_after default_unit Plus terminals
 abbrev pub terms_with : Option TimeUnit → Options → List Characters → List Term
 terms_with default_unit o lexemes = terms_of default_unit (map (terminal_of o) lexemes)
 
--- the same with the second as the default unit
+-- `terms_with`, with the second as the default unit
 abbrev pub written_terms : Options → List Characters → List Term
 written_terms o lexemes = terms_with (Some Second) o lexemes
 
@@ -95,12 +95,12 @@ value_of (t ∷ u ∷ later) =
 abbrev pub fits : ℕ → Bool
 fits n = nat_lt n (2 ^ 64)
 
--- the first cause of the two, if there is one
+-- the first cause if there is one, and otherwise the second one
 abbrev pub or_else : Option Cause → Option Cause → Option Cause
 or_else (Some cause) _ = Some cause
 or_else None next = next
 
--- the cause, unless the condition holds
+-- the cause if the condition is false, and otherwise none
 abbrev pub unless : Bool → Cause → Option Cause
 unless true _ = None
 unless false cause = Some cause

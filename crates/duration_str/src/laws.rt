@@ -13,7 +13,7 @@ pub fn one_sentence()
     ensures computed { AnswerIsReading }
 {}
 
-/// What can follow the beginning of a sentence depends only on its last terminal. The longest beginning of a sentence
+/// The last terminal of the beginning of a sentence decides alone what can follow. The longest beginning of a sentence
 /// in a text ends before the first terminal that can't follow the one before it. So `1m` can be followed by a number,
 /// an operator (not under `no_calc`) or the end, and the longest beginning in `1m 3-5` is `1m 3`.
 #[tactic(auto, using(crate::proofs::LawProofs::PlaceAndKinds::place_and_kinds_hold))]

@@ -42,8 +42,8 @@ const MOST_SHOWN: usize = 40;
 impl Fault<'_> {
     /// Writes the fault in one line to the start of a buffer, and returns the line. It says what is
     /// wrong, at which column, and what stands there. It quotes the text in at most 40 characters,
-    /// and escapes characters that aren't safe in a line or can't be seen. What the buffer held
-    /// before does not matter. The call allocates nothing and cannot fail.
+    /// and escapes characters that aren't safe in a line or can't be seen. The buffer's old
+    /// contents do not matter. The call allocates nothing and cannot fail.
     ///
     /// ```
     /// use duration_str::{ONE_LINE_BUFFER_SIZE, Options, parse_with};

@@ -41,9 +41,9 @@ pub const MAX_PRINTED_LEN: usize = 60;
 /// since every name is copied as four bytes.
 pub const FORMAT_BUFFER_SIZE: usize = 64;
 
-/// Prints a duration to the start of a buffer, and returns the text. What the buffer held before
-/// does not matter. The text has at most `MAX_PRINTED_LEN` bytes, and bytes after it may change
-/// too. The call allocates nothing and cannot fail.
+/// Prints a duration to the start of a buffer, and returns the text. The buffer's old contents do
+/// not matter. The text has at most `MAX_PRINTED_LEN` bytes, and bytes after it may change too. The
+/// call allocates nothing and cannot fail.
 ///
 /// ```
 /// use duration_str::{FORMAT_BUFFER_SIZE, write_human};
@@ -71,8 +71,8 @@ pub const MAX_LONG_LEN: usize = 134;
 /// The size of the buffer for `write_within`. It is the same for all styles.
 pub const STYLED_BUFFER_SIZE: usize = 144;
 
-/// Prints a duration in this format to the start of a buffer, and returns the text. What the buffer
-/// held before does not matter.
+/// Prints a duration in this format to the start of a buffer, and returns the text. The buffer's
+/// old contents do not matter.
 ///
 /// The text has as many of the format's largest unit as fit, then as many of the next one, and so
 /// on, until it has `format.parts` parts. (It is the lexicographically greatest breakdown that has
@@ -493,8 +493,8 @@ fn put_first(buffer: &mut [u8], count: u128, row: &Printed, style: Style) -> usi
     put_name_in(buffer, end, row, count == 1, style)
 }
 
-/// Writes a duration of 2^64 nanoseconds or more in the units of a set. What the first part leaves
-/// is below 2^64.
+/// Writes a duration of 2^64 nanoseconds or more in the units of a set. The first part leaves less
+/// than 2^64 nanoseconds.
 #[inline(never)]
 fn put_long(buffer: &mut [u8], set: Units, most: usize, nanos: u128, style: Style) -> usize
     requires long { 2 ^ 64 ≤ nanos }

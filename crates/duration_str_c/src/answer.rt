@@ -30,7 +30,7 @@ const OPERATOR: u32 = 4;
 
 const END: u32 = 8;
 
-/// What a text is read as, or why it is refused. Fields that a case does not use are 0.
+/// The value of a text, or why it is refused. Fields that don't apply are 0.
 #[repr(C)]
 #[derive(Clone, Copy)]
 pub struct Answer {

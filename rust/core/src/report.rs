@@ -18,8 +18,8 @@ impl Fault<'_> {
     /// the place of a syntax fault, and below that the line of `write_one_line`.
     ///
     /// The report is the line alone if the cause is not `Syntax`, if the text has more than 80 characters, or if the
-    /// line would escape one of its characters. What the buffer held before does not matter. The call allocates nothing
-    /// and cannot fail.
+    /// line would escape one of its characters. The buffer's old contents do not matter. The call allocates nothing and
+    /// cannot fail.
     ///
     /// ```
     /// use duration_str_core::{Options, REPORT_BUFFER_SIZE, parse_with};

@@ -1,4 +1,4 @@
--- What is printed in a format is the greatest duration that fits into the format.
+-- A text printed in a format stands for the greatest duration that fits into the format.
 use Rattle.duration_str.proofs.Common.{Format, IsGreatestBreakdown, IsReadWith, List, NeverMore, Option, Options, TimeUnit, Year, [], ap, arith, counts_of, counts_within, div-eq_of_lt-le, le-div_iff_mul-le, le-mul_of_pos_right, length, lengths_within, map, map-append, nanos_of, nat_lt, part_count, refl, rules, subst, sym, terminal_of, text_within, units, units_within, weighted_sum, zero-div, zero_unit, ℕ, ◌%◌, ◌*◌, ◌++◌, ◌+◌, ◌/◌, ◌<◌, ◌^◌, ◌∙◌, ◌∷◌, ◌≡◌, ◌≤◌, last_unit, shorter_units}
 use Rattle.std.specs.Prelude.{filter}
 use Rattle.duration_str.proofs.LawProofs.GreatestBreakdown.{breakdown_of, EndInOne, one_greatest}

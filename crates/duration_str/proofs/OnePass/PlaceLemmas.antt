@@ -85,7 +85,7 @@ start_placed o bs xs cs (suc n) at (p ∷ tokens) utf8 e w (rest, next, more) =
     start_placed o bs (xs ++ (next.blanks ++ p.characters)) rest n (p.start + byte_len p.characters) tokens utf8
     (simp append_assoc (rw next.parts at e)) (simp byte_len-append (omega (arith, next.start, w))) more
 
--- What holds for the start of the text and for the place of a syntax fault holds for the place of any fault.
+-- A property of the start of the text and of the place of a syntax fault is one of the place of any fault.
 stands_at : (P : ℕ → Type 0) → P 0 → (cause : Cause) → Stands P cause → ForSome (place_of cause) P
 stands_at P start cause h = grind arith
 

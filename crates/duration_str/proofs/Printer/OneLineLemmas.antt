@@ -287,7 +287,7 @@ pub quoted_stops : (written after whole : List ℕ) (room : ℕ) → written ++ 
     → room < length whole
 quoted_stops written after whole room all full = omega (arith, full, ap length all, length-append written after)
 
--- What is written ends inside the buffer.
+-- The bytes that are written end inside the buffer.
 pub end_inside : (bytes buffer : List ℕ) (end : ℕ) → end ≡ length bytes → take end buffer ≡ bytes → end ≤ length buffer
 end_inside bytes buffer end long is = omega (arith, long, ap length is, length-take end buffer)
 

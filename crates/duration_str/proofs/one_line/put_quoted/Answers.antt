@@ -4,7 +4,7 @@ use Rattle.duration_str.proofs.Printer.OneLineLemmas.{end_inside, quoted_all, qu
 use Rattle.duration_str.proofs.one_line.put_quoted.Goals.{After-put_shown, After-put_text}
 use Rattle.duration_str.proofs.one_line.put_quoted.Goals as goal
 
--- what is written, the character, and what is left after it are the whole text
+-- the bytes that are written, the character, and the rest after it are the whole text
 more : (c : After-put_shown)
     → (take c.loop-c.end c.loop-c.buffer ++ encode_utf8_all (shown c.in-Some.c))
     ++ quoted_end (c.loop-c.room - c.shown_len-width.result) (chars (chars_rest c.next.new.self))
