@@ -1,7 +1,7 @@
 /**
  * Reads durations as people write them, such as `3m + 13s + 29ms`, and prints them, such as
- * `3min 13s 29ms`. An error says what is wrong. A syntax error also says where. The library that
- * reads and prints is proved.
+ * `3min 13s 29ms`. An error says what is wrong. For wrong syntax it also says where. The library
+ * that reads and prints is proved.
  *
  * A text is one term or several. A term is a number and a unit, such as `3m`. Terms are joined by
  * `+` or by `*`. If the operator is left out, as in `3m 13s`, the terms are added. A product
@@ -12,7 +12,7 @@
 
 /**
  * Options for reading. If you give none, all are off, and the default unit is the second. They must
- * be a plain object, of which only its own properties count. An unknown name is a `TypeError`.
+ * be a plain object, and only the object's own properties count. An unknown name is a `TypeError`.
  */
 export interface Options {
     /** `+` and `*` are not read, and the terms are added one by one. */
@@ -55,8 +55,8 @@ export type Unit =
     | "µs" | "µsec" | "µsecond" | "us" | "usec" | "usecond" | "microsecond" | "microseconds"
     | "ns" | "nsec" | "nanosecond" | "nanoseconds";
 
-/** Limits for which units are counted, and how many parts. They must be a plain object, of which
- * only its own properties count. */
+/** Limits for which units are counted, and how many parts. They must be a plain object, and only
+ * the object's own properties count. */
 interface Counted<Name extends Unit> {
     /**
      * Only these units, in any order. A unit that is named twice counts once. With `["y", "d"]`,

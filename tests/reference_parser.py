@@ -648,7 +648,7 @@ HELP = {
     r"(?<=[0-9])([,_'](?=[0-9])|[Ee](?=[-+0-9]))": "numbers have digits only",
     r"(?<=[0-9]):(?=[0-9])": "clock times are not read: write 1h 30m or 1m 30s",
 }
-# The same if there are only blanks before the place.
+# The help for such a text if there are only blanks before the place.
 FIRST_HELP = {
     "-(?=[0-9.])": "negative durations are not read",
     r"\+(?=[0-9.])": 'a leading "+" is not read',

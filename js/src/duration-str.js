@@ -498,7 +498,8 @@ function unitsLeft({ units, largest, smallest }, all, longest) {
 /** The duration in nanoseconds. */
 const nanoseconds = () => fields.getBigUint64(ANSWER, true);
 
-/** The same. Below 2^53 it is a number, which is exact there, and faster to count with. */
+/** The duration in nanoseconds. Below 2^53 it is a number, which is exact there, and faster to
+ * count with. */
 function count() {
     const high = fields.getUint32(ANSWER + 4, true);
     return high < 2 ** 21 ? high * HALF + fields.getUint32(ANSWER, true) : nanoseconds();

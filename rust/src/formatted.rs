@@ -27,7 +27,7 @@ use duration_str_core::{Format, STYLED_BUFFER_SIZE, Style, TimeUnit, write_withi
 ///
 /// The text has the greatest possible count of the largest unit, then the greatest count of the
 /// next unit in what is left, and so on down to the smallest unit, or until the number of parts is
-/// reached. Counts of 0 are left out. What remains at the end is left out too.
+/// reached. Counts of 0 are left out. The remainder at the end is left out too.
 ///
 /// Each call that chooses units only takes units away, so you can make these calls in any order.
 ///

@@ -129,7 +129,7 @@ pub fn parse_std(input: impl AsRef<str>) -> Result<Duration, String> {
 
 /// Reads a text as [`parse`] does, into a duration of `chrono`.
 ///
-/// Needs the feature `chrono`.
+/// This call needs the feature `chrono`.
 ///
 /// # Errors
 ///
@@ -152,7 +152,7 @@ pub(crate) fn chrono_of(length: Duration) -> chrono::Duration {
 
 /// Reads a text as [`parse`] does, into a duration of `time`.
 ///
-/// Needs the feature `time`.
+/// This call needs the feature `time`.
 ///
 /// # Errors
 ///

@@ -1,5 +1,4 @@
-//! Tests the program by running it. What it says about a refused text is compared with what the
-//! library says.
+//! Tests the program by running it. Its lines about refused texts are compared with the library's.
 use duration_str::{parse_duration, parse_with_units};
 use serde_json::{Value, json};
 use std::ffi::OsStr;

@@ -1,6 +1,6 @@
 """Reads durations as people write them, such as `3m + 13s + 29ms`, and prints
-them, such as `3min 13s 29ms`. An error says what is wrong. A syntax error also
-says where. The library that reads and prints is proved.
+them, such as `3min 13s 29ms`. An error says what is wrong. For wrong syntax it
+also says where. The library that reads and prints is proved.
 
 >>> import duration_str
 >>> duration_str.parse("3m + 13s + 29ms")
@@ -98,7 +98,7 @@ __all__ += [
 ]
 __version__ = "0.19.0"
 
-# In errors, pickles and documentation, public names are those of this module.
+# In errors, pickles and documentation, the public items belong to this module.
 for _public in [*map(globals().get, __all__), format]:
     _public.__module__ = __name__
 del _public

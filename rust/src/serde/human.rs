@@ -16,7 +16,7 @@
 //! Everything that is written can be read back. So writing fails for a negative duration, and for
 //! one of 2^64 nanoseconds or more, which is some 584 years.
 //!
-//! Needs the feature `serde`.
+//! This module needs the feature `serde`.
 //!
 //! ```
 //! use serde::{Deserialize, Serialize};

@@ -8,7 +8,7 @@
 //! Durations are written as text. The format must store the types of its values, which bincode and
 //! similar formats don't do.
 //!
-//! Needs the feature `serde`.
+//! This module needs the feature `serde`.
 //!
 //! ```
 //! use serde::{Deserialize, Serialize};

@@ -5,7 +5,7 @@
 //! [`parse_with_units`](crate::parse_with_units) reads the texts. The fields have the same types as
 //! those of [`human`], and are written in the same way.
 //!
-//! Needs the feature `serde`.
+//! This module needs the feature `serde`.
 //!
 //! ```
 //! use serde::{Deserialize, Serialize};

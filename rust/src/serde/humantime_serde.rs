@@ -9,7 +9,7 @@
 //! [`HumanDuration`](crate::HumanDuration) needs no `with` either, but is read as in the rest of
 //! this crate.
 //!
-//! Needs the feature `serde`.
+//! This module needs the feature `serde`.
 //!
 //! ```
 //! use duration_str::humantime_serde;

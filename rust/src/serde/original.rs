@@ -83,7 +83,7 @@ impl<'de, T: Length> Visitor<'de> for Optional<T> {
 /// Reads a duration, which must be a text; or reads an optional duration, for which null and the
 /// empty text are `None`. With `#[serde(default)]` a missing field is `None` too.
 ///
-/// Needs the feature `serde`.
+/// This call needs the feature `serde`.
 ///
 /// As in `duration-str` 0.19.0, required and optional durations have different rules. A required
 /// duration must be a value that the format itself stores as a text. An optional one may be any
@@ -191,7 +191,7 @@ deserializes!(
 
 /// Reads a duration of `chrono`, as [`deserialize_duration`] does.
 ///
-/// Needs the features `serde` and `chrono`.
+/// This call needs the features `serde` and `chrono`.
 ///
 /// # Errors
 ///
@@ -205,7 +205,7 @@ pub fn deserialize_duration_chrono<'de, D: Deserializer<'de>>(
 
 /// Reads a duration of `time`, as [`deserialize_duration`] does.
 ///
-/// Needs the features `serde` and `time`.
+/// This call needs the features `serde` and `time`.
 ///
 /// # Errors
 ///

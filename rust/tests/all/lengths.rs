@@ -81,8 +81,7 @@ fn lacks_unit(cause: Cause) -> bool {
 #[test]
 fn refuses_for_the_first_cause() {
     let cause = |text| parse_duration(text).unwrap_err().cause();
-    // Multiplied by their length in seconds, the numbers of the first two are a little more than
-    // 2^64.
+    // In seconds, the first two numbers are a little more than 2^64.
     for text in [
         "584542046091y",
         "7013928460401month",
