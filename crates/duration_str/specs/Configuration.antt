@@ -15,11 +15,13 @@ ParsesBy shows bytes result =
     IsValueOrFault (λ v. (nanos : ℕ) × IsRead off (chars bytes) nanos × shows v nanos)
     (IsRefused off (chars bytes)) bytes result
 
--- The bytes are read as the value in `Ok`, whose length is `nanos_of` it, or refused for the cause in `Err`.
+-- The bytes are read, and `nanos_of` gives the nanoseconds of the value in `Ok`. Or they are refused for the cause in
+-- `Err`.
 abbrev pub ParsesAs : {T : Type 0} → (T → ℤ) → Bytes → Result T Fault → Type 0
 ParsesAs nanos_of bytes result = ParsesBy (λ v nanos. nanos_of v ≡ pos nanos) bytes result
 
--- The bytes are read as the value in `Ok (Some ..)`, whose length is `nanos_of` it, or refused for the cause in `Err`.
+-- The bytes are read, and `nanos_of` gives the nanoseconds of the value in `Ok (Some ..)`. Or they are refused for the
+-- cause in `Err`.
 abbrev pub ParsesAsSome : {T : Type 0} → (T → ℤ) → Bytes → Result (Option T) Fault → Type 0
 ParsesAsSome nanos_of bytes result = ParsesBy (λ o nanos. IsSomeAnd o (λ v. nanos_of v ≡ pos nanos)) bytes result
 

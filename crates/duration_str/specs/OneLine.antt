@@ -167,7 +167,7 @@ help_at expected text place piece =
 
 -- ---- The line
 
--- what was expected
+-- the words that say what was expected
 abbrev pub expected_words : Expected → Bytes
 expected_words expected =
     if expected.unit_word then
@@ -178,20 +178,20 @@ expected_words expected =
     else if expected.text_end then codes "expected a number or the end"
     else codes "expected a number"
 
--- the column
+-- the words that say the column
 abbrev pub at_column : ℕ → Bytes
 at_column column = codes " at column " ++ decimal column
 
--- what stands at a place
+-- the words that say what was found, given the piece of the text at the fault's place
 abbrev pub found_words : Characters → Bytes
 found_words [] = codes ", found the end"
 found_words (c ∷ piece) = codes ", found " ++ quoted (c ∷ piece)
 
--- what was expected, the column, what stands there, and the help
+-- the line that says what was expected, the column and what was found, with the help at the end
 abbrev pub found_line : Bytes → ℕ → Characters → Bytes → Bytes
 found_line words column piece help = words ++ (at_column column ++ (found_words piece ++ help))
 
--- the word that is no unit, its column, and the help
+-- the line for a word that is no unit: the word, its column, and the help
 abbrev pub unknown_line : ℕ → Characters → Bytes → Bytes
 unknown_line column word help = codes "unknown unit " ++ (quoted word ++ (at_column column ++ help))
 
@@ -204,7 +204,7 @@ syntax_line text place expected piece =
     if expected.unit_word && begins_with_letter piece then unknown_line column piece (unit_help (near_name bytes) help)
     else found_line (expected_words expected) column piece help
 
--- what is wrong, the text, and the help
+-- the line that says what is wrong and quotes the whole text, with the help at the end
 abbrev pub text_line : Bytes → Bytes → Bytes → Bytes
 text_line problem text help = problem ++ (codes " in " ++ (quoted (chars text) ++ help))
 

@@ -19,7 +19,7 @@ pub record IsReadWith (default_unit : Option TimeUnit) (o : Options) (text : Cha
   pub evaluates : Evaluates (terms_with default_unit o lexemes)
   pub value : value_of (terms_with default_unit o lexemes) ≡ Some nanos
 
--- The same with the second as the default unit.
+-- `IsReadWith`, with the second as the default unit.
 abbrev pub IsRead : Options → Characters → ℕ → Type 0
 IsRead o text nanos = IsReadWith (Some Second) o text nanos
 
@@ -95,6 +95,6 @@ IsRefusedWith default_unit o (c ∷ text) cause =
     × IsRefusedAt default_unit o.no_calc (start_after (length front) (byte_len (c ∷ text)) (tokens_of o (c ∷ text)))
     front rest cause
 
--- The same with the second as the default unit.
+-- `IsRefusedWith`, with the second as the default unit.
 abbrev pub IsRefused : Options → Characters → Cause → Type 0
 IsRefused o text cause = IsRefusedWith (Some Second) o text cause

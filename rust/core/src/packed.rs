@@ -1,6 +1,6 @@
 // Made by tools/erase of crates/duration_str/src/packed.rt.
 //! A word's letters packed into one number, and the unit that such a number names. The letters are digits to the base
-//! 40. A capital is the same digit as its small letter, unless the option `lowercase` is on.
+//! 40. A capital has the same digit as its small letter, unless the option `lowercase` is on.
 
 use crate::options::Options;
 use crate::unit::TimeUnit;
@@ -48,7 +48,7 @@ pub(crate) fn is_unit_letter(c: char, o: Options) -> bool {
     letter_number(c, o).is_some()
 }
 
-/// The digit that a unit letter is under these options, or `None` for any other character.
+/// The digit for a unit letter under these options, or `None` for any other character.
 #[inline(always)]
 pub(crate) fn letter_number(c: char, o: Options) -> Option<u64> {
     if c.is_ascii_alphabetic() {
@@ -63,7 +63,7 @@ pub(crate) fn letter_number(c: char, o: Options) -> Option<u64> {
     }
 }
 
-/// The digit that a unit letter is.
+/// The digit for a unit letter.
 #[inline(always)]
 pub(crate) fn first_number(c: char, o: Options) -> u64 {
     if c.is_ascii() {
@@ -72,8 +72,8 @@ pub(crate) fn first_number(c: char, o: Options) -> u64 {
     wide_number(c, o.cn_unit)
 }
 
-/// The digit that an ASCII letter is: its code modulo 32, which is 1 to 26 for small letters and for capitals. Under
-/// `lowercase` a capital is a digit that no letter of a name is.
+/// The digit for an ASCII letter: its code modulo 32, which is 1 to 26 for small letters and for capitals. Under
+/// `lowercase` capitals have a digit that no letter of a name has.
 #[inline(always)]
 fn ascii_number(c: char, o: Options) -> u64 {
     if o.lowercase && c < 'a' {
@@ -82,7 +82,7 @@ fn ascii_number(c: char, o: Options) -> u64 {
     u64::from(c as u32 % 32)
 }
 
-/// The digit that a unit letter beyond ASCII is: `µ`, or a letter that the option `cn_unit` adds. For any other
+/// The digit for a unit letter beyond ASCII, which is `µ` or a letter that the option `cn_unit` adds. For any other
 /// character it is 0.
 #[inline]
 fn wide_number(c: char, cn_unit: bool) -> u64 {
@@ -108,7 +108,7 @@ fn wide_number(c: char, cn_unit: bool) -> u64 {
     }
 }
 
-/// The digit that a capital is under `lowercase`.
+/// The digit for a capital under `lowercase`.
 const CAPITAL: u64 = 39;
 
 /// The unit with a name that packs to this number.

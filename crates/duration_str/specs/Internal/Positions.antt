@@ -34,18 +34,18 @@ pub record Passes (test : ℕ → Bool) (text : Bytes) (place next : ℕ) : Type
   pub between : Between text place next characters
   pub all : IsTrue (list_all test characters)
 
--- the digit that a character is, by its index in this list, whose first character is the digit n. It is 0 if the
--- character is not in the list
+-- the digit for a character of this list, whose first character has the digit n, the next n + 1, and so on. It is 0 for
+-- any other character
 abbrev pub number_in : ℕ → Characters → ℕ → ℕ
 number_in n [] c = 0
 number_in n (d ∷ letters) c = if d == c then n else number_in (n + 1) letters c
 
--- the digit that a unit letter beyond ASCII is, and 0 for any other character
+-- the digit for a unit letter beyond ASCII, and 0 for any other character
 abbrev pub wide_number : ℕ → ℕ
 wide_number c = number_in 27 (0xB5 ∷ chinese_letters) c
 
--- the digit that a unit letter is. A capital is the same digit as its small letter, but under `lowercase` it is 39,
--- which no other letter is
+-- the digit for a unit letter. A capital has the same digit as its small letter. Under `lowercase` capitals have 39,
+-- which no other letter has
 abbrev pub letter_number : Options → ℕ → ℕ
 letter_number o c =
     if o.lowercase && is_ascii_uppercase c then 39 else if is_ascii_alphabetic c then c % 32 else wide_number c

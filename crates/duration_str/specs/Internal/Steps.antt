@@ -38,12 +38,13 @@ pub record StartsToken (s : Tokens) (sort : TokenStart) : Type 0 where
   pub not_blank : is_blank character ≡ false
   pub is_sort : sort ≡ sort_at (options_of s) character
 
--- A token of this sort is ahead. `None` means that the end is.
+-- A token of this sort is ahead. `None` means that the text ends here.
 abbrev pub IsAhead : Tokens → Option TokenStart → Type 0
 IsAhead s None = s.head ≡ None
 IsAhead s (Some sort) = StartsToken s sort
 
--- Blanks are skipped, so the same tokens are left, and a token of this sort is ahead. `None` means that the end is.
+-- Blanks are skipped, so the same tokens are left, and a token of this sort is ahead. `None` means that the text ends
+-- here.
 pub record LooksAhead (old new : Tokens) (sort : Option TokenStart) : Type 0 where
   pub kept : KeepsInput old new
   pub same_left : tokens_left new ≡ tokens_left old
