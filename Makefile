@@ -171,8 +171,9 @@ page = sed -e 's/^@CALLS@$$/.Nm $(subst $(space), $(comma)\n.Nm ,$(calls))/' \
     -e '/^@SYNOPSIS@$$/{e $(call description,-v synopsis=1)' -e 'd}' -e '/^@HEADER@$$/{e $(call description)' -e 'd}' \
     -e '/^@UNITS@$$/{e $(call description) | sed -n "/^Units: /,/^A year has/p"' -e 'd}' -e 's/@VERSION@/$(version)/' $(1)
 
-# $(call up,FOLDER,FROM): the way from an installed folder up to the prefix, so that the whole can
-# be moved. FROM is written for the folder. If the folder is not below the prefix, it is the prefix
+# $(call up,FOLDER,FROM): the way from an installed folder up to the prefix, so that the prefix can
+# be moved with all that is in it. FROM is written for the folder. If the folder is not below the
+# prefix, the call gives the prefix
 space := $() $()
 up = $(if $(filter $(prefix)/%,$(1)),$(2)$(subst $(space),,$(patsubst %,/..,$(subst /, ,$(1:$(prefix)/%=%)))),$(prefix))
 

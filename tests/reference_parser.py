@@ -216,7 +216,7 @@ def begins_sentence(kinds, options, default_unit):
     """Whether some sentence begins with these kinds of terminals.
 
     A rule of the grammar needs at most a number and a unit after the terminals that it has read. So
-    if any sentence continues them, one does with one or two terminals.
+    if these terminals begin a sentence, they are one, or become one with one or two more terminals.
     """
     return is_sentence(list(kinds), options, default_unit) or any(
         is_sentence([*kinds, *more], options, default_unit)

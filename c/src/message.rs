@@ -20,8 +20,8 @@ pub fn duration_str_one_line(
     }
 }
 
-/// Does what `duration_str_one_line` does, but writes the report: the text, a caret below the place of a syntax fault,
-/// and the line; or the line alone.
+/// Does what `duration_str_one_line` does, but writes the report. It is the line. For a syntax fault in a text that can
+/// stand above a caret, the text and the caret are above the line.
 pub fn duration_str_report(
     text: &[u8],
     options: u32,

@@ -22,7 +22,7 @@ pub record IsBreakdown (lengths : List ℕ) (nanos : ℕ) (counts : List ℕ) : 
   pub one_each : length counts ≡ length lengths
   pub whole : weighted_sum lengths counts ≡ nanos
 
--- The counts are a breakdown, and every other breakdown comes before them.
+-- The counts are a breakdown, and every other breakdown comes before them (`IsBefore`).
 pub record IsGreatestBreakdown (lengths : List ℕ) (nanos : ℕ) (counts : List ℕ) : Type 0 where
   pub breakdown : IsBreakdown lengths nanos counts
   pub greatest : (others : List ℕ) → IsBreakdown lengths nanos others → (others ≡ counts) ⊎ IsBefore others counts

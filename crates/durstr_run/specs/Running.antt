@@ -29,8 +29,8 @@ abbrev pub WritesOutput : Options → Bool → Option (List ℕ) → Option (Lis
 WritesOutput o accepted source rest before after =
     (input out : List ℕ) × ReadsAll source rest input × IsOutput o input out accepted × Appends before after out
 
--- What each fault leaves. After `Write` the whole input was read, and a beginning of the output was written. After
--- every other fault nothing was written. After `TooLong` too much was read.
+-- The state after each fault. With `Write` the whole input was read, and a beginning of the output was written. With
+-- every other fault nothing was written. With `TooLong` more bytes were read than an input may have.
 abbrev pub Leaves : Options → RunFault → Option (List ℕ) → Option (List ℕ) → Option (List ℕ) → Option (List ℕ) → Type 0
 Leaves o Read source rest before after = Keeps before after
 Leaves o TooLong source rest before after = Keeps before after × ReadsTooMuch source rest
