@@ -257,9 +257,10 @@ export function tryParseNs(text: string, options?: Options): Result<bigint>;
  * A number with a fraction, such as a difference of `performance.now()`, is rounded to the nearest
  * nanosecond: `format(1.005)` is `1ms 5µs`.
  *
- * @throws RangeError if the number is negative, 2^64 nanoseconds or more, NaN or infinite; if a
- * unit, the style or the number of parts is not one that exists; if the largest unit is shorter
- * than the smallest; or if `units` is empty, or has no unit between these two
+ * @throws RangeError if the number is negative, 2^64 nanoseconds or more, NaN or infinite. It is
+ * also thrown if a unit or the style does not exist, if `parts` is neither a whole number from 1 on
+ * nor `Infinity`, if the largest unit is shorter than the smallest, or if `units` is empty or has
+ * no unit between these two.
  * @throws TypeError if the duration is not a number, or if an option is unknown or of another type
  */
 export function format(milliseconds: number, options?: Limits): string;
@@ -268,9 +269,9 @@ export function format(milliseconds: number, options?: Limits): string;
  * Prints a duration of this many nanoseconds, and returns the text: `formatNs(5_400_000_000_000n)`
  * is `1h 30min`.
  *
- * @throws RangeError if the number is negative, or 2^64 or more; and for the options, as `format`
- * does
- * @throws TypeError if the number is not a bigint; and for the options, as `format` does
+ * @throws RangeError if the number is negative, or 2^64 or more, or for an option for which
+ * `format` throws it
+ * @throws TypeError if the number is not a bigint, or for an option for which `format` throws it
  */
 export function formatNs(nanoseconds: bigint, options?: Limits): string;
 
@@ -284,8 +285,9 @@ export function formatNs(nanoseconds: bigint, options?: Limits): string;
  * new Intl.DurationFormat("en").format(parts(parse("1h 30m"))); // 1 hr, 30 min
  * ```
  *
- * @throws RangeError if a number can't hold a count exactly; and otherwise as `format` does
- * @throws TypeError if the duration is neither a number nor a bigint; and for the limits, as
- * `format` does
+ * @throws RangeError if a number can't hold a count exactly, or for a duration or limit for which
+ * `format` or `formatNs` throws it
+ * @throws TypeError if the duration is neither a number nor a bigint, or for a limit for which
+ * `format` throws it
  */
 export function parts(duration: number | bigint, limits?: PartLimits): Parts;

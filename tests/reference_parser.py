@@ -423,8 +423,9 @@ def evaluation_fault(terms):
 
 
 def first_term_fault(front, default_unit):
-    """The fault of the first term, if that term is complete: its unit follows its number; or, if
-    there is a default unit, an operator or the end does.
+    """The fault of the first term, if that term is complete. A term is complete if a unit follows
+    its number. With a default unit, the first term is also complete if an operator or the end of
+    the text follows its number.
     """
     kinds = front.kinds()
     if (
@@ -439,8 +440,8 @@ def first_term_fault(front, default_unit):
 
 
 def standing_fault(front, default_unit):
-    """The first fault of the complete terms under `no_calc`. A term is complete if its unit follows
-    its number; or, if there is a default unit, if the end does.
+    """The first fault of the complete terms under `no_calc`. A term is complete if a unit follows
+    its number. With a default unit, it is also complete if the end of the text follows its number.
     """
     kinds = front.kinds()
     terms = terms_of(front.terminals, default_unit)
@@ -455,7 +456,7 @@ def standing_fault(front, default_unit):
     return None
 
 
-# ---- What a text is read as, and what is told of it
+# ---- The value of a text, and what is said of a refused text
 
 
 def answer_of(text, options, default_unit=SECOND):

@@ -2,8 +2,8 @@
 """The texts and durations with which compare and the fuzzer try the library, generated from a seed.
 
 texts.py FOLDER COUNT [SEED]  writes files for the fuzzer: COUNT texts into FOLDER/texts, each after
-                              its length in two bytes; a file in FOLDER/seeds for each of the first
-                              500 texts; and libFuzzer's FOLDER/dictionary
+                              its length in two bytes, a file in FOLDER/seeds for each of the first
+                              500 texts, and libFuzzer's FOLDER/dictionary
 """
 import pathlib
 import random

@@ -11,9 +11,10 @@
 
 #define SECOND 1000000000u
 
-/* The Python objects that the module keeps. They are the names of the options, first the flags in
- * the order of their bits; the names of the keywords that limit printing; the names of a
- * timedelta's parts; and the types and functions that the module calls. */
+/* The Python objects that the module keeps. First come the names of the options: the flags, in the
+ * order of their bits, and then the default unit. They are followed by the names of the keywords
+ * that limit printing, the names of a timedelta's parts, and the types and functions that the
+ * module calls. */
 enum kept {
     NO_CALC,
     LOWERCASE,
@@ -164,8 +165,8 @@ static bool has_one(const char *call, Py_ssize_t count) {
     return count == 1;
 }
 
-/* The names of the units as they are printed, in Latin-1, and as errors list them; and the names of
- * the styles */
+/* The names of the units as they are printed, in Latin-1, then the names as errors list them, and
+ * the names of the styles */
 /* The names of the units are made by tests/repository --write. */
 static const char *const unit_names[] = {
     "y", "q", "mon", "w", "d", "h", "min", "s", "ms", "\xb5s", "ns"};

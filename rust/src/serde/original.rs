@@ -80,8 +80,9 @@ impl<'de, T: Length> Visitor<'de> for Optional<T> {
     }
 }
 
-/// Reads a duration, which must be a text; or reads an optional duration, for which null and the
-/// empty text are `None`. With `#[serde(default)]` a missing field is `None` too.
+/// Reads a required or an optional duration, depending on the field's type. A required one must be
+/// a text. For an optional one null and the empty text are `None`, and with `#[serde(default)]` so
+/// is a missing field.
 ///
 /// This call needs the feature `serde`.
 ///

@@ -95,8 +95,9 @@ struct Refused(
     Option<usize>,
 );
 
-/// A duration's text, or its seconds and nanoseconds as `1 s 1 ns`; the largest and the smallest
-/// unit and the greatest number of parts; and the printed text, in the short and in the long style.
+/// A row of six fields: a duration's text, or its seconds and nanoseconds as in `1 s 1 ns`, the
+/// largest unit, the smallest unit, the greatest number of parts, the printed text in the short
+/// style, and the printed text in the long style.
 #[derive(Deserialize)]
 struct Printed(String, String, String, usize, String, String);
 
