@@ -7,8 +7,8 @@ use Rattle.duration_str.proofs.Characters.CharacterLemmas.{all_weaker}
 use Rattle.uses.specs.Portable.{HasSameCause, HasSameValue, is_unaffected}
 use Rattle.duration_str.specs.declared.unit.TimeUnit.TheVariants.{Second}
 
--- A property holds for `b` exactly if it holds for `d`, if it holds for `true` exactly if it holds for `false` whenever
--- `b` and `d` differ.
+-- If `b` and `d` are equal, or if the property holds for both values of Bool or for neither, it holds for `b` exactly
+-- if it holds for `d`.
 either_way : (P : Bool → Type 0) (b d : Bool) → (beq b d ≡ false → (P true ↔ P false)) → (P b ↔ P d)
 either_way P true true ways = (λ h. h, λ h. h)
 either_way P true false ways = ways refl

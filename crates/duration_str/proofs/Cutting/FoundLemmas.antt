@@ -51,7 +51,7 @@ tokens_later : (o : Options) (by at : ℕ) (text : List ℕ)
 tokens_later o by at [] = refl
 tokens_later o by at (c ∷ text) = search (arith, cases_Bool, join_later, tokens_later o by (at + width c) text)
 
--- Among tokens that start later, the same token is found at a place as much later.
+-- If all tokens start `by` bytes later, a token that was found at a place is found `by` bytes after that place.
 found_later : (by place : ℕ) (tokens : List Token)
     → token_at (by + place) (map (later_token by) tokens) ≡ option_map (later_token by) (token_at place tokens)
 found_later by place [] = refl
