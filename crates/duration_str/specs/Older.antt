@@ -59,7 +59,7 @@ pub record WasRead (o : Options) (text : Characters) (nanos : ℕ) : Type 0 wher
   pub value : value_of (older_terms o lexemes) ≡ Some nanos
 
 -- the fault of these terms. Under `no_calc` it is the first fault in adding them one by one. Otherwise it is the fault
--- of the first term, or, if there is none, that of the evaluation
+-- of the first term, or, if there is none, the fault of the evaluation
 abbrev pub sentence_fault : Bool → List Term → Option Cause
 sentence_fault no_calc terms =
     if no_calc then running_fault [] terms else or_else (first_fault terms) (evaluation_fault terms)

@@ -57,15 +57,15 @@ running_fault before (t ∷ terms) =
     (or_else (unless (fits (sum_of (before ++ t ∷ []))) (Overflow None))
     (running_fault (before ++ t ∷ []) terms))
 
--- the fault that comes before a syntax fault: that of the first term if it is complete, or under `no_calc` the first
--- fault in adding all complete terms
+-- the fault that comes before a syntax fault. It is the fault of the first term if that term is complete, or under
+-- `no_calc` the first fault in adding all complete terms
 abbrev pub early_fault : Option TimeUnit → Bool → List Terminal → List Terminal → Option Cause
 early_fault default_unit no_calc front rest =
     if no_calc then running_fault [] (complete_terms default_unit front rest)
     else first_fault (complete_terms default_unit front rest)
 
--- the fault that comes after a syntax fault: that of the evaluation. Under `no_calc` there is none, since each fault
--- comes early
+-- the fault that comes after a syntax fault. It is the fault of the evaluation. Under `no_calc` there is none, since
+-- each fault comes early
 abbrev pub late_fault : Option TimeUnit → Bool → List Terminal → Option Cause
 late_fault default_unit no_calc terminals =
     if no_calc then None else evaluation_fault (terms_of default_unit terminals)

@@ -120,8 +120,8 @@ fault_of_terms op before (t ∷ later) =
     (or_else (unless (fits (later_total op (before ++ t ∷ []))) (Overflow None))
     (fault_of_terms op (before ++ t ∷ []) later)))
 
--- the fault of a sentence whose first term has no fault: that of the later terms, or otherwise that of the step with
--- the first term
+-- the fault of a sentence whose first term has no fault. It is the fault of the later terms, or, if there is none, the
+-- fault of the step that combines the first term with them
 abbrev pub evaluation_fault : List Term → Option Cause
 evaluation_fault (t ∷ u ∷ later) =
     or_else (fault_of_terms u.operator [] (u ∷ later))

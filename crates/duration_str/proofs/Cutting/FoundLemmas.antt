@@ -45,7 +45,7 @@ join_later : (by at c : ℕ) (tokens : List Token)
     ≡ map (later_token by) (with_first_character at c tokens)
 join_later by at c tokens = search rules
 
--- If a text starts later, its tokens start as much later.
+-- If a text starts `by` bytes later, its tokens start `by` bytes later.
 tokens_later : (o : Options) (by at : ℕ) (text : List ℕ)
     → tokens_from o (by + at) text ≡ map (later_token by) (tokens_from o at text)
 tokens_later o by at [] = refl

@@ -103,7 +103,7 @@ fault_placed default_unit {c} o bs utf8 e =
     (refused_stands (IsCharBoundary bs) default_unit o (chars bs) c ((answer_is_reading_holds.refused default_unit o (chars bs) c).0 e)
     (λ n. starts_placed o bs n utf8))
 
--- There are at most as many characters before an earlier place.
+-- Before an earlier place there are at most as many characters as before a later place.
 pub chars_before : (bs : List ℕ) (place at : ℕ) → IsUtf8 bs → IsCharBoundary bs place → place ≤ at
     → length (chars (take place bs)) ≤ length (chars (take at bs))
 chars_before bs place at utf8 boundary order =
