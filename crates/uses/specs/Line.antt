@@ -11,8 +11,8 @@ abbrev pub IsWithoutLineFeed : List ℕ → List ℕ → Type 0
 IsWithoutLineFeed line text =
     (line ≡ with_line_feed text) ⊎ ((text ≡ line) × ((front : List ℕ) → line ≢ with_line_feed front))
 
--- Under every choice of options, the new text is read as the value of the old one. If the old text is an expression and
--- is refused, the new one is refused for the same cause.
+-- Under every choice of options, the new text is read as the same value as the old one. If the old text is an
+-- expression and is refused, the new one is refused for the same cause.
 pub record IsReadAsBefore (old new : List ℕ) : Type 0 where
   pub value : (o : Options) (nanos : ℕ) → IsRead o old nanos → IsRead o new nanos
   pub cause : (o : Options) (lexemes : List (List ℕ)) (cause : Cause) → IsSentenceOf o lexemes old

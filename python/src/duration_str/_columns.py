@@ -86,7 +86,7 @@ def parse_many(
 
     With `errors="coerce"` it returns two arrays. The first has the values, and
     0 for each text that is refused and each value that is not a str. The
-    second has the positions of those.
+    second has the positions of these zeros.
 
     >>> duration_str.parse_many(["1s", "2m"])
     array('Q', [1000000000, 120000000000])

@@ -314,9 +314,9 @@ fn is_near(near: &[u8; 9], word: &str) -> bool {
     word.as_bytes().eq_ignore_ascii_case(near.trim_ascii_end())
 }
 
-/// The words that people write for a unit but that aren't read, each with the name to write instead. Both are filled up
-/// with spaces to a fixed length, since string slices have addresses, which would make a program larger. The words
-/// after `micros` have a Greek mu.
+/// The words that people write for a unit but that aren't read, each with the name to write instead. Words and
+/// names are filled up with spaces to a fixed length, since the addresses in string slices would make a program larger.
+/// The words after `micros` have a Greek mu.
 static NEAR_WORDS: [([u8; 9], [u8; 3]); 28] = [
     (*b"usecs    ", *b"us "),
     (*b"useconds ", *b"us "),
