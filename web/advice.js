@@ -66,8 +66,8 @@ export function offersFor(text, options) {
     return readings.flatMap(({ text: each }) => offer(complete(each, options), options));
 }
 
-/** The range of the text that the fault is about, as two indexes, in a list. The list is empty if
- * the fault has no place. */
+/** A list with one range, `{ from, to }`: the part of the text that the fault is about. The list is
+ * empty if the fault has no place. */
 export function markedParts({ words, start, fault }, options) {
     if (!fault || fault.index === null) return [];
     const { code, index, found } = fault;

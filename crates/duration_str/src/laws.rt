@@ -51,8 +51,8 @@ pub fn sum_of_texts()
     ensures { SumOfTexts }
 {}
 
-/// If two sums have the same values of terms, each equally often, either both are accepted and have the same value, or
-/// neither is accepted. So `1ns+30s` and `30s+1ns` are both 30,000,000,001 nanoseconds.
+/// If the terms of two sums have the same values, maybe in another order, either both sums are accepted and have the
+/// same value, or neither is accepted. So `1ns+30s` and `30s+1ns` are both 30,000,000,001 nanoseconds.
 #[tactic(auto, using(crate::proofs::LawProofs::Reorder::reorder_holds))]
 pub fn reorder()
     ensures { Reorder }

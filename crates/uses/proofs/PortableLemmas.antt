@@ -29,7 +29,8 @@ module _ (o p : Options) (text : List ℕ) (h : IsTrue (list_all (is_unaffected 
   no_chinese : beq o.cn_unit p.cn_unit ≡ false → HasNoChinese text
   no_chinese differ = search (rules, all_weaker, last_passes)
 
-  -- First `lowercase` and then `cn_unit` is changed, each if the two choices differ in it.
+  -- Goes from the options `o` to the options `p`. If they differ in `lowercase`, that is changed first. If they differ
+  -- in `cn_unit`, that is changed next.
   others_changed : (P : Options → Type 0)
       → ((q : Options) → HasNoCapital text → (P (record q { lowercase = true }) ↔ P (record q { lowercase = false })))
       → ((q : Options) → HasNoChinese text → (P (record q { cn_unit = true }) ↔ P (record q { cn_unit = false })))
