@@ -1,6 +1,6 @@
-// Assertions with a message, and questions about what calls answer and print. They are functions so
-// that they are proved once, and not again in each test.
-use duration_str::Fault;
+// Assertions with a message, and questions about what calls answer and print. They are functions
+// so that they are proved once, and not again in each test.
+use duration_str::{Fault, HumanFormat};
 use std::alloc::{AllocError, Allocator};
 use std::fmt::{Debug, Display};
 use std::process::Abort;
@@ -27,6 +27,18 @@ pub fn prints<T: Display, A: Allocator>(
     text: &str,
 ) -> Result<bool, AllocError> {
     Ok(value.to_string(alloc)?.as_str() == text)
+}
+
+/// Whether the duration is not negative and prints this text, into a string.
+pub fn is_human_format<T: HumanFormat, A: Allocator>(
+    alloc: A,
+    value: &T,
+    text: &str,
+) -> Result<bool, AllocError> {
+    if !value.is_printable() {
+        return Ok(false);
+    }
+    Ok(value.human_format(alloc)?.as_str() == text)
 }
 
 /// Whether the answer is this value.

@@ -1,9 +1,9 @@
 // Printed texts.
-use crate::assertions::{equals, holds_in_memory};
+use crate::assertions::{equals, holds_in_memory, is_human_format};
 use duration_str::{HumanFormat, MAX_PRINTED_LEN, write_human};
 use jiff::SignedDuration;
 use refusing::Refusing;
-use std::alloc::{AllocError, Allocator, Global};
+use std::alloc::{AllocError, Global};
 use std::time::Duration;
 
 const LONGEST_TEXT: &str = "100000000000y 3q 2mon 3w 6d 23h 59min 59s 999ms 999µs 999ns";
@@ -13,21 +13,9 @@ fn longest() -> Duration {
     Duration::new(3_153_600_000_031_190_399, 999_999_999)
 }
 
-/// Whether the value is not negative and prints as this text, into a string.
-fn prints<T: HumanFormat, A: Allocator>(
-    value: &T,
-    alloc: A,
-    text: &str,
-) -> Result<bool, AllocError> {
-    if !value.is_printable() {
-        return Ok(false);
-    }
-    Ok(value.human_format(alloc)?.as_str() == text)
-}
-
 /// Whether the duration prints as this text, into a buffer and into a string.
 fn is_printed(alloc: Global, d: Duration, text: &str) -> Result<bool, AllocError> {
-    Ok(write_human(&d, &mut [0xff; 64]) == text && prints(&d, alloc, text)?)
+    Ok(write_human(&d, &mut [0xff; 64]) == text && is_human_format(alloc, &d, text)?)
 }
 
 #[test]
@@ -54,7 +42,7 @@ fn prints_alike(alloc: Global, nanos: u64) -> Result<bool, AllocError> {
     let signed = SignedDuration::from_nanos_i128(i128::from(nanos));
     let mut buffer = [0; 64];
     let text = write_human(&plain, &mut buffer);
-    Ok(prints(&plain, alloc, text)? && prints(&signed, alloc, text)?)
+    Ok(is_human_format(alloc, &plain, text)? && is_human_format(alloc, &signed, text)?)
 }
 
 #[test]
@@ -73,15 +61,15 @@ fn requests_until<T: HumanFormat>(
     refused: u64,
 ) -> Option<u64> {
     let heap = Refusing::nth(alloc, refused);
-    let is_right = match prints(value, &heap, text) {
+    let is_right = match is_human_format(&heap, value, text) {
         Ok(is_text) => is_text && heap.made() < refused,
         Err(AllocError) => heap.made() == refused,
     };
     is_right.then_some(heap.made())
 }
 
-/// How many requests for memory it takes to print the value as this text. `None` if it prints otherwise, or if one of
-/// them is refused and the answer is not that, at once.
+/// How many requests for memory it takes to print the value as this text. `None` if it prints
+/// otherwise, or if one of them is refused and the answer is not that, at once.
 fn requests<T: HumanFormat>(alloc: Global, value: &T, text: &str) -> Option<u64> {
     for refused in 1..100u64 {
         let made = requests_until(alloc, value, text, refused);

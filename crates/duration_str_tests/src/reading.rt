@@ -1,8 +1,9 @@
-// What texts are read as: each by every call that reads under its options, and printed again where that is told.
-use crate::assertions::{holds, holds_in_memory, is_value};
+// What texts are read as: each by every call that reads under its options, and printed again where
+// that is told.
+use crate::assertions::{holds, holds_in_memory, is_human_format, is_value};
 use crate::vectors::{CN_UNIT, LOWERCASE, NO_CALC, OFF};
 use duration_str::{
-    Cause, HumanFormat, Options, TimeUnit, parse, parse_chrono, parse_looked, parse_std,
+    Cause, Fault, HumanFormat, Options, TimeUnit, parse, parse_chrono, parse_looked, parse_std,
     parse_time, parse_with, parse_with_default_unit, parse_with_units, write_human,
 };
 use jiff::SignedDuration;
@@ -180,32 +181,41 @@ fn counts_numbers_in_the_default_unit(rt: HostRuntime) {
     }
 }
 
-/// Whether the value is not negative and prints so.
-fn is_printed<T: HumanFormat>(alloc: Global, value: &T, printed: &str) -> Result<bool, AllocError> {
-    if !value.is_printable() {
-        return Ok(false);
+/// Whether the answer is a duration that prints so into a string.
+fn reads_and_prints<T: Copy + HumanFormat>(
+    alloc: Global,
+    answer: Result<T, Fault<'_>>,
+    printed: &str,
+) -> Result<bool, AllocError> {
+    match answer {
+        Ok(value) => is_human_format(alloc, &value, printed),
+        Err(_) => Ok(false),
     }
-    Ok(value.human_format(alloc)?.as_str() == printed)
 }
 
-/// Whether the text is read as durations, signed and not, that print so into strings and into a buffer.
-fn prints(alloc: Global, text: &str, printed: &str) -> Result<bool, AllocError> {
-    let (Ok(plain), Ok(signed), Ok(other)) = (parse(text), parse_chrono(text), parse_time(text))
-    else {
-        return Ok(false);
-    };
+/// Whether the text is read as durations, signed and not, that print so into strings.
+fn prints_into_strings(alloc: Global, text: &str, printed: &str) -> Result<bool, AllocError> {
     Ok(
-        write_human(&plain, &mut [0xff; 64]) == printed
-            && is_printed(alloc, &plain, printed)?
-            && is_printed(alloc, &signed, printed)?
-            && is_printed(alloc, &other, printed)?,
+        reads_and_prints(alloc, parse(text), printed)?
+            && reads_and_prints(alloc, parse_chrono(text), printed)?
+            && reads_and_prints(alloc, parse_time(text), printed)?,
     )
+}
+
+/// Whether the text is read as a duration that prints so into a buffer.
+fn prints_into_a_buffer(text: &str, printed: &str) -> bool {
+    match parse(text) {
+        Ok(d) => write_human(&d, &mut [0xff; 64]) == printed,
+        Err(_) => false,
+    }
 }
 
 #[test]
 fn prints_what_is_read(rt: HostRuntime) {
     for &(text, printed) in &PRINTED {
-        holds_in_memory(&rt, text, prints(rt.alloc(), text, printed));
+        let answer = prints_into_strings(rt.alloc(), text, printed);
+        holds_in_memory(&rt, text, answer);
+        holds(&rt, text, prints_into_a_buffer(text, printed));
         holds(&rt, text, parse(printed) == parse(text));
     }
 }

@@ -3,7 +3,7 @@ ghost use Rattle.std.specs.Option.{ForSome};
 ghost use Rattle.std.specs.Str.{IsCharBoundary};
 ghost use Rattle.duration_str.specs.Faults.{place_of};
 
-use crate::assertions::{holds, holds_in_memory, prints};
+use crate::assertions::{holds, holds_in_memory, is_human_format, prints};
 use crate::vectors::{AFTER_NUMBER, syntax};
 use duration_str::{
     Cause, Fault, HumanFormat, after_naive_date, after_naive_date_time, before_naive_date,
@@ -12,7 +12,6 @@ use duration_str::{
 use jiff::civil::{Date, DateTime};
 use jiff::tz::Offset;
 use jiff::{SignedDuration, Timestamp};
-use std::alloc::{AllocError, Global};
 use std::test::Fail;
 use std::time::Duration;
 
@@ -51,15 +50,11 @@ fn comes_from_nowhere(moment: Timestamp, fault: Fault<'_>) -> bool {
         && before_naive_date(moment, fault.text) == Err(fault)
 }
 
-/// Whether the longest signed duration prints so.
-fn prints_the_longest(alloc: Global) -> Result<bool, AllocError> {
-    let longest = SignedDuration::MAX.human_format(alloc)?;
-    Ok(longest.as_str() == "292471208677y 2q 1w 6d 15h 30min 7s 999ms 999µs 999ns")
-}
-
 #[test]
 fn prints_signed_durations(rt: HostRuntime) {
-    holds_in_memory(&rt, "longest", prints_the_longest(rt.alloc()));
+    let longest = "292471208677y 2q 1w 6d 15h 30min 7s 999ms 999µs 999ns";
+    let is_printed = is_human_format(rt.alloc(), &SignedDuration::MAX, longest);
+    holds_in_memory(&rt, longest, is_printed);
     let negative = SignedDuration::from_nanos(-1);
     assert!(rt; SignedDuration::ZERO.is_printable() && !negative.is_printable());
     assert!(rt; !SignedDuration::MIN.is_printable());
