@@ -1,6 +1,6 @@
 // Assertions with a message, and questions about what calls answer and print. They are functions
 // so that they are proved once, and not again in each test.
-use duration_str::{Fault, HumanFormat};
+use duration_str::{Fault, HumanFormat, Options};
 use std::alloc::{AllocError, Allocator};
 use std::fmt::{Debug, Display};
 use std::process::Abort;
@@ -54,5 +54,13 @@ pub fn is_fault<T: Copy>(answer: Result<T, Fault<'_>>, wanted: Fault<'_>) -> boo
     match answer {
         Ok(_) => false,
         Err(fault) => fault == wanted,
+    }
+}
+
+/// Whether the answer is a fault with this token at its place.
+pub fn is_fault_at<T: Copy>(answer: Result<T, Fault<'_>>, o: Options, token: &str) -> bool {
+    match answer {
+        Ok(_) => false,
+        Err(fault) => fault.found(o) == Some(token),
     }
 }

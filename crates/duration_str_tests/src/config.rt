@@ -3,7 +3,7 @@ ghost use Rattle.std.specs.Option.{ForSome};
 ghost use Rattle.std.specs.Str.{IsCharBoundary};
 ghost use Rattle.duration_str.specs.Faults.{place_of};
 
-use crate::assertions::{holds, holds_in_memory, is_fault, is_value, prints};
+use crate::assertions::{holds, holds_in_memory, is_fault, is_fault_at, is_value, prints};
 use crate::vectors::{AFTER_NUMBER, OFF, START, syntax};
 use duration_str::{
     Cause, Fault, deserialize_duration, deserialize_duration_chrono, deserialize_duration_time,
@@ -16,7 +16,7 @@ use std::alloc::{AllocError, Global};
 use std::time::Duration;
 
 /// Whether each call reads the required value as this many seconds.
-fn is_required(value: &Value, secs: u32) -> bool {
+pub fn is_required(value: &Value, secs: u32) -> bool {
     let plain = Duration::from_secs(u64::from(secs));
     let signed = SignedDuration::from_secs(i64::from(secs));
     is_value(deserialize_duration::<Duration>(value), plain)
@@ -34,7 +34,7 @@ fn is_refused(value: &Value, fault: Fault<'_>) -> bool {
 }
 
 /// Whether each call reads the optional value as this many seconds, or as `None`.
-fn is_optional(value: &Value, secs: Option<u32>) -> bool {
+pub fn is_optional(value: &Value, secs: Option<u32>) -> bool {
     let (plain, signed) = match secs {
         Some(secs) => (
             Some(Duration::from_secs(u64::from(secs))),
@@ -88,30 +88,28 @@ fn reads_texts(rt: HostRuntime) {
     }
 }
 
-/// Whether the empty text is refused as a required value and is `None` as an optional one.
-fn takes_the_empty_text_for_none(alloc: Global) -> Result<bool, AllocError> {
-    let empty = json!(in alloc; "")?;
-    let fault = Fault {
-        text: "",
-        cause: Cause::Empty,
-    };
-    Ok(is_optional(&empty, None) && is_refused(&empty, fault))
+/// Whether the text is `None` as an optional value, and refused for this cause as a required one.
+fn is_taken_for_none(alloc: Global, text: &str, cause: Cause) -> Result<bool, AllocError>
+    requires { ForSome (place_of cause) (IsCharBoundary text.now) }
+{
+    let value = json!(in alloc; text)?;
+    Ok(is_optional(&value, None) && is_refused(&value, Fault { text, cause }))
 }
 
 /// Whether a field that is missing is `None`.
 fn takes_a_missing_field_for_none(alloc: Global) -> Result<bool, AllocError> {
     let config = json!(in alloc; {"timeout": "30s"})?;
-    let missing = match config.get("interval") {
-        Some(value) => deserialize_option_duration(value),
-        None => Ok(None),
-    };
-    Ok(missing == Ok(None))
+    Ok(match config.get("interval") {
+        Some(value) => is_value(deserialize_option_duration(value), None),
+        None => true,
+    })
 }
 
 #[test]
 fn takes_null_and_the_empty_text_for_none(rt: HostRuntime) {
     assert!(rt; is_optional(&Value::Null, None));
-    holds_in_memory(&rt, "empty", takes_the_empty_text_for_none(rt.alloc()));
+    let answer = is_taken_for_none(rt.alloc(), "", Cause::Empty);
+    holds_in_memory(&rt, "empty", answer);
     holds_in_memory(&rt, "missing", takes_a_missing_field_for_none(rt.alloc()));
 }
 
@@ -137,18 +135,11 @@ fn hands_on_the_fault_of_a_text(rt: HostRuntime) {
     holds_in_memory(&rt, "580y*2", is_refused_text(alloc, "580y*2", overflow));
 }
 
-/// Whether the token at the place of the value's fault is this one.
-fn has_token(value: &Value, token: &str) -> bool {
-    match deserialize_duration::<Duration>(value) {
-        Ok(_) => false,
-        Err(fault) => fault.found(OFF) == Some(token),
-    }
-}
-
 /// Whether the token at the place of the fault of the text, as a value, is this one.
 fn has_token_in_a_value(alloc: Global, text: &str, token: &str) -> Result<bool, AllocError> {
     let value = json!(in alloc; text)?;
-    Ok(has_token(&value, token))
+    let answer = deserialize_duration::<Duration>(&value);
+    Ok(is_fault_at(answer, OFF, token))
 }
 
 #[test]

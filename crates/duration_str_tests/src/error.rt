@@ -11,17 +11,12 @@ use serde_json::{Value, json};
 use std::alloc::{AllocError, Allocator, Global};
 use std::time::Duration;
 
-/// Whether the error prints this line, and owns it unless it is an overflow.
-fn has_line<A: Allocator>(
-    alloc: Global,
-    error: &DError<A>,
-    line: &str,
-) -> Result<bool, AllocError> {
-    let is_owned = match error {
+/// Whether the error owns this line, or is an overflow.
+fn owns<A: Allocator>(error: &DError<A>, line: &str) -> bool {
+    match error {
         DError::ParseError(text) => text.as_str() == line,
         DError::OverflowError => true,
-    };
-    Ok(is_owned && prints(alloc, error, line)?)
+    }
 }
 
 /// How many requests for memory the fault's error makes if this one is refused. `None` if its line
@@ -34,7 +29,7 @@ fn requests(
 ) -> Result<Option<u64>, AllocError> {
     let heap = Refusing::nth(alloc, refused);
     let is_right = match fault.to_derror(&heap) {
-        Ok(error) => heap.made() < refused && has_line(alloc, &error, line)?,
+        Ok(error) => { heap.made() < refused && owns(&error, line) && prints(alloc, &error, line)? }
         Err(AllocError) => heap.made() == refused,
     };
     Ok(is_right.then_some(heap.made()))

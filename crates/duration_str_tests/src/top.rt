@@ -15,9 +15,13 @@ use jiff::{SignedDuration, Timestamp};
 use std::test::Fail;
 use std::time::Duration;
 
-/// The instant of midnight in UTC.
-fn midnight(day: Date) -> Result<Timestamp, jiff::Error> {
-    Offset::UTC.to_timestamp(day.at(0, 0, 0, 0))
+/// A day by its year, month and day.
+type Day = (i16, i8, i8);
+
+/// The day's midnight in UTC, as an instant and as a date and time.
+fn midnight((year, month, day): Day) -> Result<(Timestamp, DateTime), jiff::Error> {
+    let start = Date::new(year, month, day)?.at(0, 0, 0, 0);
+    Ok((Offset::UTC.to_timestamp(start)?, start))
 }
 
 /// The fault with which the text is refused.
@@ -28,12 +32,12 @@ fn fault<'a>(text: &'a str, cause: Cause) -> Fault<'a>
 }
 
 /// Whether the moment and the value of the text after it make this date and time.
-fn leads_to(moment: Timestamp, text: &str, at: DateTime) -> bool {
+pub fn leads_to(moment: Timestamp, text: &str, at: DateTime) -> bool {
     after_naive_date_time(moment, text) == Ok(at) && after_naive_date(moment, text) == Ok(at.date())
 }
 
 /// Whether the moment and the value of the text before it make this date and time.
-fn comes_from(moment: Timestamp, text: &str, at: DateTime) -> bool {
+pub fn comes_from(moment: Timestamp, text: &str, at: DateTime) -> bool {
     before_naive_date_time(moment, text) == Ok(at)
         && before_naive_date(moment, text) == Ok(at.date())
 }
@@ -60,21 +64,10 @@ fn prints_signed_durations(rt: HostRuntime) {
     assert!(rt; !SignedDuration::MIN.is_printable());
 }
 
-/// Whether the text leads from the first day to the last, and back.
-fn lies_between(first: Date, text: &str, last: Date) -> Result<bool, jiff::Error> {
-    let is_there = leads_to(midnight(first)?, text, last.at(0, 0, 0, 0));
-    let is_back = comes_from(midnight(last)?, text, first.at(0, 0, 0, 0));
-    Ok(is_there && is_back)
-}
-
-/// A day by its year, month and day.
-type Day = (i16, i8, i8);
-
-/// Whether the text leads from midnight of one day to midnight of the other, and back.
-fn leads_there_and_back(one: Day, text: &str, other: Day) -> Result<bool, jiff::Error> {
-    let first = Date::new(one.0, one.1, one.2)?;
-    let last = Date::new(other.0, other.1, other.2)?;
-    lies_between(first, text, last)
+/// Whether the text leads from midnight of the first day to midnight of the last, and back.
+fn leads_there_and_back(first: Day, text: &str, last: Day) -> Result<bool, jiff::Error> {
+    let ((start, first), (end, last)) = (midnight(first)?, midnight(last)?);
+    Ok(leads_to(start, text, last) && comes_from(end, text, first))
 }
 
 #[test]
@@ -96,11 +89,11 @@ fn goes_back_and_forth_by_days(rt: HostRuntime) -> Result<(), Fail> {
 
 #[test]
 fn counts_nanoseconds_before_1970(rt: HostRuntime) -> Result<(), Fail> {
-    let last_day = Date::new(1969, 12, 31)?;
-    let last = last_day.at(23, 59, 59, 999_999_999);
+    let (start, first) = midnight((1969, 12, 31))?;
+    let last = first.date().at(23, 59, 59, 999_999_999);
     assert!(rt; comes_from(Timestamp::UNIX_EPOCH, "1ns", last));
-    let noon = last_day.at(12, 0, 0, 500_000_000);
-    assert!(rt; leads_to(midnight(last_day)?, "12h 500ms", noon));
+    let noon = first.date().at(12, 0, 0, 500_000_000);
+    assert!(rt; leads_to(start, "12h 500ms", noon));
     Ok(())
 }
 

@@ -1,5 +1,5 @@
 // The names and lengths of units, operators, and tokens.
-use crate::assertions::{equals, holds, holds_in_memory, prints};
+use crate::assertions::{holds, holds_in_memory, prints};
 use crate::vectors::OFF;
 use duration_str::TimeUnit::{
     Day, Hour, MicroSecond, MilliSecond, Minute, Month, NanoSecond, Quarter, Second, Week, Year,
@@ -45,7 +45,7 @@ fn pads_units_and_operators(rt: HostRuntime) {
 #[test]
 fn knows_and_prints_operators(rt: HostRuntime) {
     for &(c, operator, sign) in &[('+', CondUnit::Plus, "+"), ('*', CondUnit::Star, "*")] {
-        equals(&rt, sign, &CondUnit::from_char(c), &Some(operator));
+        holds(&rt, sign, CondUnit::from_char(c) == Some(operator));
         holds_in_memory(&rt, sign, prints(rt.alloc(), &operator, sign));
     }
     for &c in &['-', '/', '1', 'm', ' ', '\u{ff0b}'] {
@@ -71,10 +71,10 @@ static WORDS: [(&str, TimeUnit); 11] = [
 #[test]
 fn knows_the_words(rt: HostRuntime) {
     for &(word, unit) in &WORDS {
-        equals(&rt, word, &TimeUnit::from_word(word, OFF), &Some(unit));
+        holds(&rt, word, TimeUnit::from_word(word, OFF) == Some(unit));
     }
     for &word in &["nys", "", "mxyz", "\u{b5}"] {
-        equals(&rt, word, &TimeUnit::from_word(word, OFF), &None);
+        holds(&rt, word, TimeUnit::from_word(word, OFF).is_none());
     }
 }
 
@@ -82,14 +82,10 @@ fn knows_the_words(rt: HostRuntime) {
 fn cuts_into_tokens(rt: HostRuntime) {
     let mut tokens = Tokens::new("m123", OFF);
     for &(start, text, what) in &[(0, "m", What::Word(Some(Minute))), (1, "123", What::Number)] {
-        equals(
-            &rt,
-            text,
-            &tokens.next(),
-            &Some(Token { start, text, what }),
-        );
+        let token = Token { start, text, what };
+        holds(&rt, text, tokens.next() == Some(token));
     }
-    equals(&rt, "m123", &tokens.next(), &None);
+    holds(&rt, "m123", tokens.next().is_none());
 }
 
 /// Whether so many characters are looked at until the last token is given, and to read the text.
