@@ -1,7 +1,7 @@
 // What `Debug` prints of each public type.
 use crate::assertions::holds_in_memory;
 use crate::refusal::refusal;
-use crate::vectors::{AFTER_NUMBER, OFF, syntax};
+use crate::vectors::{AFTER_NUMBER, OFF};
 use duration_str::{Cause, CondUnit, DError, Fault, TimeUnit, Tokens};
 use std::alloc::{AllocError, Global};
 use std::fmt::Debug;
@@ -21,18 +21,24 @@ fn shows_options_units_and_operators(rt: HostRuntime) {
     holds_in_memory(&rt, "Star", shows(alloc, &CondUnit::Star, "Star"));
 }
 
+/// Texts with what is printed of their first token.
+static TOKENS: [(&str, &str); 5] = [
+    ("12", r#"Token { start: 0, text: "12", what: Number }"#),
+    (
+        "min",
+        r#"Token { start: 0, text: "min", what: Word(Some(Minute)) }"#,
+    ),
+    ("x", r#"Token { start: 0, text: "x", what: Word(None) }"#),
+    (
+        "+",
+        r#"Token { start: 0, text: "+", what: Operator(Plus) }"#,
+    ),
+    (" -", r#"Token { start: 1, text: "-", what: Other }"#),
+];
+
 #[test]
 fn shows_tokens(rt: HostRuntime) {
-    for &(text, wanted) in &[
-        ("12", "Token { start: 0, text: \"12\", what: Number }"),
-        (
-            "min",
-            "Token { start: 0, text: \"min\", what: Word(Some(Minute)) }",
-        ),
-        ("x", "Token { start: 0, text: \"x\", what: Word(None) }"),
-        ("+", "Token { start: 0, text: \"+\", what: Operator(Plus) }"),
-        (" -", "Token { start: 1, text: \"-\", what: Other }"),
-    ] {
+    for &(text, wanted) in &TOKENS {
         let token = Tokens::new(text, OFF).next().expect(&rt, "a token");
         holds_in_memory(&rt, wanted, shows(rt.alloc(), &token, wanted));
     }
@@ -43,26 +49,34 @@ const PLUS_THEN_STAR: Cause = Cause::Mixed {
     later: CondUnit::Star,
 };
 
+const UNIT_EXPECTED: Cause = Cause::Syntax {
+    place: 1,
+    expected: AFTER_NUMBER,
+};
+
+static CAUSES: [(Cause, &str); 7] = [
+    (
+        UNIT_EXPECTED,
+        "Syntax { place: 1, expected: Expected { \
+        number: false, unit_word: true, operator: true, text_end: true } }",
+    ),
+    (
+        Cause::NumberTooLarge { place: Some(0) },
+        "NumberTooLarge { place: Some(0) }",
+    ),
+    (Cause::Overflow { place: None }, "Overflow { place: None }"),
+    (PLUS_THEN_STAR, "Mixed { first: Plus, later: Star }"),
+    (
+        Cause::NotText { optional: true },
+        "NotText { optional: true }",
+    ),
+    (Cause::Empty, "Empty"),
+    (Cause::OutOfRange, "OutOfRange"),
+];
+
 #[test]
 fn shows_causes(rt: HostRuntime) {
-    for &(cause, wanted) in &[
-        (
-            syntax(1, AFTER_NUMBER),
-            "Syntax { place: 1, expected: Expected { number: false, unit_word: true, operator: true, text_end: true } }",
-        ),
-        (
-            Cause::NumberTooLarge { place: Some(0) },
-            "NumberTooLarge { place: Some(0) }",
-        ),
-        (Cause::Overflow { place: None }, "Overflow { place: None }"),
-        (PLUS_THEN_STAR, "Mixed { first: Plus, later: Star }"),
-        (
-            Cause::NotText { optional: true },
-            "NotText { optional: true }",
-        ),
-        (Cause::Empty, "Empty"),
-        (Cause::OutOfRange, "OutOfRange"),
-    ] {
+    for &(cause, wanted) in &CAUSES {
         holds_in_memory(&rt, wanted, shows(rt.alloc(), &cause, wanted));
     }
 }

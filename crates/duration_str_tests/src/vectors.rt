@@ -78,7 +78,7 @@ pub fn syntax(place: usize, expected: Expected) -> Cause
 
 /// The line of a syntax fault where a unit could stand.
 pub const UNITS: &str =
-    "expected [\"y\", \"q\", \"mon\", \"w\", \"d\", \"h\", \"m\", \"s\", \"ms\", \"µs\", \"us\", \"ns\"]";
+    r#"expected ["y", "q", "mon", "w", "d", "h", "m", "s", "ms", "µs", "us", "ns"]"#;
 
 /// The line where no unit could stand, but an operator could.
 pub const OPERATORS: &str = "expected ['+', '*']";
