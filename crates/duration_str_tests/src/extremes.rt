@@ -1,6 +1,7 @@
 // Long texts, look-alikes, calls that have no allocator, and a run that is refused memory.
-use crate::assertions::{equals, holds_in_memory};
+use crate::assertions::{equals, holds, holds_in_memory, is_fault_at, is_value};
 use crate::refusal::refusal;
+use crate::refusals::{is_caused, names_token};
 use crate::vectors::{
     AFTER_NUMBER, AFTER_UNIT, CN_UNIT, NUMBER, OFF, OPERATORS, START, TOO_LARGE, UNITS, syntax,
 };
@@ -36,19 +37,22 @@ fn long(alloc: Global, (head, part, times, tail): Long) -> Result<String, AllocE
 /// Whether the long text is read as so many nanoseconds.
 fn is_read(alloc: Global, pieces: Long, nanos: u64) -> Result<bool, AllocError> {
     let text = long(alloc, pieces)?;
-    Ok(parse(&text) == Ok(Duration::from_nanos(nanos)))
+    Ok(is_value(parse(&text), Duration::from_nanos(nanos)))
 }
+
+/// Long texts that are read as so many nanoseconds.
+static READ: [(Long, u64); 6] = [
+    (("", "0", 100_000, "1s"), 1_000_000_000),
+    (("", " ", 100_000, "1s"), 1_000_000_000),
+    (("1s", "\t\r\n ", 25_000, ""), 1_000_000_000),
+    (("", "1ns", 10_000, ""), 10_000),
+    (("1ns", "+1ns", 9_999, ""), 10_000),
+    (("1", "*1", 10_000, ""), 1_000_000_000),
+];
 
 #[test]
 fn reads_long_texts(rt: HostRuntime) {
-    for &(pieces, nanos) in &[
-        (("", "0", 100_000, "1s"), 1_000_000_000),
-        (("", " ", 100_000, "1s"), 1_000_000_000),
-        (("1s", "\t\r\n ", 25_000, ""), 1_000_000_000),
-        (("", "1ns", 10_000, ""), 10_000),
-        (("1ns", "+1ns", 9_999, ""), 10_000),
-        (("1", "*1", 10_000, ""), 1_000_000_000),
-    ] {
+    for &(pieces, nanos) in &READ {
         holds_in_memory(&rt, pieces.1, is_read(rt.alloc(), pieces, nanos));
     }
 }
@@ -71,23 +75,8 @@ static SYNTAX_FAULTS: [(Long, Options, usize, Expected, &str); 7] = [
     (("1s", "-", 100_000, ""), OFF, 2, AFTER_UNIT, OPERATORS),
 ];
 
-/// Whether the text is refused for this cause, and the fault prints the whole text and this line.
-fn is_refused(
-    alloc: Global,
-    text: &str,
-    o: Options,
-    cause: Cause,
-    line: &str,
-) -> Result<bool, AllocError> {
-    let Err(fault) = parse_with(text, o) else {
-        return Ok(false);
-    };
-    let shown = fault.to_string(alloc)?;
-    let is_shown = shown.starts_with(text) && shown.ends_with(line);
-    Ok(is_shown && fault.cause() == cause && fault.text() == text)
-}
-
-/// Whether the long text is refused for this cause, and its fault prints it whole and this line.
+/// Whether the long text is refused for this cause, and its fault prints it whole, a caret below
+/// the place, and this line.
 fn is_refused_long(
     alloc: Global,
     pieces: Long,
@@ -96,7 +85,8 @@ fn is_refused_long(
     line: &str,
 ) -> Result<bool, AllocError> {
     let text = long(alloc, pieces)?;
-    is_refused(alloc, &text, o, cause, line)
+    let blanks = cause.place().unwrap_or_default();
+    is_caused(alloc, (&text, o, cause), blanks, line)
 }
 
 #[test]
@@ -115,12 +105,10 @@ fn refuses_long_texts(rt: HostRuntime) {
     holds_in_memory(&rt, TOO_LARGE, answer);
 }
 
-/// Whether the token at the place of a text's fault is this one.
-fn has_token(text: &str, o: Options, token: &str) -> bool {
-    match parse_with(text, o) {
-        Ok(_) => false,
-        Err(fault) => fault.found(o) == Some(token),
-    }
+/// Whether the token at the place of the fault is all that stands after the number 1.
+fn has_one_token_after_the_number(text: &str, o: Options) -> bool {
+    let rest = text.strip_prefix("1").unwrap_or_default();
+    is_fault_at(parse_with(text, o), o, rest)
 }
 
 /// Whether the token after a number is the whole run of this part.
@@ -131,8 +119,7 @@ fn is_whole_run(
     o: Options,
 ) -> Result<bool, AllocError> {
     let text = long(alloc, ("1", part, times, ""))?;
-    let run = part.repeat(alloc, times)?;
-    Ok(has_token(&text, o, &run))
+    Ok(has_one_token_after_the_number(&text, o))
 }
 
 #[test]
@@ -142,25 +129,12 @@ fn finds_the_whole_run(rt: HostRuntime) {
     }
 }
 
-/// Whether the text is refused, and the fault prints the text and then this.
-fn shows_after_the_text(alloc: Global, text: &str, wanted: &str) -> Result<bool, AllocError> {
-    let Err(fault) = parse_with(text, OFF) else {
-        return Ok(false);
-    };
-    let shown = fault.to_string(alloc)?;
-    Ok(shown.strip_prefix(text) == Some(wanted))
-}
-
-/// Whether as many blanks stand before the caret as before the place.
-fn counts_blanks(alloc: Global) -> Result<bool, AllocError> {
-    let text = long(alloc, ("1s", " ", 100_000, "x"))?;
-    let wanted = long(alloc, ("\n", " ", 100_002, "^\nexpected ['+', '*']"))?;
-    shows_after_the_text(alloc, &text, &wanted)
-}
-
+/// As many blanks stand before the caret as characters before the place.
 #[test]
 fn counts_blanks_before_the_caret(rt: HostRuntime) {
-    holds_in_memory(&rt, "blanks", counts_blanks(rt.alloc()));
+    let (pieces, cause) = (("1s", " ", 100_000, "x"), syntax(100_002, AFTER_UNIT));
+    let answer = is_refused_long(rt.alloc(), pieces, OFF, cause, OPERATORS);
+    holds_in_memory(&rt, "blanks", answer);
 }
 
 /// Texts with the place of the syntax fault, what could stand there, and the token that does.
@@ -186,9 +160,8 @@ static LOOK_ALIKES: [(&str, usize, Expected, &str); 16] = [
 #[test]
 fn takes_look_alikes_for_what_they_are(rt: HostRuntime) {
     for &(text, place, expected, found) in &LOOK_ALIKES {
-        let fault = refusal(&rt, text, OFF);
-        equals(&rt, text, &fault.cause(), &syntax(place, expected));
-        equals(&rt, text, &fault.found(OFF), &Some(found));
+        let cause = syntax(place, expected);
+        holds(&rt, text, names_token(text, OFF, cause, found));
     }
 }
 

@@ -11,7 +11,8 @@ use duration_str::{
 use std::alloc::{AllocError, Global};
 use std::time::Duration;
 
-/// A text that is refused for its syntax: the place, the blanks before the caret, and the token at the place, if any.
+/// A text that is refused for its syntax: the place, the blanks before the caret, and the token at
+/// the place, if any.
 type Row = (&'static str, usize, usize, &'static str);
 
 /// Texts that are refused under these options where this could stand, which the last line says.
@@ -103,8 +104,8 @@ const STAR_THEN_PLUS: Cause = Cause::Mixed {
     later: CondUnit::Plus,
 };
 
-/// Texts, between bars, that are refused under these options for this cause, and the last line, which stands alone where
-/// the cause has no place.
+/// Texts, between bars, that are refused under these options for this cause, and the last line,
+/// which stands alone if the cause has no place.
 type Caused = (&'static str, Options, Cause, &'static str);
 
 static OTHERS: [Caused; 22] = [
@@ -170,57 +171,53 @@ fn points(alloc: Global, fault: Fault<'_>, blanks: usize, line: &str) -> Result<
     is_printed(alloc, fault, wanted.as_str())
 }
 
-/// Whether the text is refused at its place, where this could stand, and its fault points there.
-fn is_refused_at(
-    alloc: Global,
-    (text, place, blanks, token): Row,
-    o: Options,
-    expected: Expected,
-    line: &str,
-) -> Result<bool, AllocError> {
-    let Some(fault) = refusal(text, o, syntax(place, expected)) else {
-        return Ok(false);
+/// Whether the text is refused for this cause, and this token stands at the place, or none if it
+/// is empty.
+pub fn names_token(text: &str, o: Options, cause: Cause, token: &str) -> bool {
+    let Some(fault) = refusal(text, o, cause) else {
+        return false;
     };
-    let is_found = fault.found(o).unwrap_or_default() == token;
-    Ok(is_found && points(alloc, fault, blanks, line)?)
-}
-
-#[test]
-fn refuses_for_the_syntax(rt: HostRuntime) {
-    for &(o, expected, line, rows) in &SYNTAX {
-        for &row in rows {
-            holds_in_memory(
-                &rt,
-                row.0,
-                is_refused_at(rt.alloc(), row, o, expected, line),
-            );
-        }
+    match fault.found(o) {
+        Some(found) => found == token && !token.is_empty(),
+        None => token.is_empty(),
     }
 }
 
-/// Whether the text is refused for this cause, and prints the line, below a caret where the cause has a place.
-fn is_caused(
+/// Whether the text is refused for this cause, and its fault prints the line, below a caret after
+/// so many blanks if the cause has a place.
+pub fn is_caused(
     alloc: Global,
-    text: &str,
-    o: Options,
-    cause: Cause,
+    (text, o, cause): (&str, Options, Cause),
+    blanks: usize,
     line: &str,
 ) -> Result<bool, AllocError> {
     let Some(fault) = refusal(text, o, cause) else {
         return Ok(false);
     };
-    let is_shown = match cause.place() {
-        Some(_) => points(alloc, fault, 0, line)?,
-        None => is_printed(alloc, fault, line)?,
-    };
-    Ok(is_shown && fault.found(o).is_none())
+    match cause.place() {
+        Some(_) => points(alloc, fault, blanks, line),
+        None => is_printed(alloc, fault, line),
+    }
+}
+
+#[test]
+fn refuses_for_the_syntax(rt: HostRuntime) {
+    for &(o, expected, line, rows) in &SYNTAX {
+        for &(text, place, blanks, token) in rows {
+            let cause = syntax(place, expected);
+            holds(&rt, text, names_token(text, o, cause, token));
+            let answer = is_caused(rt.alloc(), (text, o, cause), blanks, line);
+            holds_in_memory(&rt, text, answer);
+        }
+    }
 }
 
 #[test]
 fn refuses_texts(rt: HostRuntime) {
     for &(texts, o, cause, line) in &OTHERS {
         for text in texts.split('|') {
-            holds_in_memory(&rt, text, is_caused(rt.alloc(), text, o, cause, line));
+            holds(&rt, text, names_token(text, o, cause, ""));
+            holds_in_memory(&rt, text, is_caused(rt.alloc(), (text, o, cause), 0, line));
         }
     }
 }
@@ -261,56 +258,58 @@ static SHOWN: [(&str, Options, &str, &str); 7] = [
     ("2*1h 30m", OFF, "", "sum and product mixed in \"2*1h 30m\""),
 ];
 
-/// Whether the fault's report is its line, after what stands above it.
-fn is_reported(
-    alloc: Global,
-    fault: Fault<'_>,
-    above: &str,
-    line: &str,
-) -> Result<bool, AllocError> {
-    let report = format!(in alloc; "{above}{line}")?;
-    Ok(fault.write_report(&mut [0; REPORT_BUFFER_SIZE]) == report.as_str())
-}
-
 /// Whether the text is refused with this line, and with a report that has this above it.
-fn is_shown(
-    alloc: Global,
-    text: &str,
-    o: Options,
-    above: &str,
-    line: &str,
-) -> Result<bool, AllocError> {
+fn is_shown(text: &str, o: Options, above: &str, line: &str) -> bool {
     let Err(fault) = parse_with(text, o) else {
-        return Ok(false);
+        return false;
     };
-    let is_line = fault.write_one_line(&mut [0; ONE_LINE_BUFFER_SIZE]) == line;
-    Ok(is_line && is_reported(alloc, fault, above, line)?)
+    let mut buffer = [0; REPORT_BUFFER_SIZE];
+    let report = fault.write_report(&mut buffer);
+    report.strip_prefix(above) == Some(line)
+        && fault.write_one_line(&mut [0; ONE_LINE_BUFFER_SIZE]) == line
 }
 
 #[test]
 fn writes_lines_and_reports(rt: HostRuntime) {
     for &(text, o, above, line) in &SHOWN {
-        holds_in_memory(&rt, text, is_shown(rt.alloc(), text, o, above, line));
+        holds(&rt, text, is_shown(text, o, above, line));
     }
 }
 
-/// Whether the fault prints its byte and the line.
-fn names_the_byte(alloc: Global, fault: Fault<'_>, line: &str) -> Result<bool, AllocError> {
-    let place = fault.cause().place().unwrap_or_default();
-    let wanted = format!(in alloc; "byte {place}: {line}")?;
-    is_printed(alloc, fault, wanted.as_str())
+/// Texts of several lines with the place of the syntax fault, what could stand there, and what is
+/// printed in place of the text and the caret, before the last line.
+static IN_LINES: [(&str, usize, Expected, &str, &str); 2] = [
+    ("1m\n+\nx", 5, START, "byte 5: ", NUMBER),
+    ("1\n2", 2, AFTER_NUMBER, "byte 2: ", UNITS),
+];
+
+/// Whether the text is refused for this cause, and its fault prints the line after the byte.
+fn names_the_byte(
+    alloc: Global,
+    text: &str,
+    cause: Cause,
+    byte: &str,
+    line: &str,
+) -> Result<bool, AllocError> {
+    let Some(fault) = refusal(text, OFF, cause) else {
+        return Ok(false);
+    };
+    let mut wanted = String::from_str(alloc, byte)?;
+    wanted.push_str(line)?;
+    is_printed(alloc, fault, &wanted)
 }
 
-/// Of a text of several lines the byte is printed in place of the text and the caret.
 #[test]
 fn names_the_byte_where_there_are_lines(rt: HostRuntime) {
-    let number = refusal("1m\n+\nx", OFF, syntax(5, START)).expect(&rt, "a refused text");
-    holds_in_memory(&rt, "+", names_the_byte(rt.alloc(), number, NUMBER));
-    let unit = refusal("1\n2", OFF, syntax(2, AFTER_NUMBER)).expect(&rt, "a refused text");
-    holds_in_memory(&rt, "1", names_the_byte(rt.alloc(), unit, UNITS));
+    for &(text, place, expected, byte, line) in &IN_LINES {
+        let cause = syntax(place, expected);
+        let answer = names_the_byte(rt.alloc(), text, cause, byte, line);
+        holds_in_memory(&rt, text, answer);
+    }
 }
 
-/// One nanosecond more than is read prints, and what it prints is refused under each choice of options.
+/// One nanosecond more than is read prints, and what it prints is refused under each choice of
+/// options.
 #[test]
 fn refuses_what_is_printed_at_the_limit(rt: HostRuntime) {
     let mut buffer = [0; 64];
@@ -325,19 +324,11 @@ fn refuses_what_is_printed_at_the_limit(rt: HostRuntime) {
     }
 }
 
-/// Whether the text is refused after so many blanks, and its fault points there.
-fn is_refused_after(alloc: Global, text: &str, count: usize) -> Result<bool, AllocError> {
-    match refusal(text, OFF, syntax(count, START)) {
-        Some(fault) => points(alloc, fault, count, NUMBER),
-        None => Ok(false),
-    }
-}
-
 /// Whether the fault of a text points after so many blanks.
 fn points_after(alloc: Global, count: usize) -> Result<bool, AllocError> {
     let mut text = " ".repeat(alloc, count)?;
     text.push('x')?;
-    is_refused_after(alloc, &text, count)
+    is_caused(alloc, (&text, OFF, syntax(count, START)), count, NUMBER)
 }
 
 #[test]
