@@ -2,7 +2,7 @@
 // so that they are proved once, and not again in each test.
 use duration_str::{Fault, HumanFormat, Options};
 use std::alloc::{AllocError, Allocator};
-use std::fmt::{Debug, Display};
+use std::fmt::Display;
 use std::process::Abort;
 
 /// Fails the test, which is about this text, unless the condition holds.
@@ -13,11 +13,6 @@ pub fn holds(rt: &impl Abort, about: &str, condition: bool) {
 /// Fails the test, which is about this text, unless there was memory and the condition holds.
 pub fn holds_in_memory(rt: &impl Abort, about: &str, condition: Result<bool, AllocError>) {
     assert!(rt; condition == Ok(true), "{about}");
-}
-
-/// Fails the test, which is about this text, unless the two values are equal.
-pub fn equals<T: Debug + PartialEq>(rt: &impl Abort, about: &str, value: &T, wanted: &T) {
-    assert_eq!(rt; *value, *wanted, "{about}");
 }
 
 /// Whether the value prints this text.

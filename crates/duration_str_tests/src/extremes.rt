@@ -1,22 +1,19 @@
 // Long texts, look-alikes, calls that have no allocator, and a run that is refused memory.
-use crate::assertions::{equals, holds, holds_in_memory, is_fault_at, is_value};
+use crate::assertions::{holds, holds_in_memory, is_fault_at, is_value};
+use crate::config::{is_optional, is_required};
 use crate::refusal::refusal;
 use crate::refusals::{is_caused, names_token};
+use crate::top::{comes_from, leads_to};
 use crate::vectors::{
     AFTER_NUMBER, AFTER_UNIT, CN_UNIT, NUMBER, OFF, OPERATORS, START, TOO_LARGE, UNITS, syntax,
 };
 use arrayvec::ArrayString;
-use duration_str::{
-    Cause, Expected, Fault, Options, after_naive_date, after_naive_date_time, before_naive_date,
-    before_naive_date_time, deserialize_duration, deserialize_duration_chrono,
-    deserialize_duration_time, deserialize_option_duration, deserialize_option_duration_chrono,
-    deserialize_option_duration_time, parse, parse_with, write_human,
-};
+use duration_str::{Cause, Expected, Fault, Options, parse, parse_with, write_human};
 use durstr_run::{RunFault, run};
+use jiff::Timestamp;
 use jiff::civil::Date;
-use jiff::{SignedDuration, Timestamp};
 use refusing::Refusing;
-use serde_json::{Value, json};
+use serde_json::json;
 use std::alloc::{AllocError, Global};
 use std::fmt::Write;
 use std::io;
@@ -165,78 +162,34 @@ fn takes_look_alikes_for_what_they_are(rt: HostRuntime) {
     }
 }
 
-// The functions below take no allocator, so the calls that they make have nothing to allocate from.
-
-/// Reads, and prints what was read.
-fn read_and_print_without_memory(rt: &impl Abort, text: &str, d: Duration) {
-    equals(rt, text, &parse(text), &Ok(d));
-    equals(rt, text, &write_human(&d, &mut [0; 64]), &"3min 13s 29ms");
+/// Whether the text is read as this duration, which prints so into a buffer.
+fn is_read_and_printed(text: &str, d: Duration, printed: &str) -> bool {
+    is_value(parse(text), d) && write_human(&d, &mut [0; 64]) == printed
 }
 
-/// Prints a fault.
-fn print_a_fault_without_memory(rt: &impl Abort, fault: Fault<'_>) {
+/// Whether the fault prints this into a fixed buffer.
+fn is_written(fault: Fault<'_>, wanted: &str) -> bool {
     let mut shown = ArrayString::<64>::new();
-    assert!(rt; write!(shown, "{fault}").is_ok());
-    assert!(rt; shown.as_str() == "3ms-2ms\n   ^\nexpected ['+', '*']");
+    write!(shown, "{fault}").is_ok() && shown.as_str() == wanted
 }
 
-/// Moves the first midnight of 1970 by the text, from the day before to the day after.
-fn move_without_memory(rt: &impl Abort, text: &str, before: Date, after: Date) {
-    let start = Timestamp::UNIX_EPOCH;
-    let (first, last) = (before.at(0, 0, 0, 0), after.at(0, 0, 0, 0));
-    equals(rt, text, &after_naive_date(start, text), &Ok(after));
-    equals(rt, text, &before_naive_date(start, text), &Ok(before));
-    equals(rt, text, &after_naive_date_time(start, text), &Ok(last));
-    equals(rt, text, &before_naive_date_time(start, text), &Ok(first));
-}
-
-/// Reads a value by each function for required values.
-fn configure_without_memory(rt: &impl Abort, config: &Value, secs: u32) {
-    let plain = Duration::from_secs(u64::from(secs));
-    let signed = Ok(SignedDuration::from_secs(i64::from(secs)));
-    equals(
-        rt,
-        "",
-        &deserialize_duration::<Duration>(config),
-        &Ok(plain),
-    );
-    equals(rt, "config", &deserialize_duration_chrono(config), &signed);
-    equals(rt, "config", &deserialize_duration_time(config), &signed);
-}
-
-/// Reads a value by each function for optional values.
-fn configure_options_without_memory(rt: &impl Abort, config: &Value, secs: u32) {
-    let plain = Duration::from_secs(u64::from(secs));
-    let signed = Ok(Some(SignedDuration::from_secs(i64::from(secs))));
-    equals(
-        rt,
-        "",
-        &deserialize_option_duration(config),
-        &Ok(Some(plain)),
-    );
-    equals(
-        rt,
-        "config",
-        &deserialize_option_duration_chrono(config),
-        &signed,
-    );
-    equals(
-        rt,
-        "config",
-        &deserialize_option_duration_time(config),
-        &signed,
-    );
-}
-
+/// None of the questions takes an allocator, so the calls that they make have nothing to allocate
+/// from.
 #[test]
 fn answers_without_memory(rt: HostRuntime) -> Result<(), Fail> {
     let config = json!(in rt.alloc(); "1min+30")?;
-    configure_without_memory(&rt, &config, 90);
-    configure_options_without_memory(&rt, &config, 90);
-    read_and_print_without_memory(&rt, "3m 13s 29ms", Duration::new(193, 29_000_000));
-    print_a_fault_without_memory(&rt, refusal(&rt, "3ms-2ms", OFF));
-    let (before, after) = (Date::new(1969, 7, 5)?, Date::new(1970, 6, 30)?);
-    move_without_memory(&rt, "180d", before, after);
+    holds(&rt, "required", is_required(&config, 90));
+    holds(&rt, "optional", is_optional(&config, Some(90)));
+    let (text, d) = ("3m 13s 29ms", Duration::new(193, 29_000_000));
+    holds(&rt, text, is_read_and_printed(text, d, "3min 13s 29ms"));
+    let fault = refusal(&rt, "3ms-2ms", OFF);
+    let wanted = "3ms-2ms\n   ^\nexpected ['+', '*']";
+    holds(&rt, "3ms-2ms", is_written(fault, wanted));
+    let before = Date::new(1969, 7, 5)?.at(0, 0, 0, 0);
+    let after = Date::new(1970, 6, 30)?.at(0, 0, 0, 0);
+    let start = Timestamp::UNIX_EPOCH;
+    holds(&rt, "180d", leads_to(start, "180d", after));
+    holds(&rt, "180d", comes_from(start, "180d", before));
     Ok(())
 }
 
