@@ -21,7 +21,7 @@ fn shows_options_units_and_operators(rt: HostRuntime) {
     holds_in_memory(&rt, "Star", shows(alloc, &CondUnit::Star, "Star"));
 }
 
-/// Texts with what is printed of their first token.
+/// Texts, and what `Debug` prints of their first token.
 static TOKENS: [(&str, &str); 5] = [
     ("12", r#"Token { start: 0, text: "12", what: Number }"#),
     (

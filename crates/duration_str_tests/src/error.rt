@@ -19,8 +19,8 @@ fn owns<A: Allocator>(error: &DError<A>, line: &str) -> bool {
     }
 }
 
-/// How many requests for memory the fault's error makes if this one is refused. `None` if its line
-/// is another, or if the request is refused and the answer is not that, at once.
+/// How many requests for memory it takes to make the fault's error if this request is refused.
+/// `None` if the error has another line, or if the call goes on after the refusal.
 fn requests(
     alloc: Global,
     fault: Fault<'_>,
@@ -35,8 +35,8 @@ fn requests(
     Ok(is_right.then_some(heap.made()))
 }
 
-/// Whether the fault's error has this line and makes so many requests for memory, each of which
-/// can be refused.
+/// Whether the fault's error has this line, and it takes `count` requests for memory to make it,
+/// each of which can be refused.
 fn takes(alloc: Global, fault: Fault<'_>, line: &str, count: u64) -> Result<bool, AllocError> {
     for refused in 1..100u64 {
         let made = requests(alloc, fault, line, refused)?;

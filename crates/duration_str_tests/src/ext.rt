@@ -36,7 +36,8 @@ fn prints_what_no_text_is_read_as(rt: HostRuntime) {
     assert!(rt; LONGEST_TEXT.len() == MAX_PRINTED_LEN);
 }
 
-/// Whether so many nanoseconds print into strings, signed and not, as into a buffer.
+/// Whether this many nanoseconds, as a duration with and without a sign, print into a string what
+/// they print into a buffer.
 fn prints_alike(alloc: Global, nanos: u64) -> Result<bool, AllocError> {
     let plain = Duration::from_nanos(nanos);
     let signed = SignedDuration::from_nanos_i128(i128::from(nanos));
@@ -52,8 +53,8 @@ fn prints_all_short_durations_alike(rt: HostRuntime) {
     }
 }
 
-/// How many requests for memory it takes to print the value as this text if this one is refused.
-/// `None` if it prints otherwise, or if the request is refused and the answer is not that, at once.
+/// How many requests for memory it takes to print the value as this text if this request is
+/// refused. `None` if the value prints another text, or if the call goes on after the refusal.
 fn requests_until<T: HumanFormat>(
     alloc: Global,
     value: &T,
@@ -68,8 +69,8 @@ fn requests_until<T: HumanFormat>(
     is_right.then_some(heap.made())
 }
 
-/// How many requests for memory it takes to print the value as this text. `None` if it prints
-/// otherwise, or if one of them is refused and the answer is not that, at once.
+/// How many requests for memory it takes to print the value as this text. `None` if the value
+/// prints another text, or if the call goes on after one of them is refused.
 fn requests<T: HumanFormat>(alloc: Global, value: &T, text: &str) -> Option<u64> {
     for refused in 1..100u64 {
         let made = requests_until(alloc, value, text, refused);

@@ -30,13 +30,13 @@ fn long(alloc: Global, (head, part, times, tail): Long) -> Result<String, AllocE
     format!(in alloc; "{head}{run}{tail}")
 }
 
-/// Whether the long text is read as so many nanoseconds.
+/// Whether the long text is read as this many nanoseconds.
 fn is_read(alloc: Global, pieces: Long, nanos: u64) -> Result<bool, AllocError> {
     let text = long(alloc, pieces)?;
     Ok(is_value(parse(&text), Duration::from_nanos(nanos)))
 }
 
-/// Long texts that are read as so many nanoseconds.
+/// Long texts, and the nanoseconds that they are read as.
 static READ: [(Long, u64); 6] = [
     (("", "0", 100_000, "1s"), 1_000_000_000),
     (("", " ", 100_000, "1s"), 1_000_000_000),
@@ -53,8 +53,8 @@ fn reads_long_texts(rt: HostRuntime) {
     }
 }
 
-/// A long text, and the options; then the place of the syntax fault, what could stand there, and
-/// the line.
+/// Long texts with their options, the place of the syntax fault, what could stand there, and the
+/// message's last line.
 static SYNTAX_FAULTS: [(Long, Options, usize, Expected, &str); 7] = [
     (("", "9", 100_000, " 2"), OFF, 100_001, AFTER_NUMBER, UNITS),
     (
@@ -71,8 +71,8 @@ static SYNTAX_FAULTS: [(Long, Options, usize, Expected, &str); 7] = [
     (("1s", "-", 100_000, ""), OFF, 2, AFTER_UNIT, OPERATORS),
 ];
 
-/// Whether the long text is refused for this cause, and its fault prints it whole, a caret below
-/// the place, and this line.
+/// Whether the long text is refused for this cause, and its fault prints the whole text, a caret
+/// below the place, and this line.
 fn is_refused_long(
     alloc: Global,
     pieces: Long,
@@ -133,7 +133,8 @@ fn counts_blanks_before_the_caret(rt: HostRuntime) {
     holds_in_memory(&rt, "blanks", answer);
 }
 
-/// Texts with the place of the syntax fault, what could stand there, and the token that does.
+/// Texts with the place of the syntax fault, what could stand there, and the token that stands
+/// there.
 static LOOK_ALIKES: [(&str, usize, Expected, &str); 16] = [
     ("*1m", 0, START, "*"),
     ("1m\u{3000}2", 2, AFTER_UNIT, "\u{3000}"),
@@ -161,7 +162,7 @@ fn takes_look_alikes_for_what_they_are(rt: HostRuntime) {
     }
 }
 
-/// Whether the text is read as this duration, which prints so into a buffer.
+/// Whether the text is read as this duration, and the duration prints as `printed` into a buffer.
 fn is_read_and_printed(text: &str, d: Duration, printed: &str) -> bool {
     is_value(parse(text), d) && write_human(&d, &mut [0; 64]) == printed
 }
@@ -211,7 +212,7 @@ fn long_lines(alloc: Global) -> Result<Vec<u8>, AllocError> {
     Ok(input)
 }
 
-/// Whether a run over these lines accepts some alone, and writes this.
+/// Whether a run over these lines refuses some of them, and writes this.
 fn refuses_lines(alloc: Global, mut lines: &[u8], wanted: &str) -> bool {
     let mut output = Vec::new(alloc);
     let answer = run(alloc, &mut lines, &mut output, OFF);
@@ -252,8 +253,8 @@ fn run_into(heap: &Refusing<Global>, mut room: &mut [u8]) -> Result<bool, RunFau
 /// What that run writes.
 static WRITTEN: [u8; 49] = *b"211000000000 3min 31s\nEmpty input\noverflow error\n";
 
-/// How many requests for memory that run makes if this one is refused. `None` if it writes
-/// otherwise, or if the request is refused and it doesn't end at once, with nothing written.
+/// How many requests for memory that run makes if this request is refused. `None` if it writes
+/// something else, if it goes on after the refusal, or if it has written something before it.
 fn requests(alloc: Global, refused: u64) -> Option<u64> {
     let heap = Refusing::nth(alloc, refused);
     let mut held = [0; 49];

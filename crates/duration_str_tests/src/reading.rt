@@ -1,5 +1,5 @@
-// What texts are read as: each by every call that reads under its options, and printed again where
-// that is told.
+// What texts are read as, by each call that reads under their options, and what the durations
+// print as.
 use crate::assertions::{holds, holds_in_memory, is_human_format, is_value};
 use crate::vectors::{CN_UNIT, LOWERCASE, NO_CALC, OFF};
 use duration_str::{
@@ -10,10 +10,10 @@ use jiff::SignedDuration;
 use std::alloc::{AllocError, Global};
 use std::time::Duration;
 
-/// Texts, between bars, that are read under these options as so many nanoseconds.
+/// Texts, between bars, with their options, and the nanoseconds that they are read as.
 static READ: [(&str, Options, u64); 65] = [
     ("0|0    |     0    |0m|580y*2*0|1000000000*1ns*1ns", OFF, 0),
-    // The last factor would make 2^48 nanoseconds into 2^64 with one more.
+    // If the last factor were 65536, the product of the later factors would be 2^64 nanoseconds.
     ("0*281474976710656ns*65535", OFF, 0),
     ("1ns*1ns*1000000000", OFF, 1),
     ("1m * 1ns|1 m * 1ns", OFF, 60),
@@ -106,7 +106,7 @@ static PRINTED: [(&str, &str); 15] = [
     ),
 ];
 
-/// Whether each call that reads under these options reads the text as so many nanoseconds.
+/// Whether each call that reads under these options reads the text as this many nanoseconds.
 fn is_read(text: &str, o: Options, nanos: u64) -> bool {
     let plain = Duration::from_nanos(nanos);
     let signed = SignedDuration::from_nanos_i128(i128::from(nanos));
@@ -127,7 +127,8 @@ fn reads_values(rt: HostRuntime) {
     }
 }
 
-/// Whether the text is refused since units are required and a number before this place has none.
+/// Whether the text is refused at this place, since units are required and the number before the
+/// place has none.
 fn lacks_a_unit(text: &str, at: usize) -> bool {
     let Err(fault) = parse_with_units(text, OFF) else {
         return false;
@@ -163,7 +164,7 @@ fn requires_units(rt: HostRuntime) {
     }
 }
 
-/// Whether numbers without a unit are milliseconds, and the text is read as so many of them.
+/// Whether the text is read as this many milliseconds, if numbers without a unit are milliseconds.
 fn is_read_in_millis(text: &str, millis: u64) -> bool {
     let length = parse_with_default_unit(text, OFF, Some(TimeUnit::MilliSecond));
     is_value(length, Duration::from_millis(millis))
@@ -181,7 +182,7 @@ fn counts_numbers_in_the_default_unit(rt: HostRuntime) {
     }
 }
 
-/// Whether the answer is a duration that prints so into a string.
+/// Whether the answer is a duration that prints as this text into a string.
 fn reads_and_prints<T: Copy + HumanFormat>(
     alloc: Global,
     answer: Result<T, Fault<'_>>,
@@ -193,7 +194,7 @@ fn reads_and_prints<T: Copy + HumanFormat>(
     }
 }
 
-/// Whether the text is read as durations, signed and not, that print so into strings.
+/// Whether each call reads the text as a duration that prints as `printed` into a string.
 fn prints_into_strings(alloc: Global, text: &str, printed: &str) -> Result<bool, AllocError> {
     Ok(
         reads_and_prints(alloc, parse(text), printed)?
@@ -202,7 +203,7 @@ fn prints_into_strings(alloc: Global, text: &str, printed: &str) -> Result<bool,
     )
 }
 
-/// Whether the text is read as a duration that prints so into a buffer.
+/// Whether the text is read as a duration that prints as `printed` into a buffer.
 fn prints_into_a_buffer(text: &str, printed: &str) -> bool {
     match parse(text) {
         Ok(d) => write_human(&d, &mut [0xff; 64]) == printed,

@@ -15,7 +15,8 @@ use std::time::Duration;
 /// the place, if any.
 type Row = (&'static str, usize, usize, &'static str);
 
-/// Texts that are refused under these options where this could stand, which the last line says.
+/// Options, what could stand at the place, the message's last line, which says that, and texts that
+/// are refused for this syntax fault under these options.
 type Group = (Options, Expected, &'static str, &'static [Row]);
 
 static SYNTAX: [Group; 10] = [
@@ -104,8 +105,8 @@ const STAR_THEN_PLUS: Cause = Cause::Mixed {
     later: CondUnit::Plus,
 };
 
-/// Texts, between bars, that are refused under these options for this cause, and the last line,
-/// which stands alone if the cause has no place.
+/// Texts, between bars, with the options under which they are refused, the cause, and the message's
+/// last line, which is its only line if the cause has no place.
 type Caused = (&'static str, Options, Cause, &'static str);
 
 static OTHERS: [Caused; 22] = [
@@ -146,7 +147,8 @@ fn is_refused(text: &str, fault: Fault<'_>) -> bool {
         && is_fault(parse_time(text), fault)
 }
 
-/// The fault with which each call that reads under these options refuses the text for this cause.
+/// The fault with which each call that reads under these options refuses the text. `None` if one of
+/// them reads the text, or refuses it for another cause.
 fn refusal(text: &str, o: Options, cause: Cause) -> Option<Fault<'_>> {
     let fault = parse_with(text, o).err()?;
     let is_caused = fault.text() == text && fault.cause() == cause;
@@ -154,25 +156,25 @@ fn refusal(text: &str, o: Options, cause: Cause) -> Option<Fault<'_>> {
     (is_caused && is_looked && (o != OFF || is_refused(text, fault))).then_some(fault)
 }
 
-/// Whether the fault prints this where a width is asked for.
+/// Whether the fault prints this text even if a width is asked for.
 fn is_padded(alloc: Global, fault: Fault<'_>, wanted: &str) -> Result<bool, AllocError> {
     Ok(format!(in alloc; "{fault:>999}")?.as_str() == wanted)
 }
 
-/// Whether the fault prints this, also where a width is asked for.
+/// Whether the fault prints this text, without a width and with one.
 fn is_printed(alloc: Global, fault: Fault<'_>, wanted: &str) -> Result<bool, AllocError> {
     Ok(prints(alloc, &fault, wanted)? && is_padded(alloc, fault, wanted)?)
 }
 
-/// Whether the fault prints its text, after so many blanks the caret, and the line.
+/// Whether the fault prints its text, the caret after this many blanks, and the line.
 fn points(alloc: Global, fault: Fault<'_>, blanks: usize, line: &str) -> Result<bool, AllocError> {
     let (text, blanks) = (fault.text(), " ".repeat(alloc, blanks)?);
     let wanted = format!(in alloc; "{text}\n{blanks}^\n{line}")?;
     is_printed(alloc, fault, wanted.as_str())
 }
 
-/// Whether the text is refused for this cause, and this token stands at the place, or none if it
-/// is empty.
+/// Whether the text is refused for this cause, and `token` stands at the place. An empty `token`
+/// means that none does.
 pub fn names_token(text: &str, o: Options, cause: Cause, token: &str) -> bool {
     let Some(fault) = refusal(text, o, cause) else {
         return false;
@@ -183,8 +185,8 @@ pub fn names_token(text: &str, o: Options, cause: Cause, token: &str) -> bool {
     }
 }
 
-/// Whether the text is refused for this cause, and its fault prints the line, below a caret after
-/// so many blanks if the cause has a place.
+/// Whether the text is refused for this cause, and its fault prints the line. If the cause has a
+/// place, the text and a caret after this many blanks are above the line.
 pub fn is_caused(
     alloc: Global,
     (text, o, cause): (&str, Options, Cause),
@@ -222,7 +224,8 @@ fn refuses_texts(rt: HostRuntime) {
     }
 }
 
-/// Texts that are refused under these options, what a report has above the line, and the line.
+/// Texts with the options under which they are refused, the lines of the report above the last one,
+/// and the last line.
 static SHOWN: [(&str, Options, &str, &str); 7] = [
     ("", OFF, "", "empty text"),
     (
@@ -258,7 +261,7 @@ static SHOWN: [(&str, Options, &str, &str); 7] = [
     ("2*1h 30m", OFF, "", "sum and product mixed in \"2*1h 30m\""),
 ];
 
-/// Whether the text is refused with this line, and with a report that has this above it.
+/// Whether the text is refused with this line, and with a report that has `above` before it.
 fn is_shown(text: &str, o: Options, above: &str, line: &str) -> bool {
     let Err(fault) = parse_with(text, o) else {
         return false;
@@ -308,8 +311,8 @@ fn names_the_byte_where_there_are_lines(rt: HostRuntime) {
     }
 }
 
-/// One nanosecond more than is read prints, and what it prints is refused under each choice of
-/// options.
+/// One nanosecond more than can be read is printed, and the printed text is refused under each
+/// choice of options.
 #[test]
 fn refuses_what_is_printed_at_the_limit(rt: HostRuntime) {
     let mut buffer = [0; 64];
@@ -324,7 +327,7 @@ fn refuses_what_is_printed_at_the_limit(rt: HostRuntime) {
     }
 }
 
-/// Whether the fault of a text points after so many blanks.
+/// Whether the caret in the message of a text stands after this many blanks.
 fn points_after(alloc: Global, count: usize) -> Result<bool, AllocError> {
     let mut text = " ".repeat(alloc, count)?;
     text.push('x')?;

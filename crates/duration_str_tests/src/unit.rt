@@ -88,7 +88,7 @@ fn cuts_into_tokens(rt: HostRuntime) {
     holds(&rt, "m123", tokens.next().is_none());
 }
 
-/// Whether so many characters are looked at until the last token is given, and to read the text.
+/// Whether this many characters are looked at to cut the text into tokens, and as many to read it.
 fn is_looked_at(text: &str, count: u64) -> bool {
     let mut tokens = Tokens::new(text, OFF);
     while tokens.next().is_some() {}

@@ -86,5 +86,5 @@ pub const OPERATORS: &str = "expected ['+', '*']";
 /// The line where only a number could stand.
 pub const NUMBER: &str = "expected number";
 
-/// The line of a number from 2^64 on.
+/// The line of a number that is 2^64 or more.
 pub const TOO_LARGE: &str = "number too large to fit in target type";
