@@ -8,7 +8,7 @@ ghost use Rattle.duration_str.specs.Messages.{line_of};
 use crate::operator::CondUnit;
 use crate::unit::TimeUnit;
 
-/// What could stand at the place of a syntax fault. Each field says whether one kind of item could.
+/// What could stand at the place of a syntax fault. Each field says whether one kind of item could stand there.
 ///
 /// ```
 /// use duration_str::{Cause, Options, parse_with};

@@ -14,7 +14,7 @@ use std::time::Duration;
 
 /// Subtracts the value of the text from the moment, and returns the date and time in UTC.
 ///
-/// The text is read by `parse`. If it is refused, that fault is returned. Otherwise the cause is `OutOfRange` if the
+/// The text is read by `parse`. If it is refused, its fault is returned. Otherwise the cause is `OutOfRange` if the
 /// result would be before `Timestamp::MIN`.
 ///
 /// ```text
@@ -29,7 +29,7 @@ pub fn before_naive_date_time(moment: Timestamp, input: &str) -> Result<DateTime
 
 /// Adds the value of the text to the moment, and returns the date and time in UTC.
 ///
-/// The text is read by `parse`. If it is refused, that fault is returned. Otherwise the cause is `OutOfRange` if the
+/// The text is read by `parse`. If it is refused, its fault is returned. Otherwise the cause is `OutOfRange` if the
 /// result would be after `Timestamp::MAX`.
 ///
 /// ```text

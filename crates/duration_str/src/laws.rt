@@ -22,7 +22,7 @@ pub fn place_and_kinds()
 {}
 
 /// For texts without operators, `no_calc` changes neither which are accepted nor their values. So `2h 37m` is 9,420
-/// seconds with and without `no_calc`. If both refuse a text, the causes may differ.
+/// seconds with and without `no_calc`. If a text is refused both with and without `no_calc`, the causes may differ.
 #[tactic(auto, using(crate::proofs::LawProofs::NoCalcAgrees::no_calc_agrees_holds))]
 pub fn no_calc_agrees()
     ensures { NoCalcAgrees }
@@ -113,9 +113,9 @@ pub fn all_parts()
 
 /// A text printed within limits stands for the greatest duration that fits into the format and is not above the given
 /// one. A duration fits into a format if its own greatest breakdown, into the format's units and all shorter ones, has
-/// no more parts than the format allows, and only in the format's units. That greatest duration prints as the same
-/// text, and the text is read as it if it is below 2^64 nanoseconds. So a countdown never shows more than is left, and
-/// 366 days in one part are `1y`.
+/// no more parts than the format allows, and has parts only in the format's units. That greatest duration prints as the
+/// same text, and the text is read as that duration if the duration is below 2^64 nanoseconds. So a countdown never
+/// shows more than is left, and 366 days in one part are `1y`.
 #[tactic(auto, using(crate::proofs::LawProofs::NeverMore::never_more_holds))]
 pub fn never_more()
     ensures { NeverMore }

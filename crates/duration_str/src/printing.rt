@@ -138,8 +138,8 @@ pub(crate) fn put_number(buffer: &mut [u8], at: usize, n: u64) -> usize
     put_digit(buffer, end, n % 10)
 }
 
-/// Writes a number of one or two digits. It has no branch, since a branch on the number of digits can't be predicted: a
-/// single digit is written twice to the same place.
+/// Writes a number of one or two digits. A single digit is written twice to the same place, so that no branch is
+/// needed. (A branch on the number of digits can't be predicted.)
 #[inline(always)]
 #[tactic(auto, using(crate::proofs::Printer::DigitLemmas::put_steps))]
 fn put_tens(buffer: &mut [u8], at: usize, n: u64) -> usize
@@ -226,8 +226,8 @@ fn put_wide(buffer: &mut [u8], at: usize, n: u128) -> usize
     put_digit(buffer, end, (n % 10) as u64)
 }
 
-/// Writes a unit's printed name. It copies four bytes, the name and the spaces after it in the row,
-/// which takes no call and no branch.
+/// Writes a unit's printed name. It copies four bytes (the name, and the spaces after it in the row), which takes no
+/// call and no branch.
 #[tactic(auto, using(crate::proofs::Printer::LimitsLemmas::name_copied, crate::proofs::Printer::LimitsLemmas::name_spaced))]
 #[inline(always)]
 fn put_name(buffer: &mut [u8], at: usize, row: &Printed) -> usize

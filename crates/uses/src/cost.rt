@@ -7,7 +7,7 @@ use duration_str::{Options, parse_looked};
 
 /// Returns the price of reading a text, at a price per look. An accepted text takes one look per character. A text with
 /// a syntax fault takes at least one look per character before the fault's place. No text takes more than one look per
-/// character. So a sender knows beforehand how much it can be.
+/// character. So a sender knows beforehand how high the price can be.
 ///
 /// ```text
 /// price("1m 3-5", 2, Options::off()) // at least 8, at most 12

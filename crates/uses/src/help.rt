@@ -41,8 +41,8 @@ const NO_UNIT: Cause = Cause::Syntax {
     },
 };
 
-/// Returns the examples of a help page. Each text has this answer and no other. The answers are constants: no text is
-/// read to show them, and the prover refuses a wrong answer.
+/// Returns the examples of a help page. Each text has the answer that is given with it, and no other. The answers are
+/// constants: no text is read to show them, and the prover refuses a wrong answer.
 ///
 /// ```text
 /// examples()[0] // `3m + 13s + 29ms`, with all options off, is 193,029 ms

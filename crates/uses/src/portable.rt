@@ -10,9 +10,9 @@ use duration_str::{CondUnit, Options};
 
 /// Returns whether a text certainly keeps its value when a program changes its options from `before` to `after`. If so,
 /// both choices read it as the same value, or both refuse it; and if `no_calc` does not change, they refuse it for the
-/// same cause. The call looks only at the characters. It returns true if the text has no operator if `no_calc` changes,
-/// no ASCII capital if `lowercase` changes, and no Chinese character of the units if `cn_unit` changes. If it returns
-/// false, the text may keep its value or not.
+/// same cause. The call looks only at the characters. It returns true if the text has none of the characters that the
+/// changed options are about: operators for `no_calc`, ASCII capitals for `lowercase`, and the Chinese characters of
+/// the units for `cn_unit`. If it returns false, the text may keep its value or not.
 ///
 /// ```text
 /// let off = Options::off();

@@ -38,8 +38,9 @@ impl Part {
 
 ghost use Rattle.uses.specs.Product.{MultipliesInEitherOrder};
 
-/// Returns the duration that a text of the product of the two is read as, in either order and under all options with
-/// operators. It is `None` if no such text is accepted. So a program can test for an overflow before it makes the text.
+/// Returns the product of the two parts. Each text that multiplies them, in either order, is read as this duration,
+/// under all options that read operators. The result is `None` if no such text is accepted. So a program can test for
+/// an overflow before it makes the text.
 ///
 /// ```text
 /// let rate = Part { number: 10, unit: TimeUnit::MilliSecond };

@@ -5,7 +5,7 @@
 use crate::operator::CondUnit;
 use crate::unit::TimeUnit;
 
-/// What could stand at the place of a syntax fault. Each field says whether one kind of item could.
+/// What could stand at the place of a syntax fault. Each field says whether one kind of item could stand there.
 ///
 /// ```
 /// use duration_str::{Cause, Options, parse_with};

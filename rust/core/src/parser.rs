@@ -182,7 +182,7 @@ pub fn parse_nanos_inlined(
 ///
 /// There are at most as many looks as characters. Reading a token again after it was cut off is not counted. If the
 /// text is accepted, all its characters are looked at. If it has a syntax fault, at least the characters before the
-/// fault's place are.
+/// fault's place are looked at.
 ///
 /// ```text
 /// parse_looked("3m 13s", Options::off()) // (Ok(Duration::from_secs(193)), 6)

@@ -78,7 +78,7 @@ fn read_unit(
     }
 }
 
-/// Returns the default unit, which a number without a unit has. If there is no default unit, it is a syntax fault at
+/// Returns the default unit, which a number without a unit has. If there is no default unit, returns a syntax fault at
 /// `place`, where only a unit could stand.
 #[inline(always)]
 fn unit_left_out(

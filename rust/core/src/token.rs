@@ -177,7 +177,7 @@ impl<'a> Tokens<'a> {
     }
 
     /// Moves past the letters of the word ahead, and returns their packed number modulo 2^64. The word's first
-    /// character is known to be a unit letter, and is handled before the loop, which takes fewer instructions.
+    /// character is known to be a unit letter, and is handled before the loop, since that takes fewer instructions.
     #[inline(always)]
     fn take_letters(&mut self) -> u64 {
         let Some(first) = self.head else {
