@@ -47,7 +47,8 @@ HasNoCapital text = IsTrue (list_all (λ c. not (is_ascii_uppercase c)) text)
 abbrev pub HasNoChinese : Characters → Type 0
 HasNoChinese text = IsTrue (list_all (λ c. not (is_chinese c)) text)
 
--- Two sentences that spell a text are equal, and a sentence spells it exactly if its lexemes are those of its tokens.
+-- Two sentences that spell a text are equal. A sentence spells a text exactly if the sentence's lexemes are those of
+-- the text's tokens.
 pub record OneSentence : Type 0 where
   pub equal : (default_unit : Option TimeUnit) (o : Options) (text : Characters) (lexemes others : List Characters)
       → IsSentenceWith default_unit o lexemes text → IsSentenceWith default_unit o others text → lexemes ≡ others
@@ -177,8 +178,8 @@ AllPlus [] = ⊤
 AllPlus (operator op ∷ terminals) = (op ≡ Plus) × AllPlus terminals
 AllPlus (terminal ∷ terminals) = AllPlus terminals
 
--- If two sums have the same values of terms, each equally often, and one is accepted, so is the other, with the same
--- value.
+-- If the terms of two sums have the same values, maybe in another order, and one sum is accepted, the other sum is
+-- accepted too, and has the same value.
 abbrev pub Reorder : Type 0
 Reorder =
     (default_unit : Option TimeUnit) (o : Options) (a b : Characters) (lexemes others : List Characters) (nanos : ℕ)
@@ -206,7 +207,7 @@ pub record TwoFactors : Type 0 where
       → v.number ≡ u.number → v.length ≡ u.length → w.number ≡ t.number → w.length ≡ t.length
       → IsReadWith default_unit o a nanos → IsReadWith default_unit o b nanos
 
--- the count of each length: the quotient by it of what the longer lengths leave
+-- the count of each length: the nanoseconds that the longer lengths leave, divided by this length and rounded down
 abbrev pub counts_of : List ℕ → ℕ → List ℕ
 counts_of [] nanos = []
 counts_of (l ∷ lengths) nanos = nanos / l ∷ counts_of lengths (nanos % l)
@@ -281,7 +282,7 @@ pub record IsMostWithin (format : Format) (nanos : ℕ) (text : Characters) (mos
   pub greatest : (between : ℕ) (counts : List ℕ) → most < between → between ≤ nanos
       → KeepsWithin format between counts → ⊥
 
--- For each text that a duration prints as within limits, there is such a duration `most`.
+-- For each text that is printed within limits there is such a duration `most`.
 abbrev pub NeverMore : Type 0
 NeverMore = (format : Format) (nanos : ℕ) (text : Characters) → IsPrintedWithin format nanos text
     → (most : ℕ) × IsMostWithin format nanos text most

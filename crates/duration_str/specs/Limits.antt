@@ -93,8 +93,8 @@ last_unit u (v ∷ us) = last_unit v us
 abbrev pub shorter_units : List TimeUnit → List TimeUnit
 shorter_units us = filter (λ u. nat_lt (nanos_of u) (nanos_of (last_unit Second us))) units
 
--- the unit with which a zero is printed: the smallest of these units, but the second if that one is shorter or there
--- are none
+-- the unit with which a zero is printed: the smallest of these units. It is the second if the smallest is shorter than
+-- a second, or if there are no units
 abbrev pub zero_unit : List TimeUnit → TimeUnit
 zero_unit us = if nat_lt (nanos_of (last_unit Second us)) (nanos_of Second) then Second else last_unit Second us
 

@@ -6,7 +6,7 @@ use Rattle.uses.proofs.Common.{IsPermutation, nanos_in, Options, Part, Plus, sum
 use Rattle.std.proofs.lemmas.List.Sums.{sum_by-cons}
 use Rattle.uses.specs.Sum.{Adds}
 
--- how often the list that has only this part has the length n
+-- 1 if this part's length is n, and otherwise 0
 abbrev is_times : ℕ → Part → ℕ
 is_times n part = if nanos_in part == n then 1 else 0
 

@@ -3,7 +3,7 @@ use Rattle.std.specs.Prelude.{◌≡◌, ℕ, List, Result, Ok, Err, chars}
 use Rattle.uses.specs.Common.{Duration, as_nanos, Options, Cause, Fault, off, unit_lengths, IsRead, IsRefused, IsGreatestBreakdown, counts_of, printed_counts}
 use Rattle.duration_str.specs.declared.format.Style.{Style}
 
--- the text with the count of each unit that goes into what the longer units leave
+-- the text of a value whose counts are found by division: what the longer units leave is divided by the next unit
 abbrev pub canonical_text : Style → ℕ → List ℕ
 canonical_text style nanos = printed_counts style (counts_of unit_lengths nanos)
 

@@ -6,7 +6,7 @@ use Rattle.uses.specs.Common.{Options, Expected, byte_len, IsSentenceOf, termina
 abbrev pub IsExpression : Options → List ℕ → Type 0
 IsExpression o text = (lexemes : List (List ℕ)) × IsSentenceOf o lexemes text
 
--- Some text after a blank makes an expression of it.
+-- The text, followed by a blank and some further text, is an expression.
 abbrev pub BeginsExpression : Options → List ℕ → Type 0
 BeginsExpression o text = (more : List ℕ) × IsExpression o (text ++ (codes " " ++ more))
 

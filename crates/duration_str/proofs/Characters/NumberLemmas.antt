@@ -49,8 +49,8 @@ long_value : (zeros : Bool) (front first last low n : ℕ) → (zeros ≡ true �
     → (zeros && (first == 48 || (first == 49 && nat_le 10000000000000000000 low))) ≡ fits n
 long_value zeros front first last low n none some digit short is same = search (rules, le-ltb)
 
--- More than 19 digits write a number below 2^64 exactly if zeros stand before the last 20 digits, and the first of
--- these is a zero, or a one and the number modulo 2^64 is at least 10^19.
+-- More than 19 digits write a number below 2^64 exactly if only zeros stand before the last 20 digits, and the first of
+-- these 20 is a zero, or is a one while the number modulo 2^64 is at least 10^19.
 pub long_number : (digits : List ℕ) (low : ℕ) → 19 < length digits → IsTrue (list_all is_digit digits)
     → low ≡ number_of digits % 2 ^ 64 → (let at = length digits - 19 - 1 in
     (are_zeros (take at digits)

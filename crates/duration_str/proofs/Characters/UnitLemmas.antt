@@ -2,7 +2,7 @@
 use Rattle.duration_str.proofs.Common.{all_names, and_parts, arith, Bool, byte_len, bytes_eq, bytes_eq-Decides, cases_Bool, common_steps, comparison_form, Day, encode_utf8_all, encodes, encodes_same, eqb, eqb-true, false, find, Hour, inl, inr, is_named, leb-true, length, List, list_all, list_any, list_any-append, map, map-append, MicroSecond, MilliSecond, Minute, Month, name_part, nanos_of, NanoSecond, not, Options, or_cases, Quarter, refl, row_of, rules, same_from_decides, Second, Some, Style, TimeUnit, to_ascii_lowercase, true, unit_of_word, units, Week, Year, [], ℕ, ⊤, ◌||◌, ◌∷◌, ◌≡◌, ◌≤◌}
 use lib.Utf8.{encode}
 
--- ---- A property of each unit in the table is one of every unit
+-- ---- A property that each unit in the table has is a property of every unit
 
 abbrev pub Each : (TimeUnit → Type 0) → List TimeUnit → Type 0
 Each P [] = ⊤

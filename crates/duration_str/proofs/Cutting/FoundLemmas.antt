@@ -25,7 +25,7 @@ module _ (o : Options) where
       → token_at place (tokens_from o at (c ∷ text)) ≡ token_at place (tokens_from o (at + width c) text)
   without_first at place c text before = search (rules, cases_Bool, without_joined)
 
-  -- The same holds for several first characters.
+  -- Several first characters that end before the place can be left out too.
   without_front : (at place : ℕ) (front text : List ℕ) → (0 < byte_len front → at + byte_len front < place)
       → token_at place (tokens_from o at (front ++ text)) ≡ token_at place (tokens_from o (at + byte_len front) text)
   without_front at place [] text before = rw add-zero

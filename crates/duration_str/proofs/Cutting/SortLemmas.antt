@@ -95,7 +95,7 @@ run_ends : (o : Options) (test : ℕ → Bool) → ((c d : ℕ) → test c ≡ t
     → (c : ℕ) (rest : List ℕ) → test c ≡ true → Stops test rest → goes_on o c rest ≡ false
 run_ends o test apart c rest e stops = search rules
 
--- Such a run is a token that stands for `meaning`, if it is a lexeme that does.
+-- If such a run is a lexeme whose terminal is `meaning`, it is a token with this terminal.
 run_stands : {text cs : List ℕ} {place next at c : ℕ} (o : Options) (test : ℕ → Bool) (meaning : List ℕ → Terminal)
     → ((c d : ℕ) → test c ≡ true → test d ≡ false → are_of_one_run o c d ≡ false)
     → ((d : ℕ) (ds : List ℕ) → IsTrue (list_all test (d ∷ ds))

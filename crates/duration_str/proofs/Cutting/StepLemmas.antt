@@ -49,7 +49,7 @@ takes_token : {s t : Tokens} {terminal : Terminal} → KeepsInput s t
     → StandsToken (options_of s) (source s) (cut_place s) (cut_place t) terminal → TakesToken s t terminal
 takes_token {s} kept token = search (rules, token_taken)
 
--- a slice from s to t of the text of t is one of the text of s
+-- a slice of the text of t, from s to t, is the same slice of the text of s
 same_slice : {s t : Tokens} {slice : List ℕ} {start : ℕ} → KeepsInput s t → start ≡ cut_place s
     → slice ≡ slice_range (source t) start (cut_place t) → slice ≡ slice_range (source s) (cut_place s) (cut_place t)
 same_slice kept there is = simp (kept.text, there) at is

@@ -48,7 +48,7 @@ sum_of_front [] counts others e = refl
 sum_of_front (l ∷ lengths) [] others e = absurd (omega arith)
 sum_of_front (l ∷ lengths) (n ∷ counts) others e = rw (sum_of_front lengths counts others (omega arith))
 
--- ---- No duration between the two fits into the format
+-- ---- Each duration up to the given one that fits into the format is at most the printed one
 
 most_within : (lengths more : List ℕ) (most between nanos : ℕ) → ArePositive lengths → between ≤ nanos
     → part_count (counts_of (lengths ++ more) between) ≤ most

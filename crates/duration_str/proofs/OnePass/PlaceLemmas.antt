@@ -85,7 +85,7 @@ start_placed o bs xs cs (suc n) at (p ∷ tokens) utf8 e w (rest, next, more) =
     start_placed o bs (xs ++ (next.blanks ++ p.characters)) rest n (p.start + byte_len p.characters) tokens utf8
     (simp append_assoc (rw next.parts at e)) (simp byte_len-append (omega (arith, next.start, w))) more
 
--- A property of the start of the text and of the place of a syntax fault is one of the place of any fault.
+-- If the start of the text and the place of a syntax fault have a property, the place of any fault has it.
 stands_at : (P : ℕ → Type 0) → P 0 → (cause : Cause) → Stands P cause → ForSome (place_of cause) P
 stands_at P start cause h = grind arith
 

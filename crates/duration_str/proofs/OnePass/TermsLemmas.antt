@@ -74,7 +74,7 @@ pub number_taken : {s a : Tokens} {n : Option ℕ} (default_unit : Option TimeUn
 number_taken {s} {a} default_unit no_calc op taken r is =
     rw (after_token taken.token, terms_read default_unit no_calc op (cut_place s) taken.n (rest_of a), is)
 
--- The same holds after an operator that was read and the number after it.
+-- After an operator is read and the number after it is taken, the terms that are left depend on r too.
 pub term_passed : {s a : Tokens} {n : Option ℕ} {next : CondUnit} (default_unit : Option TimeUnit) (no_calc : Bool)
     (b : Rest)
     → leaving (rest_of s) (Ok (Some next)) ≡ operator_read no_calc b → (taken : TakesNumber s a n)
@@ -176,7 +176,7 @@ from_start : (default_unit : Option TimeUnit) (no_calc : Bool) (rest : Rest) (le
 from_start default_unit no_calc rest left is =
     rw (← is) (in_order default_unit no_calc (start_left (front_of default_unit no_calc (terminals_in rest)) rest) _ _)
 
--- If the first unit can't be read, that fault is the answer.
+-- If the first unit can't be read, the fault of reading it is the answer.
 pub first_unread : {m a : Tokens} {s : Rest} {n : Option ℕ} {cause : Cause} (default_unit : Option TimeUnit)
     (no_calc : Bool) → rest_of m ≡ s
     → TakesNumber m a n → Err cause ≡ unit_read default_unit no_calc (rest_of a)

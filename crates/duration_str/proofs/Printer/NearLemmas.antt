@@ -10,7 +10,7 @@ use Rattle.duration_str.specs.Internal.UnitTable.{is_megabyte, is_near, trimmed}
 abbrev Row : Type 0
 Row = List ℕ × List ℕ
 
--- a row with this name for each of these words, and then the rows
+-- for each of these words a row with this name, and after them the given rows
 abbrev with_words : List (List ℕ) → List ℕ → List Row → List Row
 with_words [] name rows = rows
 with_words (word ∷ words) name rows = (encode_utf8_all word, encode_utf8_all name) ∷ with_words words name rows

@@ -10,7 +10,7 @@ use Rattle.std.proofs.lemmas.Nat.Bits.{bit_at-lt, bit_at_and, bit_at-trailing_ze
 use Rattle.std.proofs.Math.Pow.{pow_pos}
 use Rattle.std.proofs.lemmas.List.{get_or-drop}
 
--- ---- Those of some units that are in a set
+-- ---- Which of some units are in a set
 
 pub chosen_in : (set : Units) (u : TimeUnit) (us : List TimeUnit) → is_in set u ≡ true
     → chosen set (u ∷ us) ≡ u ∷ chosen set us

@@ -36,7 +36,8 @@ rest_from o len (p ∷ tokens) = terminal_at p.start (terminal_of o p.characters
 abbrev pub rest_of : Tokens → Rest
 rest_of s = rest_from (options_of s) (length (source s)) (tokens_left s)
 
--- the byte at which the rest after its first n terminals starts, or at which the text ends
+-- the byte at which terminal n of the rest starts, counted from 0, or at which the text ends if there is no such
+-- terminal
 abbrev pub start_left : ℕ → Rest → ℕ
 start_left n (end_at at) = at
 start_left zero (terminal_at at terminal rest) = at
@@ -120,7 +121,7 @@ total_with (Some (op, total)) next n length =
     fault_or (unless (is_same_operator op next) (Mixed op next))
     (checked_combination op total (checked_term None n length))
 
--- the later terms, given the operator between them and their total, or the fault of that total
+-- the later terms or the fault of their total, given the operator between the terms, and this total or its fault
 abbrev pub by_operator : CondUnit → Result ℕ Cause → Result (Option (CondUnit × ℕ)) Cause
 by_operator op (Ok total) = Ok (Some (op, total))
 by_operator op (Err cause) = Err cause
