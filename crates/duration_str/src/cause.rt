@@ -93,7 +93,7 @@ pub enum Cause {
     },
     /// A term, a step of the evaluation or the value is 2^64 nanoseconds or more.
     Overflow {
-        /// 0 if it is the first term, and `None` if it is a later term, a step or the value.
+        /// 0 if the first term is too large. `None` if a later term, a step or the value is too large.
         place: Option<usize>,
     },
     /// The text has both operators: `later` follows `first`, and differs from it.

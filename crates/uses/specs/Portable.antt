@@ -4,8 +4,9 @@ use Rattle.std.specs.Bool.{beq}
 use Rattle.std.specs.Char.{is_ascii_uppercase}
 use Rattle.uses.specs.Common.{Options, Cause, is_operator, is_chinese, IsRead, IsRefused}
 
--- whether the character means the same under both choices. An operator does if `no_calc` is the same, an ASCII capital
--- if `lowercase` is, and a Chinese character of the units if `cn_unit` is. Any other character does
+-- whether the character means the same under both choices. An operator does if both have the same `no_calc`, an ASCII
+-- capital if both have the same `lowercase`, and a Chinese character of the units if both have the same `cn_unit`. Any
+-- other character means the same
 abbrev pub is_unaffected : Options → Options → ℕ → Bool
 is_unaffected o p c =
     (beq o.no_calc p.no_calc || not (is_operator c))

@@ -270,7 +270,7 @@ pub row_at_place : (j : ℕ) → j < 11 → (d : Printed)
     → slice_index_or (map printed_row units) j d ≡ printed_row (slice_index_or units j Year)
 row_at_place j inside d = mapped units j inside d Year
 
--- ---- Sets of given units, and of units that two sets have
+-- ---- Sets of given units, and of the units that are in both of two sets
 
 pub in_with : (set : Units) (v u : TimeUnit)
     → is_in (with_unit v set) u ≡ (eqb (nanos_of u) (nanos_of v) || is_in set u)

@@ -46,7 +46,7 @@ module _ (default_unit : Option TimeUnit) (o : Options) where
   stops_before c cs [] (d ∷ ds) rest h p q a = false_from_ne_true _ (λ run.
       sorts_apart default_unit o.no_calc _ _ a (sym (lexeme_sort o c cs p) ∙ run_sort o c d run ∙ lexeme_sort o d ds q))
 
-  -- A lexeme of a sentence is as long as possible: its run ends where it ends.
+  -- A lexeme of a sentence is as long as possible: its run of characters ends where the lexeme ends.
   ends_in_sentence : (w rest : List ℕ) (ws : List (List ℕ)) → IsLexeme o w
       → AreAllowed default_unit o.no_calc (Some (terminal_of o w)) (map (terminal_of o) ws) → Spells ws rest
       → EndsRun o w rest
