@@ -1,4 +1,4 @@
--- The lemmas that the reader's one pass gives the computed answer.
+-- The lemmas that show that the reader's one pass gives the computed answer.
 pub mod PlaceLemmas
 pub mod ReaderLemmas
 pub mod TermsLemmas

@@ -1,4 +1,4 @@
--- The lemmas that the printer writes the text that the definitions say.
+-- The lemmas that show that the printer writes what the definitions say.
 pub mod MessageLemmas
 pub mod OneLineLemmas
 pub mod ReportLemmas

@@ -298,7 +298,7 @@ pub record LimitedTexts : Type 0 where
   pub number_of_nanosecond : set_of (NanoSecond ∷ []) ≡ record { bits = 1_024 }
   pub number_from_days : up_to Day ALL ≡ record { bits = 0x7F0 }
   pub number_down_to_hours : down_to Hour ALL ≡ record { bits = 0x3F }
-  -- ---- The units that are shorter than all of these
+  -- ---- The units that are shorter than all given ones
   pub shorter_than_hours : shorter_units (Year ∷ Hour ∷ [])
       ≡ Minute ∷ Second ∷ MilliSecond ∷ MicroSecond ∷ NanoSecond ∷ []
   pub shorter_than_none : shorter_units [] ≡ MilliSecond ∷ MicroSecond ∷ NanoSecond ∷ []

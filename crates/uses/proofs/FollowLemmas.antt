@@ -14,7 +14,8 @@ module _ (law : PlaceAndKinds) (no_calc : Bool) where
   begins_whole : (ts : List Terminal) → (BeginsSentence (Some Second) no_calc ts ↔ length ts ≤ front_of (Some Second) no_calc ts)
   begins_whole ts = search (rules, append-nil, length-take, take_all)
 
-  -- The front that the table finds is one terminal longer exactly if the table allows that terminal after the last one.
+  -- If a terminal is added, the front that the table finds becomes one terminal longer exactly if the table allows the
+  -- new terminal after the last one.
   pushed : (last : Option Terminal) (front : List Terminal) (t : Terminal)
       → length front ≤ front_after (Some Second) no_calc last front
       → (IsTrue (allows (expected_after (Some Second) no_calc (last_of last front)) t)

@@ -12,8 +12,8 @@ pub record IsKey (style : Style) (nanos : ℕ) (key : List ℕ) : Type 0 where
   pub one : key ≡ canonical_text style nanos
   pub greatest : IsGreatestBreakdown unit_lengths nanos (counts_of unit_lengths nanos)
 
--- The text is read as a value, and this is that value's key. Under every choice of options, the key is read as the same
--- value.
+-- The text is read as a value, and `key` is that value's key. Under every choice of options, the key is read as the
+-- same value.
 pub record IsCanonical (style : Style) (text key : List ℕ) : Type 0 where
   pub nanos : ℕ
   pub read : IsRead off text nanos

@@ -100,7 +100,7 @@ same_back (x ∷ xs) (y ∷ ys) h k e =
     omega (arith, letter_number-below off x, letter_number-below off y, e) in
     cc (letter_number-same x y bx.0 by.0 number, same_back xs ys bx.1 by.1 (omega (arith, number, e)))
 
--- Words of the names' letters are equal if their packed numbers are.
+-- Two words whose letters all occur in names are equal if their packed numbers are equal.
 packed_same : (xs ys : List ℕ) → are_letters xs ≡ true → are_letters ys ≡ true
     → packed_number off xs ≡ packed_number off ys → xs ≡ ys
 packed_same xs ys h k e =
@@ -133,7 +133,7 @@ lower_packed : (n : ℕ) (w : List ℕ)
 lower_packed n [] = refl
 lower_packed n (c ∷ cs) = rw (lower_packed (n * 40 + letter_number off (to_ascii_lowercase c)) cs, lower_number c)
 
--- ---- a word is a name if their packed numbers are equal
+-- ---- a word is a name if both have the same packed number
 
 name_test : (v name : List ℕ) → are_letters v ≡ true → are_letters name ≡ true
     → bytes_eq v name ≡ packs_to (packed_number off v) name

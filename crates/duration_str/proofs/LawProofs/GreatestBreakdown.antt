@@ -27,7 +27,7 @@ first_within m l rest nanos h e = search rules
 rest_same : (m l rest nanos : ℕ) → m * l + rest ≡ nanos → m ≡ nanos / l → rest ≡ nanos % l
 rest_same m l rest nanos e s = let product = rw s at e in omega (arith, div-add-mod' nanos l)
 
--- The only count of length 1 is the number of nanoseconds.
+-- If the only length is 1, its count is the number of nanoseconds.
 only_count : (n l nanos : ℕ) → l ≡ 1 → n * l + 0 ≡ nanos → n ≡ nanos / l
 only_count n l nanos h e = let one = rw h at e in rw h (omega arith)
 

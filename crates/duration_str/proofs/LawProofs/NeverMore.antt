@@ -31,7 +31,7 @@ own_counts : (lengths more : List ℕ) (most nanos : ℕ) → ArePositive length
 own_counts [] more most nanos h = refl
 own_counts (l ∷ lengths) more most nanos h = search (rules, own_step, none_shown, within_sum, own_counts lengths more)
 
--- The duration that is printed prints as the same counts.
+-- The duration that is printed has the same printed counts as the given one.
 within_again : (lengths : List ℕ) (most nanos : ℕ) → ArePositive lengths
     → counts_within lengths most (shown lengths most nanos) ≡ counts_within lengths most nanos
 within_again [] most nanos h = refl

@@ -19,7 +19,7 @@ spells_both [] ys s t h k = spells_after_blanks ys s t h k
 spells_both (x ∷ xs) ys s t h k =
     begins_with h.blanks (h.rest ++ t) h.blank (rw h.parts (simp append_assoc)) (spells_both xs ys h.rest t h.is_rest k)
 
--- ---- They are a sentence, with the terms of both
+-- ---- The joined lexemes are a sentence, with the terms of both texts
 
 plus_terminal : (o : Options) → terminal_of o (codes "+") ≡ operator Plus
 plus_terminal o = elim (cases_Bool o.cn_unit) [ inl e ↦ rw e | inr e ↦ rw e ]

@@ -98,7 +98,7 @@ default_first : (first : ℕ) (u : Term) (later : List Term) (syntax : Option Ca
     ≡ fault_or syntax (checked_combination u.operator first (value_by u.operator (u ∷ later)))
 default_first first u later syntax = search (rules, default_left)
 
--- Two results after the same possible fault are equal if they are equal without a fault.
+-- Two results that come after the same possible fault are equal, if they are equal when there is no fault.
 unless_fault : {x y : Result ℕ Cause} (fault : Option Cause) → (fault ≡ None → x ≡ y)
     → fault_or fault x ≡ fault_or fault y
 unless_fault fault h = search rules

@@ -122,7 +122,7 @@ reaches_place default_unit o bs at looks cause utf8 is placed least place expect
     let before = chars_before bs place at utf8 boundary (placed place (ap place_of e)) in
     omega (arith, before, least)
 
--- ---- No token is found exactly if a syntax fault stands at the end of the text
+-- ---- A syntax fault has no token exactly if it stands at the end of the text
 
 lexeme_some : (o : Options) (w : List ℕ) → IsLexeme o w → 0 < byte_len w
 lexeme_some o w l = grind arith
