@@ -73,8 +73,8 @@ pub enum Cause {
     Empty,
     /// The text stops being valid at `place`.
     Syntax {
-        /// The byte at which the first token starts that can't follow the text before it. If there
-        /// is no such token, it is the length of the text.
+        /// The byte at which the first token starts that can't follow the text before it. If there is no such token,
+        /// the place is the length of the text.
         place: usize,
         /// What could stand at `place`.
         expected: Expected,
