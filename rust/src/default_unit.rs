@@ -71,7 +71,7 @@ pub fn parse_in(input: &str, default_unit: TimeUnit) -> Result<Duration, Duratio
 /// Reads a text as [`parse_duration`](crate::parse_duration) does, but refuses a number without a
 /// unit.
 ///
-/// The other calls read `90` and `1h 30` as seconds, which may not be what was meant. In clap,
+/// Most other calls read `90` and `1h 30` as seconds, which may not be what was meant. In clap,
 /// write `value_parser = duration_str::parse_with_units`. For serde, use the module
 /// `human_with_units`.
 ///

@@ -114,7 +114,7 @@ impl FormattedDuration {
 }
 
 /// The calls that choose how a duration is printed. `FormattedDuration` and [`HumanDuration`] have
-/// them, and each returns a `FormattedDuration`.
+/// them, and each call returns a `FormattedDuration`.
 macro_rules! chooses {
     ($($(#[$doc:meta])* $name:ident: $Value:ty,)+) => {
         impl FormattedDuration {$(

@@ -21,7 +21,7 @@ use core::time::Duration;
 #[derive(Clone, Copy, Debug, Default, PartialEq, Eq, PartialOrd, Ord, Hash)]
 pub struct HumanDuration(pub Duration);
 
-/// The traits that a type of durations as text implements.
+/// Implements the traits of a type whose durations are read and printed as text.
 macro_rules! written_as_text {
     ($Name:ident, $read:path, $print:path) => {
         impl core::str::FromStr for $Name {

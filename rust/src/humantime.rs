@@ -1,10 +1,10 @@
 //! The items of the crate humantime for durations, under their names. To move a program to this
 //! crate, change one import: `use duration_str::humantime;`.
 //!
-//! A text that both humantime and this module read is the same duration in both. So a month has
-//! 30.44 days here, by whatever name, and a year has 365.25 days. In the rest of this crate a month
-//! has 30 days and a year 365. So a text that humantime printed and a program stored is read as it
-//! was meant.
+//! A text that both humantime and this module read is the same duration in both. So a text that
+//! humantime printed and a program stored is read as it was meant. For this, a month has 30.44 days
+//! here, by whatever name, and a year has 365.25 days. In the rest of this crate a month has 30
+//! days and a year 365.
 //!
 //! This module also reads the names of units that only humantime has: `M` is a month, and `secs`,
 //! `mins`, `hrs`, `millis` and `nanos` are units, and so are `yr` and `wk` of humantime 2.4.
@@ -134,8 +134,8 @@ fn longer_by(sum: &str, nanos: u64) -> Option<u64> {
 }
 
 /// Whether a text may have years or months, which are longer here. Among the names of units, only
-/// those of the day and the year have a `y`, and only those of the month have `mo`. Chinese names
-/// are not distinguished.
+/// those of the day and the year have a `y`, and only those of the month have `mo`. Each Chinese
+/// name counts as one of a year or a month.
 fn has_longer(text: &str) -> bool {
     text.as_bytes()
         .windows(2)
@@ -193,7 +193,8 @@ fn with_operators(text: &str) -> Result<StdDuration, Fault<'_>> {
     }
 }
 
-/// A text, rewritten for the proved reader: each token of the written text, and a blank after it.
+/// A text, rewritten for the proved reader: each token of the text as it was written, and a blank
+/// after it.
 /// The names that only humantime reads are replaced. A number of years or months becomes a number
 /// of seconds. If that is too large, it becomes the greatest number, which is refused too. A number
 /// that is too large by itself stays.
@@ -231,8 +232,8 @@ impl Rewritten {
         written
     }
 
-    /// Appends a token, which begins at `start` in the written text. If `start` is `None`, it is
-    /// not recorded.
+    /// Appends a token, and records that it begins at `start` in the written text. If `start` is
+    /// `None`, nothing is recorded.
     fn push(&mut self, token: &str, start: Option<usize>) {
         self.starts
             .extend(start.map(|start| (self.text.len(), start)));

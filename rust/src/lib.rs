@@ -149,14 +149,14 @@
 //!   `duration-str` 0.19.0.
 //!
 //! Cargo turns on each feature that any crate of a program asks for. So of the last three features
-//! only `cn_unit` affects the other calls, since it takes nothing away from what another crate
-//! reads. To set options for one call, use [`parse_with`].
+//! only `cn_unit` affects calls that `duration-str` 0.19.0 does not have, since it takes nothing
+//! away from what another crate reads. To set options for one call, use [`parse_with`].
 //!
 //! # What is proved
 //!
 //! Reading and printing are proved: their code is the source of a proved library, without its
-//! contracts. Three `unsafe` blocks skip the test that a printed duration, a message and a line are
-//! UTF-8, since that is proved.
+//! contracts. Three `unsafe` blocks skip the test that a printed duration, the message of an error
+//! and the line of an error are UTF-8, since that is proved.
 //!
 //! # From humantime and `duration-str` 0.19.0
 //!
@@ -164,8 +164,8 @@
 //! months and years have humantime's lengths.
 //!
 //! This crate has the public interface of `duration-str` 0.19.0 from crates.io: [`parse`], whose
-//! error is a `String`, [`HumanFormat`], `deserialize_duration` and the others. The module `dates`
-//! has its calls for a moment before or after now.
+//! error is a `String`, [`HumanFormat`], `deserialize_duration` and the rest. The module `dates`
+//! has the calls of `duration-str` for a moment before or after now.
 //!
 //! ```
 //! use duration_str::{parse, HumanFormat};

@@ -36,9 +36,10 @@ pub(crate) const FEATURES: Options = Options {
     cn_unit: cfg!(feature = "cn_unit"),
 };
 
-/// The options under which all other calls read, unless a call is given its own. Only the feature
-/// `cn_unit`, which adds names, affects them. Any crate of a program can turn on the other
-/// features, which take something away, and would then break what the other crates read.
+/// The options under which calls read that `duration-str` 0.19.0 does not have, unless such a call
+/// is given options of its own. Only the feature `cn_unit`, which adds names, affects these calls.
+/// The other features take something away. If they affected these calls, a crate that turns one on
+/// would break what the other crates of the program read.
 pub(crate) const ADDITIONS: Options = Options {
     cn_unit: FEATURES.cn_unit,
     ..Options::off()

@@ -8,7 +8,7 @@ use duration_str_core as proved;
 use std::error::Error;
 use std::fmt::Display;
 
-/// The message of the specification for a refused text.
+/// The message for a refused text, by the proved source itself.
 fn message(text: &str, options: Options) -> String {
     proved::parse_with(text, options)
         .expect_err(text)
