@@ -11,8 +11,8 @@
 # make check           proves everything, if there is rt, and tests everything that is built; this
 #                      takes half an hour to an hour
 # make quick           runs the tests that take seconds and the checks of what has changed
-# make format          lays out all files that no tool here makes, by the usual tool of each
-#                      language
+# make format          lays out all files except those that a tool here writes, by the usual tool of
+#                      each language
 # make coverage        names the lines written by hand that no test runs, in some minutes
 # make install         installs what was built, the header, the manual pages and completions below
 #                      prefix=/usr/local, or into bindir=, libdir=, includedir=, mandir=, docdir=
@@ -84,7 +84,8 @@ program:
 	fi
 	echo $$program
 
-# 4.3 MB of rustc's own archive are helpers that nothing calls. The object has everything needed.
+# 4.3 MB of the archive that rustc writes are helpers that nothing calls. So the archive is written
+# again from rustc's object, which has everything needed.
 library:
 	@archive="$(built)/libduration_str.a"
 	if ! $(call serves,"$$archive",c); then
@@ -95,9 +96,10 @@ library:
 	fi
 	echo $(built)
 
-# The command depends on crates of others. cargo hashes the absolute path of a crate outside of the
-# workspace, and so makes other bytes in each folder. So out/command is a workspace around both. It
-# has copies, since the gate refuses links.
+# The command depends on the crate for Rust, and on crates of others. cargo hashes the absolute path
+# of a crate outside of the workspace, and so makes other bytes in each folder. So out/command is a
+# folder around the command and the crate for Rust. It has copies of both, since the gate refuses
+# links.
 command = out/cargo/$(host)/release/duration
 crates = clap clap_complete clap_derive serde_json
 commanded = shell/Cargo.toml shell/src rust/Cargo.toml rust/macros rust/src
@@ -172,13 +174,13 @@ page = sed -e 's/^@CALLS@$$/.Nm $(subst $(space), $(comma)\n.Nm ,$(calls))/' \
     -e '/^@UNITS@$$/{e $(call description) | sed -n "/^Units: /,/^A year has/p"' -e 'd}' -e 's/@VERSION@/$(version)/' $(1)
 
 # $(call up,FOLDER,FROM): the way from an installed folder up to the prefix, so that the prefix can
-# be moved with all that is in it. FROM is written for the folder. If the folder is not below the
-# prefix, the call gives the prefix
+# be moved with all that is in it. The way begins with FROM, which stands for the folder. If the
+# folder is not below the prefix, the call gives the prefix
 space := $() $()
 up = $(if $(filter $(prefix)/%,$(1)),$(2)$(subst $(space),,$(patsubst %,/..,$(subst /, ,$(1:$(prefix)/%=%)))),$(prefix))
 
 # $(call filled,FILE,VARIABLE,PREFIX): the template in this file, filled for the installed folders.
-# VARIABLE is written for the prefix
+# In these, ${VARIABLE} is written in place of the prefix
 filled = sed 's|@PREFIX@|$(3)|; s|@VERSION@|$(version)|; s|@LIBDIR@|$(call below,$(libdir),$(2))|; \
     s|@INCLUDEDIR@|$(call below,$(includedir),$(2))|' c/$(1).in
 below = $(patsubst $(prefix)/%,$${$(2)}/%,$(1))
@@ -220,9 +222,9 @@ install: installable
 	put "$$libraries/libduration_str.a" $(libdir)/libduration_str.a
 	put "$$libraries/libduration_str.so" $(libdir)/$(soname)
 	ln -sf $(soname) "$$DESTDIR$(libdir)/libduration_str.so"
-	# Before the soname 2 the library's file was named by its version. So the file of a newer version
-	# took the place of the one to which an older soname's link leads. Programs crash by such a link,
-	# so it is removed if the library does not contain the link's name.
+	# Before the soname 2 the library's file was named by its version. So the link of an older soname
+	# may lead to a file that a newer version has replaced, and programs that use such a link crash.
+	# A link is removed if the library to which it leads does not contain the link's name.
 	for link in "$$DESTDIR$(libdir)"/libduration_str.so.[0-9]*; do
 	    [ ! -L "$$link" ] || grep -aqF "$${link##*/}" "$$link" || rm -fv "$$link"
 	done

@@ -46,8 +46,8 @@ func (duration Duration) MarshalText() ([]byte, error) {
 	return []byte(duration.String()), nil
 }
 
-// String prints the duration. It prints one below zero, which the library doesn't print, as Go
-// does.
+// String prints the duration. A duration below zero, which the library doesn't print, is printed in
+// Go's way.
 func (duration Duration) String() string {
 	if duration.Duration < 0 {
 		return duration.Duration.String()

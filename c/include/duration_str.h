@@ -10,8 +10,8 @@
  * A text that a function writes ends with a zero byte, which the returned
  * length doesn't count. The rest of a buffer is unchanged.
  *
- * No function allocates memory, keeps state, calls back or throws. All of them
- * may be called from several threads at once.
+ * No function allocates memory, keeps state, calls back or throws. All
+ * functions may be called from several threads at once.
  *
  * The grammar: a text is one term or several. A term is a number and a unit,
  * such as `3m` or `29 ms`. Terms are joined by `+` or by `*`. If the operator
@@ -90,7 +90,7 @@ enum duration_str_option {
     /* `+` and `*` are not read, and the terms are added one by one */
     DURATION_STR_OPTION_NO_CALC = 1,
     /* capitals are not read as small letters; without this option ASCII
-     * capitals are */
+     * capitals are read as small letters */
     DURATION_STR_OPTION_LOWERCASE = 2,
     /* the Chinese names of the units are read too */
     DURATION_STR_OPTION_CN_UNIT = 4,
@@ -103,10 +103,10 @@ enum duration_str_option {
  * `enum duration_str_unit`, instead of seconds. For example, with milliseconds
  * `1500` and `1s 500` are 1.5 seconds.
  *
- * The option includes DURATION_STR_OPTION_NO_CALC, since a factor would count
- * this unit too: with milliseconds `90s*2` would be 180 ms. The option is
- * unknown if you take that bit out, if you add
- * DURATION_STR_OPTION_REQUIRE_UNIT, or if no unit has the number `unit`. */
+ * The option includes DURATION_STR_OPTION_NO_CALC, since a factor without a
+ * unit would count `unit` too: with milliseconds `90s*2` would be 180 ms. The
+ * option is unknown if you take the bit DURATION_STR_OPTION_NO_CALC out, if you
+ * add DURATION_STR_OPTION_REQUIRE_UNIT, or if no unit has the number `unit`. */
 #define DURATION_STR_OPTION_DEFAULT_UNIT(unit) \
     (DURATION_STR_OPTION_NO_CALC | ((unit) + UINT32_C(1)) << 16)
 

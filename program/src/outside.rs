@@ -69,7 +69,8 @@ impl<A: Allocator> fmt::Write for String<A> {
 
 #[test]
 fn asks_for_as_much_as_it_takes() {
-    // Elements of this type take no memory, so only the one that is too many to count is refused.
+    // Elements of this type take no memory, so an element is only refused if there are too many to
+    // count.
     let mut values = Vec::new(Heap);
     assert!(values.extend_from_slice(&[()]).is_ok());
     assert!(values.extend_from_slice(&[(); usize::MAX]).is_err());
