@@ -136,7 +136,7 @@ if {"bdist_wheel", "dist_info"} & set(sys.argv):
 limited = not sysconfig.get_config_var("Py_GIL_DISABLED")
 if IS_CHECKOUT:
     for name in ["LICENSE", "NOTICE"]:
-        with contextlib.suppress(OSError):  # Where nothing can be written, the package has none.
+        with contextlib.suppress(OSError):  # Where nothing can be written, the package has neither.
             shutil.copyfile(CHECKOUT / name, HERE / name)
 room = tempfile.mkdtemp()
 atexit.register(shutil.rmtree, room, True)

@@ -32,7 +32,7 @@ def _is_missing(value: Any) -> bool:
 
 
 def _flat(values: Any) -> list[Any]:
-    """The values of a sequence, or of an array one after the other. A masked value is None."""
+    """A list of the values of a sequence, or of an array of any shape. A masked value is None."""
     import numpy
 
     pandas = sys.modules.get("pandas")
@@ -61,8 +61,8 @@ def _lengths(values: Any) -> Any:
 
 
 def _like(values: Any, result: Any) -> Any:
-    """Turns a flat array into what the values are: a Series, an Index, or an array of their
-    shape."""
+    """Turns a flat array of results into the type that the values have: a Series, an Index, or an
+    array of their shape."""
     pandas = sys.modules.get("pandas")
     if pandas is not None and isinstance(values, pandas.Series):
         return pandas.Series(result, index=values.index, name=values.name)
@@ -224,10 +224,10 @@ def format_many(
     int of nanoseconds or a timedelta. The options are those of `format`.
 
     For a list or any other iterable it returns a list of str. For a Series, an
-    Index or a NumPy array it returns one of objects, with the same shape,
-    index and name. Such a column may also have the type timedelta64, in units
-    from weeks to nanoseconds. Missing values, such as None, NaN and NaT,
-    become None.
+    Index or a NumPy array it returns the same kind of column, with the type
+    object and the same shape, index and name. Such a column may also have the
+    type timedelta64, in units from weeks to nanoseconds. Missing values, such
+    as None, NaN and NaT, become None.
 
     It raises the errors of `format`, with the value's position in the message.
 

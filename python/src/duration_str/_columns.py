@@ -32,7 +32,7 @@ def zeros(count: int) -> array[int]:
 
 
 def raises_errors(errors: str) -> bool:
-    """Whether `errors` says that errors are raised. Raises ValueError if it is no such option."""
+    """Whether `errors` is "raise". Raises ValueError if it is neither "raise" nor "coerce"."""
     if errors not in ("raise", "coerce"):
         raise ValueError(f"errors must be 'raise' or 'coerce', not {errors!r}")
     return errors == "raise"

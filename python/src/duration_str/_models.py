@@ -50,8 +50,8 @@ def _print(value: Any) -> str:
 
 
 class _Shown(dict[str, Any]):
-    """A JSON schema, to which pydantic adds a field's default last. That is a timedelta in ISO
-    8601, or as a number of seconds, and this class replaces it by the duration's text.
+    """A JSON schema, to which pydantic adds a field's default last. The default is a timedelta in
+    ISO 8601, or as a number of seconds, and this class replaces it by the duration's text.
     """
 
     def __setitem__(self, key: str, value: Any) -> None:
@@ -99,7 +99,7 @@ class DurationField(WithOptions):
         )
 
     def __get_pydantic_json_schema__(self, schema: Any, handler: Any) -> Any:
-        # pydantic writes limits that JSON Schema doesn't have for a string.
+        # pydantic also writes the limits, which JSON Schema doesn't have for a string.
         told = handler({"type": "str"})
         return _Shown(
             (key, value) for key, value in told.items() if key not in ("gt", "ge", "lt", "le")

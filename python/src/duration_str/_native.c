@@ -37,7 +37,7 @@ enum kept {
     A_SECOND,
     KEPT
 };
-/* The names, which come before ERROR, in their order */
+/* The names. In the enumeration they come before ERROR, in the same order */
 static const char *const kept_names[] = {"no_calc", "lowercase", "cn_unit", "require_unit",
     "default_unit", "parts", "units", "largest", "smallest", "style", "days", "seconds",
     "microseconds"};
@@ -212,7 +212,7 @@ static int unit_read(PyObject *name) {
     return -1;
 }
 
-/* The number of the unit that a name stands for, printed or read. Returns -1 with an error. */
+/* The number of the unit that is printed or read by this name. Returns -1 with an error. */
 static int unit_of(PyObject *name, const char *keyword) {
     int unit = place_among(name, unit_names, DURATION_STR_UNIT_NANOSECOND + 1);
     if (unit < 0 && PyUnicode_Check(name))
@@ -249,7 +249,7 @@ static int take_options(struct state *state, const char *call, PyObject *const *
         if (take_option(
                 state, call, PyTuple_GetItem(keywords, at), values[at], options, &default_unit))
             return -1;
-    /* The second is the default unit anyway, and operators are read with it. */
+    /* Seconds are the default unit anyway, and operators are read with them. */
     if (default_unit == DURATION_STR_UNIT_SECOND)
         return 0;
     if (*options & DURATION_STR_OPTION_REQUIRE_UNIT) {
@@ -481,8 +481,8 @@ static PyObject *text_of_timedelta(
         (uint64_t)parts[0] * 86400 + (uint64_t)parts[1], (uint32_t)parts[2] * 1000, limits);
 }
 
-/* The text of a duration. The function is called for a value that is neither int nor timedelta. If
- * it says that the value is missing, the result is None. */
+/* The text of a duration. `function` is called for a value that is neither int nor timedelta. If it
+ * returns None, since the value is missing, the result is None. */
 static PyObject *text_of_value(
     struct state *state, PyObject *value, PyObject *function, const struct limits *limits) {
     if (PyLong_CheckExact(value))
@@ -822,7 +822,7 @@ PyDoc_STRVAR(parse_ns_doc,
     "The options are off by default:\n\n"
     "  no_calc       `+` and `*` are not read, and the terms are added one by one\n"
     "  lowercase     capitals are not read as small letters; without this option\n"
-    "                ASCII capitals are\n"
+    "                ASCII capitals are read as small letters\n"
     "  cn_unit       the Chinese names of the units are read too\n"
     "  require_unit  a number without a unit is refused\n\n"
     "A number without a unit counts the `default_unit`. You can give the unit by any\n"
