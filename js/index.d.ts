@@ -18,7 +18,8 @@ export interface Options {
     /** `+` and `*` are not read, and the terms are added one by one. */
     noCalc?: boolean | undefined;
     /**
-     * Capitals are not read as small letters. Without this option, ASCII capitals are.
+     * Capitals are not read as small letters. Without this option, ASCII capitals are read as small
+     * letters.
      */
     lowercase?: boolean | undefined;
     /** The Chinese names of the units are read too. */
@@ -31,8 +32,8 @@ export interface Options {
     /**
      * The default unit, which a number without a unit counts. With `ms`, `1500` is 1.5 seconds, and
      * so is `1s 500`. A factor without a unit would count it too: `90s*2` would be 90 seconds times
-     * 2 milliseconds. So a default unit other than the second turns `noCalc` on. You can't set it
-     * together with `requireUnit`.
+     * 2 milliseconds. So a default unit other than the second turns `noCalc` on. You can't set
+     * `defaultUnit` together with `requireUnit`.
      */
     defaultUnit?: Unit | undefined;
 }
@@ -55,8 +56,8 @@ export type Unit =
     | "µs" | "µsec" | "µsecond" | "us" | "usec" | "usecond" | "microsecond" | "microseconds"
     | "ns" | "nsec" | "nanosecond" | "nanoseconds";
 
-/** Limits for which units are counted, and how many parts. They must be a plain object, and only
- * the object's own properties count. */
+/** Limits that say which units are counted, and how many parts. They must be a plain object, and
+ * only the object's own properties count. */
 interface Counted<Name extends Unit> {
     /**
      * Only these units, in any order. A unit that is named twice counts once. With `["y", "d"]`,
@@ -88,15 +89,15 @@ export interface Limits extends Counted<Unit> {
 }
 
 /**
- * Limits for what `parts` counts. By default it counts all of the duration, from days to
+ * Limits for the function `parts`. By default it counts all of the duration, from days to
  * nanoseconds. Longer units are counted if they are among the `units`, or if the `largest` is
  * longer than a day.
  */
 export type PartLimits = Counted<Exclude<Unit, "q" | "quarter" | "quarters">>;
 
 /**
- * The parts of a duration that are not 0. `Intl.DurationFormat` and `Temporal.Duration.from` take
- * these names.
+ * The parts of a duration that are not 0, by the names of their units. `Intl.DurationFormat` and
+ * `Temporal.Duration.from` take objects with these names.
  */
 export type Parts = Partial<Record<PartName, number>>;
 type PartName =
@@ -227,8 +228,8 @@ export declare const version: string;
  * @throws DurationError if the text is refused
  * @throws TypeError if `text` is not a string, or if an option is unknown or of another type
  * @throws RangeError if no unit has the name of `defaultUnit`, or if `requireUnit` is also on
- * @throws Error if WebAssembly is missing or refused. Every call throws it. The message says what
- * to do, and the `cause` is the engine's error. The next call tries again.
+ * @throws Error if WebAssembly is missing or refused. The other functions throw it too. The message
+ * says what to do, and the `cause` is the engine's error. The next call tries again.
  */
 export function parse(text: string, options?: Options): number;
 

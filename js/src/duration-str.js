@@ -120,8 +120,9 @@ function decode(bytes) {
     return decoder.decode(bytes);
 }
 
-/** Arrays for the codes of short texts, one for each length. They have all their places, since to
- * assign to a place that an array lacks calls a setter that a page has given to all arrays. */
+/** Arrays for the codes of short texts, one for each length. An array has all its elements from the
+ * start. To assign to an element that it lacks would call a setter, if a page has given one to all
+ * arrays. */
 const codesOf = { __proto__: null };
 
 /** The text of this length that a call has written. */
@@ -666,7 +667,8 @@ export function parts(value, options = {}) {
         room--;
     }
     if (room < most) return counts;
-    // There are no parts: it is 0 of the smallest unit, or of the second if that unit is shorter.
+    // There are no parts, so the result is 0 of the smallest unit, or 0 seconds if that unit is
+    // shorter.
     const zero = Math.min(31 - Math.clz32(left), indexIn(UNITS, "s"));
     return { [PARTS[zero]]: 0 };
 }

@@ -263,8 +263,8 @@ for (const format of ["esm", "cjs"]) {
 }
 
 /**
- * Opens a page in Chromium, which is served with these files and headers, and returns the message
- * that it posts. The first file is the page.
+ * Serves these files with these headers, opens the first file as a page in Chromium, and returns
+ * the message that the page posts.
  */
 async function pageMessage(files, headers = {}) {
     let browser;

@@ -75,7 +75,7 @@ const FIELDS = `function fieldsOf(call) {
 }`;
 
 /** A realm in which the code `before` runs before the package is loaded, and the code `after` runs
- * after it, with other names too. */
+ * afterwards. The realm also has the global names of `others`. */
 function realm(file, before, after, others) {
     const source = readFileSync(new URL(`../dist/${file}`, import.meta.url), "utf8");
     const context = createContext({ module: {}, names: NAMES, ...others });
@@ -102,8 +102,7 @@ function told(call, context) {
     }
 }
 
-/** Compares a realm that is changed before or after the package is loaded with an untouched realm.
- */
+/** Compares an untouched realm with one that is changed before or after the package is loaded. */
 function same(file, before, after) {
     for (const others of [{}, { TextEncoder, TextDecoder }]) {
         const touched = realm(file, before, after, others);

@@ -86,7 +86,7 @@ test("counts the default unit where a number has none", () => {
         ["1", "us", 0.001],
         ["1", "µs", 0.001],
         ["18446744073709", "ms", 18_446_744_073_709],
-        // The second is also the default unit if none is chosen, and operators are read with it.
+        // Seconds are also the default unit if none is chosen, and operators are read with them.
         ["2*3", "s", 6000],
         ["2*3", undefined, 6000],
     ];
