@@ -26,8 +26,8 @@ function optionsToTry(options, text) {
     return tried.map((each) => ({ ...options, ...each }));
 }
 
-/** How many of the next smaller unit a unit has, and that unit's name. People leave it out at the
- * end, as in `1h 30`. */
+/** How many of the next smaller unit a unit has, and the smaller unit's name. People leave the
+ * smaller unit out at the end, as in `1h 30`. */
 const LEFT_OUT = { d: [24n, "h"], h: [60n, "m"], m: [60n, "s"] };
 
 /** Adds the unit that is left out at the end of a sum. Returns null if it isn't certain which unit

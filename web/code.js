@@ -172,7 +172,7 @@ function shell(text, options, limits) {
 }
 
 /** For each language, by its id in the page: its title, how to get the package in a clone, and the
- * function that makes the program, which is empty if there is none. */
+ * function that returns the program, or an empty text if there is no program. */
 export const LANGUAGES = {
     rust: ["Rust", 'duration-str = { path = "../duration_str/rust" }', rust],
     python: ["Python", "pip install ./python", python],

@@ -325,8 +325,8 @@ function numberOf(words) {
 
 const isPlural = (name) => /\p{L}{2}s$/iu.test(name);
 
-/** The count that a number word means, in the same form. It is null if the unit's singular or
- * plural doesn't fit, since `twenty second` may be an ordinal. */
+/** The count that a number word means, in the form that `numberOf` returns. It is null if the
+ * unit's singular or plural doesn't fit, since `twenty second` may be an ordinal. */
 function wordOf(words, name) {
     const [, hundreds = "", rest] = /^(?:(\w+) hundred(?: and)? ?)?(.*)/.exec(words.toLowerCase());
     const [first, second = ""] = rest.split(/[-\s]+/);

@@ -1,6 +1,6 @@
 // The link. It holds the text, the options and how the duration is printed:
-// `#text=1h%2030&lowercase&default_unit=ms&style=long&units=y,d`, or `require_unit` for the default
-// unit.
+// `#text=1h%2030&lowercase&default_unit=ms&style=long&units=y,d`. In place of the default unit it
+// may have `require_unit`.
 import {
     agree, chooseUnits, chosenLimits, defaultUnit, limitUnits, printing, REFUSED, SECOND,
     showNoCalc, switches, WHOLE,

@@ -1,6 +1,6 @@
 // Tests what the page says about texts and offers for them, without a browser. Run js/build first,
-// then: node --test web/tests/advice.test.js texts.json has the texts and what is expected of them;
-// page.py describes its parts.
+// and then `node --test web/tests/advice.test.js`. texts.json has the texts and what is expected of
+// them; page.py describes its parts.
 import assert from "node:assert/strict";
 import { readFileSync } from "node:fs";
 import test from "node:test";
@@ -109,7 +109,7 @@ for (const [group, rows] of Object.entries(TEXTS.meant)) {
         for (const [text, ...meant] of rows) {
             const { ok, value, fault } = tryParseNs(text);
             const offers = ok ? notesOn(text, value, NONE).offers : offersFor(text, NONE);
-            // The value that the text is read as is not offered.
+            // If the text is read, its own value is not offered.
             const wanted = meant.filter(Boolean).map(nanosOf).filter((each) => each !== value);
             assert.deepEqual(offers.map((each) => each.value), wanted, text);
             for (const each of offers) {

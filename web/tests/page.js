@@ -36,7 +36,7 @@ function pressedUnits() {
     });
 }
 
-/** The position of the answer for each beginning of the texts. */
+/** The positions of the answer while the texts are typed, character by character. */
 function places(texts) {
     const beginnings = texts.flatMap(
         (text) => Array.from({ length: text.length + 1 }, (_, end) => text.slice(0, end)),
