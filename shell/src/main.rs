@@ -70,7 +70,7 @@ fn of_input(error: io::Error) -> io::Error {
 struct Run<'a> {
     output: BufWriter<Box<dyn Write>>,
     end: u8,
-    /// Whether the last line has no line end, in a file in which other text is kept.
+    /// Whether the line that was read has no line end, and with `--field` or `--header` gets none.
     is_open: bool,
     choices: &'a Choices,
     has_refused: bool,

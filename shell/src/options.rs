@@ -10,8 +10,8 @@ use std::ffi::{OsStr, OsString};
 use std::os::unix::ffi::OsStrExt;
 use std::time::Duration;
 
-/// The options that say how to print for people. If an option requires another one that is in
-/// conflict with these, clap doesn't report that it is missing.
+/// The options that say how to print for people. `--to` is in conflict with them. So if one of them
+/// is given, clap doesn't report that `--decimals` or `--round` lacks the `--to` that it requires.
 const SHAPES: [&str; 5] = ["style", "parts", "units", "largest", "smallest"];
 
 /// Read durations such as 1h 30m, and print them for people or as numbers

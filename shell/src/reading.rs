@@ -75,8 +75,9 @@ pub fn read<'a>(bytes: &'a [u8], choices: &Choices) -> Result<(&'a str, u64), Re
 }
 
 /// If a text is only a number, such as `12.5`, `.5` or `1.2e-05`, returns it without the blanks
-/// around it, with its nanoseconds in this unit. Written without an exponent, the first 18 decimals
-/// count, and the result is rounded down. With `Round::Up`, both are rounded up.
+/// around it, with its nanoseconds in this unit. The number is written without its exponent, and
+/// rounded down to 18 decimals. The result is rounded down too. With `Round::Up`, the number and
+/// the result are rounded up.
 fn bare_number(text: &str, unit: TimeUnit, round: Round) -> Option<(&str, u128)> {
     let number = text.trim_matches([' ', '\t', '\r', '\n']);
     let (digits, exponent) = number.split_once(['e', 'E']).unwrap_or((number, "0"));

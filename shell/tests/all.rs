@@ -268,7 +268,7 @@ fn takes_bare_numbers_as_a_unit() {
         answer(&["--from", "s", "--to", "ns", "18446744073.709551615"]),
         "18446744073709551615\n"
     );
-    // With --round up a text above zero is above zero, and a whole number stays the same.
+    // With --round up no number above zero is printed as zero, and a whole number stays the same.
     for (unit, text, nanos) in [
         ("s", "1e-10", 1),
         ("y", "1e-40", 1),
