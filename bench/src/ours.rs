@@ -193,7 +193,7 @@ impl Library for Archive {
 }
 
 /// Prints the values that `of` makes of the expressions' values, `count` times. It is a function of
-/// its own, so that the other calls are compiled as before.
+/// its own, so that it doesn't change how the other calls are compiled.
 #[inline(never)]
 fn print_all<L: Library>(count: u64, of: fn(Duration) -> Duration) {
     let lengths: Vec<Duration> = expressions()
