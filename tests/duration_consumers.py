@@ -20,8 +20,8 @@ LENGTHS = [
     10**9 * each for each in (31_536_000, 7_862_400, 2_592_000, 604_800, 86_400, 3_600, 60, 1)
 ]
 LENGTHS += [10**6, 10**3, 1]
-# Some programs keep a number of seconds as a double, which has 53 bits. Its ninth decimal is the
-# last.
+# Some programs keep a number of seconds as a double, which has 53 bits. The number has at most nine
+# decimals.
 PRECISION = fractions.Fraction(1, 2**52)
 WAITS = r"""
 #include <stdio.h>

@@ -110,7 +110,7 @@ def read(data, options):
         return read_number(text.strip(BLANKS), options)
     text = (
         text if len(text) < 10_000 else text.strip(BLANKS)
-    )  # The blanks around a long one would take long.
+    )  # The blanks around a long text would take long.
     is_unit_required = "from" in options or "require-unit" in options
     answer = reference.answer_of(
         text,
@@ -251,7 +251,7 @@ class Commands(Texts):
             return b"5" + self.choice((b"x", b"0", "é".encode(), b"0 ")) * self.random.randint(
                 36, 44
             )
-        if "to" in options and self.chance(30):  # Often as near to one number as to the next.
+        if "to" in options and self.chance(30):  # This is often halfway between two numbers.
             return b"%dns" % (
                 LENGTHS[options["to"]]
                 * self.choice((1, 3))

@@ -674,9 +674,9 @@ def quote(text):
 
 
 def kind_in_line(character):
-    """Whether a character is a letter or a digit, which form pieces with their like, or None for
-    neither. A letter is one of ASCII, or a character beyond ASCII that is neither hidden nor a
-    sign.
+    """The kind of a character, which is letter or digit, or None for any other character.
+    Neighbours of one kind form a piece. A letter is one of ASCII, or a character beyond ASCII that
+    is neither hidden nor a sign.
     """
     if character.isascii():
         return "letter" if character.isalpha() else "digit" if character in DIGITS else None
