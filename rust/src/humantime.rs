@@ -1,4 +1,4 @@
-//! The items of the crate humantime for durations, under their names. To move a program to this
+//! The items of the crate humantime for durations, under the same names. To move a program to this
 //! crate, change one import: `use duration_str::humantime;`.
 //!
 //! A text that both humantime and this module read is the same duration in both. So a text that

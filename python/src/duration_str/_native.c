@@ -829,8 +829,8 @@ PyDoc_STRVAR(parse_ns_doc,
     "name that is read. If it is not the second, `+` and `*` are not read, since a\n"
     "factor would count it too.\n\n"
     "Raises DurationError if the text is refused, and DurationTypeError if it is\n"
-    "not a str. Raises ValueError if no unit has the name, or if a unit is required\n"
-    "and `default_unit` is not the second.\n\n"
+    "not a str. Raises ValueError if `default_unit` names no unit, or if a unit is\n"
+    "required and `default_unit` is not the second.\n\n"
     ">>> duration_str.parse_ns('1500', default_unit='ms')\n"
     "1500000000");
 PyDoc_STRVAR(parse_doc,

@@ -90,7 +90,7 @@ impl<'de, T: Length> Visitor<'de> for Optional<T> {
 /// duration must be a value that the format itself stores as a text. An optional one may be any
 /// value that the format can give as a text. So YAML's `90` is refused as a required duration, but
 /// read as an optional one. Formats that don't store the types of their values, such as bincode,
-/// can't have a required one. The module [`human`](crate::human) has one rule for both.
+/// can't have a required duration. The module [`human`](crate::human) has one rule for both.
 ///
 /// # Errors
 ///
