@@ -98,7 +98,7 @@ library:
 
 # The command depends on the crate for Rust, and on crates of others. cargo hashes the absolute path
 # of a crate outside of the workspace, and so makes other bytes in each folder. So out/command is a
-# folder around the command and the crate for Rust. It has copies of both, since the gate refuses
+# workspace around the command and the crate for Rust. It has copies of both, since the gate refuses
 # links.
 command = out/cargo/$(host)/release/duration
 crates = clap clap_complete clap_derive serde_json

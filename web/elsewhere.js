@@ -1,6 +1,6 @@
 // What a text means to other programs, in one version of each. Other versions may differ.
-// tests/elsewhere.test.js runs the programs in these versions, and compares. Each reader returns
-// nanoseconds, which may be negative, or null if the program refuses the text.
+// tests/elsewhere.test.js compares the readers below with the programs in these versions. Each
+// reader returns nanoseconds, which may be negative, or null if the program refuses the text.
 import { formatNs } from "../js/dist/duration-str.js";
 
 const MICROSECOND = 1_000n;
