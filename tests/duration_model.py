@@ -251,7 +251,8 @@ class Commands(Texts):
             return b"5" + self.choice((b"x", b"0", "é".encode(), b"0 ")) * self.random.randint(
                 36, 44
             )
-        if "to" in options and self.chance(30):  # This is often halfway between two numbers.
+        # The duration is often halfway between two numbers that `--to` can print.
+        if "to" in options and self.chance(30):
             return b"%dns" % (
                 LENGTHS[options["to"]]
                 * self.choice((1, 3))

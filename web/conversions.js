@@ -288,7 +288,7 @@ const HUNDREDS = `(?:${DIGIT}) hundred(?: (?:and )?(?:${BELOW_HUNDRED}))?`;
 const WORD = `${HUNDREDS}|${BELOW_HUNDRED}|an?|half(?: an?)?`;
 const VULGAR = "¼½¾⅐⅑⅒⅓⅔⅕⅖⅗⅘⅙⅚⅛⅜⅝⅞";
 const FRACTION = String.raw`(?:[0-9]+\s*)?[${VULGAR}]|(?:[0-9]+\s+)?[0-9]+\/[0-9]+`;
-// A point right after a letter abbreviates.
+// A point right after a letter ends an abbreviation.
 const NUMBER = String.raw`(?:(?<!\p{L})\.)?[0-9](?:[.,_'’\u00a0\u202f]?[0-9])*(?:e[+\-]?[0-9]+)?`;
 const COUNT_OF_TERM = String.raw`(${FRACTION})\s*|(${NUMBER})\s*|(${WORD})\s+`;
 const TERM = new RegExp(String.raw`(?:${COUNT_OF_TERM})(\p{L}+)(?:\.(?=\s|$))?`, "iuy");

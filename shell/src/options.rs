@@ -254,7 +254,7 @@ pub const ESCAPE: &[u8] = b"\0";
 fn escape(word: OsString) -> OsString {
     match word.as_encoded_bytes() {
         [b'-', b'.' | b'0'..=b'9', ..] => [OsStr::from_bytes(ESCAPE), &word].into_iter().collect(),
-        // Of `-d=` clap would take the sign away.
+        // clap would take away the equals sign of `-d=`.
         b"-d=" => "-d==".into(),
         _ => word,
     }

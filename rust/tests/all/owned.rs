@@ -1,4 +1,4 @@
-//! Tests errors that own their text, and faults in sets.
+//! Tests errors that own their text, and sets of faults.
 use crate::{choices, options_of};
 use duration_str::{Cause, DError, DurationError, Options, TimeUnit, parse_with};
 use duration_str_core::{self as proved, Tokens};
