@@ -436,7 +436,7 @@ fn put_parts(
 }
 
 /// Writes a part and a space after it. If the count is 0, it returns `at`, so that the next part is written over this
-/// one. It has no branch, since nobody can predict which counts are 0.
+/// one. A part with the count 0 is written too, since a processor can't predict a branch that skips it.
 #[inline(always)]
 fn put_spaced(buffer: &mut [u8], at: usize, count: u32, unit: TimeUnit) -> usize
     requires short { count < 1000 }

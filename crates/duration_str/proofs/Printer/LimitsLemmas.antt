@@ -36,7 +36,7 @@ pub below_day : (style : Style) (bytes : List ℕ) (most nanos : ℕ) → nanos 
     → with_parts style bytes (drop 5 units) most nanos ≡ with_parts style bytes units most nanos
 below_day style bytes most nanos h = without_days style (take 5 units) (drop 5 units) bytes most nanos refl h
 
--- The units that a set chooses from the units of a day or longer are a day or longer.
+-- If all of these units are a day or longer, so are those among them that are in the set.
 days_chosen : (set : Units) (us : List TimeUnit) → list_all is_days us ≡ true
     → list_all is_days (chosen set us) ≡ true
 days_chosen set [] long = rw (chosen_none set)
