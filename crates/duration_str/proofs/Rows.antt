@@ -523,3 +523,9 @@ older_names = flat_map (λ u. option_map_or (λ row. row.names ++ row.chinese) (
 -- There were 51 names, each of which occurred once.
 pub fifty_one_older_names : map (λ name. count_by (bytes_eq name) older_names) older_names ≡ replicate 51 1
 fifty_one_older_names = refl
+
+-- Each name from before the quarter named its unit, each Chinese name with `cn_unit`.
+pub older_names_of_one_unit : Each (λ u.
+    map (older_unit_of_word with_cn_unit) (option_map_or (λ row. row.names ++ row.chinese) (older_row_of u) [])
+    ≡ option_map_or (λ row. map (λ name. Some u) (row.names ++ row.chinese)) (older_row_of u) []) units
+older_names_of_one_unit = assumption
