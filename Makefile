@@ -48,7 +48,8 @@ help:
 
 # ---- What is built
 
-# ./durstr is built with the profile `quick`, and files to install or release with `release`.
+# ./durstr builds the program with the profile `quick`. Files that are installed or released are
+# built with the profile `release`.
 profile = release
 host := $(or $(shell rustc -vV 2>/dev/null | sed -n 's/^host: //p'),\
     $(notdir $(firstword $(wildcard out/cargo/$(shell uname -m)-*))))

@@ -263,7 +263,9 @@ def try_elsewhere(page):
 
 
 def try_lines(page):
-    """Each of several lines has its value or its fault, and is mended by itself."""
+    """Each of several lines has its value or its fault. An offer mends only the line to which it
+    belongs.
+    """
     page.open("#text=1:30")
     for text, marks, expected in TEXTS["lines"]:
         page.put(text)
