@@ -1,7 +1,7 @@
 //! The macro `duration!`, which `duration-str` exports under the feature `macros`.
 #![forbid(unsafe_code)]
 
-use duration_str_core::{Options, parse_with, parse_with_units};
+use duration_str_core::{ONE_LINE_BUFFER_SIZE, Options, parse_with, parse_with_units};
 use proc_macro::{Delimiter, Span, TokenStream, TokenTree};
 
 /// Reads a duration when the program is compiled, and gives a constant of type
@@ -56,8 +56,9 @@ fn value(input: TokenStream) -> Result<TokenStream, Refusal> {
     } else {
         parse_with
     };
+    let mut buffer = [0; ONE_LINE_BUFFER_SIZE];
     let value = parse(text, options)
-        .map_err(|fault| (fault.write_one_line(&mut [0; 384]).to_string(), span))?;
+        .map_err(|fault| (fault.write_one_line(&mut buffer).to_string(), span))?;
     let (secs, nanos) = (value.as_secs(), value.subsec_nanos());
     Ok(code(&format!(
         "::core::time::Duration::new({secs}, {nanos})"
