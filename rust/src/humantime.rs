@@ -193,20 +193,19 @@ fn with_operators(text: &str) -> Result<StdDuration, Fault<'_>> {
     }
 }
 
-/// A text, rewritten for the proved reader: each token of the text as it was written, and a blank
-/// after it.
-/// The names that only humantime reads are replaced. A number of years or months becomes a number
-/// of seconds. If that is too large, it becomes the greatest number, which is refused too. A number
+/// A text, rewritten for the proved reader: each token of the user's text, and a blank after it. The
+/// names that only humantime reads are replaced. A number of years or months becomes a number of
+/// seconds. If that is too large, it becomes the greatest number, which is refused too. A number
 /// that is too large by itself stays.
 struct Rewritten {
     text: String,
-    /// Where each token begins: in the rewritten text, and in the written text
+    /// Where each token begins: in the rewritten text, and in the user's text
     starts: Vec<(usize, usize)>,
 }
 
 impl Rewritten {
     fn of(text: &str) -> Rewritten {
-        let mut written = Rewritten {
+        let mut rewritten = Rewritten {
             text: String::new(),
             starts: Vec::new(),
         };
@@ -220,19 +219,22 @@ impl Rewritten {
             };
             let before = number.take();
             if let (Some((start, number)), Some(seconds)) = (before, seconds) {
-                written.text.truncate(start);
+                rewritten.text.truncate(start);
                 let number = number.saturating_mul(seconds).to_string();
-                written.push(&number, None);
-                written.push("s", Some(token.start));
+                rewritten.push(&number, None);
+                rewritten.push("s", Some(token.start));
             } else {
-                number = name.parse().ok().map(|number| (written.text.len(), number));
-                written.push(name, Some(token.start));
+                number = name
+                    .parse()
+                    .ok()
+                    .map(|number| (rewritten.text.len(), number));
+                rewritten.push(name, Some(token.start));
             }
         }
-        written
+        rewritten
     }
 
-    /// Appends a token, and records that it begins at `start` in the written text. If `start` is
+    /// Appends a token, and records that it begins at `start` in the user's text. If `start` is
     /// `None`, nothing is recorded.
     fn push(&mut self, token: &str, start: Option<usize>) {
         self.starts
@@ -241,7 +243,7 @@ impl Rewritten {
         self.text.push(' ');
     }
 
-    /// The place of a syntax fault in the written text, given its place in the rewritten one: where
+    /// The place of a syntax fault in the user's text, given its place in the rewritten one: where
     /// the token begins, or the end of the text.
     fn place_in(&self, text: &str, place: usize) -> usize {
         self.starts
