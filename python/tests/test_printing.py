@@ -155,10 +155,12 @@ class Printing(unittest.TestCase):
             " y",
             "1",
             "0s",
+            "000ms",  # With a 1 before it, it is a second.
             "h 0s",
             "\ud800",
             "y\0",
             "s" * 15,
+            "s" * 16,
             "s" * 999,
         ]:
             rows += [
@@ -180,8 +182,9 @@ class Printing(unittest.TestCase):
             for units in ("yd", "d", "", 4)
         ]
         rows += [({"units": units}, ValueError, "^units must not be empty$") for units in ([], {})]
-        limits = {"units": ("y", "mon"), "largest": "w"}
-        rows += [(limits, ValueError, "^units must have one from largest to smallest$")]
+        for limits in ({"largest": "w"}, {"largest": "w", "smallest": "w"}):
+            limits["units"] = ("y", "mon")
+            rows += [(limits, ValueError, "^units must have one from largest to smallest$")]
         for limits, error, told in rows:
             for call in [lambda: format(5, **limits), lambda: format_many([], **limits)]:
                 with self.subTest(**limits):

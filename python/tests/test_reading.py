@@ -73,8 +73,9 @@ class Reading(unittest.TestCase):
             for name in ("", "mins", "年", "m 0s")
         ]
         rows += [({"default_unit": unit}, TypeError, names) for unit in (None, 8, b"s")]
-        both = {"require_unit": True, "default_unit": "ms"}
-        rows += [(both, ValueError, "^default_unit must be 's' if require_unit is on$")]
+        for others in ({}, {"lowercase": True}):
+            both = {"require_unit": True, "default_unit": "ms", **others}
+            rows += [(both, ValueError, "^default_unit must be 's' if require_unit is on$")]
         calls = [lambda **words: parse("1s", **words), lambda **words: parse_ns("1s", **words)]
         calls += [lambda **words: parse_seconds("1s", **words), duration_str.DurationField]
         calls += [duration_str.argparse.DurationType]
