@@ -17,6 +17,8 @@ fn has_the_lengths_of_humantime() {
         ("1y + 1months", YEAR + MONTH),
         ("2s * 1month * 3s", 6 * MONTH),
         ("1\ty\n2mon", YEAR + 2 * MONTH),
+        ("1\ry", YEAR),
+        ("1\nmon", MONTH),
         ("584y", 584 * YEAR),
         ("7013month", 7_013 * MONTH),
         ("00000000000000000000001year", YEAR),
