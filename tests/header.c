@@ -101,6 +101,7 @@ static void check_default_units(void) {
                    read_with(units[unit], 0).nanos,
             "a number without a unit");
     const uint32_t millisecond = DURATION_STR_OPTION_DEFAULT_UNIT(DURATION_STR_UNIT_MILLISECOND);
+    expect(millisecond == 0x90001u, "the bits of a default unit, which bindings compute");
     expect(read_with("1s 500", millisecond).nanos == 1500000000u, "a second and milliseconds");
     expect(is_syntax(read_with("90s*2", millisecond), 3, after_unit, 1), "a factor");
     expect(read_with("1M 500", millisecond | DURATION_STR_OPTION_LOWERCASE).place == 1,

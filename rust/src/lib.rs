@@ -42,7 +42,7 @@
 //!
 //! The module `human` is for fields that serde writes and reads as text. `human_with_units` refuses
 //! a number without a unit, such as `"90"`. `human_or_seconds` also reads a number of seconds, such
-//! as `timeout = 30`.
+//! as `timeout = 30`. For `human_or_millis` numbers are milliseconds.
 //!
 #![cfg_attr(feature = "serde", doc = "```")]
 #![cfg_attr(not(feature = "serde"), doc = "```ignore")]
@@ -224,7 +224,9 @@ pub use self::serde::original::{deserialize_duration_chrono, deserialize_option_
 pub use self::serde::original::{deserialize_duration_time, deserialize_option_duration_time};
 #[cfg(feature = "serde")]
 #[doc(inline)]
-pub use self::serde::{human, human_or_seconds, human_with_units, humantime_serde};
+pub use self::serde::{
+    human, human_or_millis, human_or_seconds, human_with_units, humantime_serde,
+};
 #[doc(hidden)]
 pub use duration_str_core::{MAX_LONG_LEN, MAX_PRINTED_LEN, UNITS};
 #[cfg(feature = "macros")]

@@ -7,7 +7,8 @@
 //!
 //! - The format is asked for a text. So YAML's `90` is 90 seconds, and formats that don't store the
 //!   types of their values, such as bincode, are read too.
-//!   [`human_or_seconds`](crate::human_or_seconds) also reads numbers.
+//!   [`human_or_seconds`](crate::human_or_seconds) and
+//!   [`human_or_millis`](crate::human_or_millis) also read numbers.
 //! - The empty text is refused.
 //! - `None` is written as null, and read from null. With `#[serde(default)]` a missing field is
 //!   `None` too.
@@ -48,20 +49,20 @@
 //! use serde::{Deserialize, Deserializer, de::Error};
 //! use std::time::Duration;
 //!
-//! fn in_millis<'de, D: Deserializer<'de>>(deserializer: D) -> Result<Duration, D::Error> {
+//! fn in_minutes<'de, D: Deserializer<'de>>(deserializer: D) -> Result<Duration, D::Error> {
 //!     let text = String::deserialize(deserializer)?;
-//!     parse_in(&text, TimeUnit::MilliSecond)
+//!     parse_in(&text, TimeUnit::Minute)
 //!         .map_err(|error| D::Error::custom(format_args!("invalid duration: {error}")))
 //! }
 //!
 //! #[derive(Deserialize)]
 //! struct Settings {
-//!     #[serde(deserialize_with = "in_millis")]
+//!     #[serde(deserialize_with = "in_minutes")]
 //!     timeout: Duration,
 //! }
 //!
-//! let settings: Settings = serde_json::from_str(r#"{ "timeout": "1500" }"#)?;
-//! assert_eq!(settings.timeout, Duration::from_millis(1_500));
+//! let settings: Settings = serde_json::from_str(r#"{ "timeout": "15" }"#)?;
+//! assert_eq!(settings.timeout, Duration::from_secs(15 * 60));
 //! assert!(serde_json::from_str::<Settings>(r#"{ "timeout": "90s*2" }"#).is_err());
 //! # Ok::<(), serde_json::Error>(())
 //! ```
@@ -71,7 +72,7 @@ use crate::human_format::Sealed;
 use crate::humantime;
 use crate::parser::{ADDITIONS, parse_with};
 use crate::serde::original::Length;
-use crate::{FORMAT_BUFFER_SIZE, write_human};
+use crate::{FORMAT_BUFFER_SIZE, TimeUnit, write_human};
 use alloc::vec::Vec;
 use core::fmt;
 use core::marker::PhantomData;
@@ -80,8 +81,9 @@ use core::time::Duration;
 use serde::de::{self, Deserialize, Deserializer, Unexpected, Visitor};
 use serde::ser::{self, Serialize, Serializer};
 
-/// The types of fields that this module, [`human_with_units`](crate::human_with_units) and
-/// [`human_or_seconds`](crate::human_or_seconds) write and read.
+/// The types of fields that this module, [`human_with_units`](crate::human_with_units),
+/// [`human_or_seconds`](crate::human_or_seconds) and [`human_or_millis`](crate::human_or_millis)
+/// write and read.
 ///
 /// A map needs no `with`:
 ///
@@ -152,14 +154,24 @@ pub fn deserialize<'de, T: HumanText, D: Deserializer<'de>>(
 
 /// The ways in which a field is read and written. `TEXT` is a text. `WITH_UNITS` is a text in which
 /// each number needs its unit. `SECONDS` is a text or whole seconds. `STRICT` is a text as
-/// humantime reads and prints it.
+/// humantime reads and prints it. `MILLIS` is a text or whole milliseconds.
 pub(crate) const TEXT: u8 = 0;
 pub(crate) const WITH_UNITS: u8 = 1;
 pub(crate) const SECONDS: u8 = 2;
 pub(crate) const STRICT: u8 = 3;
+pub(crate) const MILLIS: u8 = 4;
 
-/// Reads a text, or its bytes, as a duration. If `HOW` is `SECONDS`, it also reads a whole number
-/// as seconds.
+/// The unit that a number has which is not a text, or `None` if such a number is refused.
+const fn unit_of_numbers(how: u8) -> Option<TimeUnit> {
+    match how {
+        SECONDS => Some(TimeUnit::Second),
+        MILLIS => Some(TimeUnit::MilliSecond),
+        _ => None,
+    }
+}
+
+/// Reads a text, or its bytes, as a duration. If `HOW` is `SECONDS` or `MILLIS`, it also reads a
+/// whole number.
 struct Text<T, const HOW: u8>(PhantomData<T>);
 
 impl<T: Length, const HOW: u8> Visitor<'_> for Text<T, HOW> {
@@ -167,32 +179,36 @@ impl<T: Length, const HOW: u8> Visitor<'_> for Text<T, HOW> {
 
     fn expecting(&self, f: &mut fmt::Formatter<'_>) -> fmt::Result {
         f.write_str("a duration such as '1min 30s'")?;
-        f.write_str(if HOW == SECONDS {
-            ", or whole seconds of at most 584 years"
-        } else {
-            ""
+        f.write_str(match HOW {
+            SECONDS => ", or whole seconds of at most 584 years",
+            MILLIS => ", or whole milliseconds of at most 584 years",
+            _ => "",
         })
     }
 
-    fn visit_u64<E: de::Error>(self, secs: u64) -> Result<T, E> {
-        match secs.checked_mul(1_000_000_000) {
-            Some(nanos) if HOW == SECONDS => Ok(T::of_std(Duration::from_nanos(nanos))),
-            None if HOW == SECONDS => Err(E::invalid_value(Unexpected::Unsigned(secs), &self)),
-            _ => Err(E::invalid_type(Unexpected::Unsigned(secs), &self)),
+    fn visit_u64<E: de::Error>(self, number: u64) -> Result<T, E> {
+        let Some(unit) = unit_of_numbers(HOW) else {
+            return Err(E::invalid_type(Unexpected::Unsigned(number), &self));
+        };
+        match number.checked_mul(unit.nanos()) {
+            Some(nanos) => Ok(T::of_std(Duration::from_nanos(nanos))),
+            None => Err(E::invalid_value(Unexpected::Unsigned(number), &self)),
         }
     }
 
-    fn visit_i64<E: de::Error>(self, secs: i64) -> Result<T, E> {
-        match u64::try_from(secs) {
-            Ok(secs) => self.visit_u64(secs),
-            Err(_) if HOW == SECONDS => Err(E::invalid_value(Unexpected::Signed(secs), &self)),
-            Err(_) => Err(E::invalid_type(Unexpected::Signed(secs), &self)),
+    fn visit_i64<E: de::Error>(self, number: i64) -> Result<T, E> {
+        match u64::try_from(number) {
+            Ok(number) => self.visit_u64(number),
+            Err(_) if unit_of_numbers(HOW).is_some() => {
+                Err(E::invalid_value(Unexpected::Signed(number), &self))
+            }
+            Err(_) => Err(E::invalid_type(Unexpected::Signed(number), &self)),
         }
     }
 
-    fn visit_u128<E: de::Error>(self, secs: u128) -> Result<T, E> {
-        match u64::try_from(secs) {
-            Ok(secs) => self.visit_u64(secs),
+    fn visit_u128<E: de::Error>(self, number: u128) -> Result<T, E> {
+        match u64::try_from(number) {
+            Ok(number) => self.visit_u64(number),
             Err(_) => {
                 let number = Unexpected::Other("integer of 2^64 or more");
                 Err(E::invalid_value(number, &self))
@@ -200,9 +216,9 @@ impl<T: Length, const HOW: u8> Visitor<'_> for Text<T, HOW> {
         }
     }
 
-    fn visit_i128<E: de::Error>(self, secs: i128) -> Result<T, E> {
-        match u128::try_from(secs) {
-            Ok(secs) => self.visit_u128(secs),
+    fn visit_i128<E: de::Error>(self, number: i128) -> Result<T, E> {
+        match u128::try_from(number) {
+            Ok(number) => self.visit_u128(number),
             Err(_) => {
                 let number = Unexpected::Other("negative integer");
                 Err(E::invalid_value(number, &self))
@@ -214,6 +230,10 @@ impl<T: Length, const HOW: u8> Visitor<'_> for Text<T, HOW> {
         let read = match HOW {
             WITH_UNITS => parse_with_default_unit(text, ADDITIONS, None),
             STRICT => humantime::read(text),
+            MILLIS => {
+                let options = ADDITIONS.with_no_calc();
+                parse_with_default_unit(text, options, Some(TimeUnit::MilliSecond))
+            }
             _ => parse_with(text, ADDITIONS),
         };
         // The message begins with what it is about, since the format adds its own line and column.
@@ -252,7 +272,7 @@ impl<T: Length> HumanText for T {
         deserializer: D,
     ) -> Result<T, D::Error> {
         let text = Text::<T, HOW>(PhantomData);
-        if HOW == SECONDS {
+        if unit_of_numbers(HOW).is_some() {
             deserializer.deserialize_any(text)
         } else {
             deserializer.deserialize_str(text)

@@ -2,8 +2,8 @@
 use crate::STYLES;
 use duration_str::human::{self, HumanText};
 use duration_str::{
-    HumanDuration, Style, TimeUnit, UnknownStyle, UnknownUnit, human_or_seconds, human_with_units,
-    humantime_serde, parse_duration,
+    HumanDuration, Style, TimeUnit, UnknownStyle, UnknownUnit, human_or_millis, human_or_seconds,
+    human_with_units, humantime_serde, parse_duration, parse_in,
 };
 use serde::de::value::{
     BytesDeserializer, Error, F64Deserializer, I64Deserializer, I128Deserializer, U64Deserializer,
@@ -338,6 +338,49 @@ fn reads_whole_seconds_and_texts() {
         human_or_seconds::serialize(&several, Serializer).unwrap(),
         json!(["1s", "2s", null])
     );
+}
+
+/// Reads a value of a format as a text or as whole milliseconds.
+fn in_millis<'de, D: Deserializer<'de, Error = Error>>(value: D) -> Result<Duration, String> {
+    human_or_millis::deserialize(value).map_err(|error| error.to_string())
+}
+
+#[test]
+fn reads_whole_milliseconds_and_texts() {
+    let wanted = Ok(Duration::from_millis(1_500));
+    assert_eq!(in_millis(U64Deserializer::new(1_500)), wanted);
+    assert_eq!(in_millis(I64Deserializer::new(1_500)), wanted);
+    assert_eq!(in_millis(BytesDeserializer::new(b"1500")), wanted);
+    let longest = u64::MAX / 1_000_000;
+    let most = Ok(Duration::from_millis(longest));
+    assert_eq!(in_millis(U64Deserializer::new(longest)), most);
+    for value in [json!(1_500), json!("1500"), json!("1s 500")] {
+        let required: Duration = human_or_millis::deserialize(value.clone()).unwrap();
+        assert_eq!(required, Duration::from_millis(1_500), "{value}");
+        let several: Vec<Option<Duration>> =
+            human_or_millis::deserialize(json!([value, null])).unwrap();
+        let written = human_or_millis::serialize(&several, Serializer).unwrap();
+        assert_eq!(written, json!(["1s 500ms", null]));
+    }
+    let expected = "a duration such as '1min 30s', or whole milliseconds of at most 584 years";
+    let refusal = |sort: &str| Err(format!("invalid {sort}, expected {expected}"));
+    assert_eq!(
+        in_millis(I64Deserializer::new(-1)),
+        refusal("value: integer `-1`")
+    );
+    assert_eq!(
+        in_millis(U64Deserializer::new(longest + 1)),
+        refusal("value: integer `18446744073710`")
+    );
+    assert_eq!(
+        in_millis(F64Deserializer::new(1.5)),
+        refusal("type: floating point `1.5`")
+    );
+    for text in ["90s*2", "5 mins"] {
+        let line = parse_in(text, TimeUnit::MilliSecond).unwrap_err();
+        let refusal = in_millis(BytesDeserializer::new(text.as_bytes()));
+        assert_eq!(refusal, Err(format!("invalid duration: {line}")));
+    }
 }
 
 #[test]
