@@ -79,7 +79,8 @@ interface Counted<Name extends Unit> {
 /**
  * How much of a duration is printed, and how. By default all of it is printed, from `y` to `ns`. If
  * all counts are 0, the text is 0 of the smallest unit, such as `0h`. If that unit is shorter than
- * a second, the text is `0s`, even if you left out the second.
+ * a second, the text is `0s`, even if you left out the second. In the style `long` these texts are
+ * `0 hours` and `0 seconds`.
  */
 export interface Limits extends Counted<Unit> {
     /**

@@ -238,7 +238,8 @@ size_t duration_str_format(
  * If all counts are 0, the text is `0` and the name of the smallest unit in
  * the set, such as `0h`. If that unit is shorter than a second, the text is
  * `0s`, even if the set has no second. If `parts` is 0, every duration has
- * this text. If the set is empty, every duration has the text `0s`.
+ * this text. If the set is empty, every duration has the text `0s`. In the
+ * long style `0h` is `0 hours`, and `0s` is `0 seconds`.
  *
  * Returns 0, and the text is empty, if `nanos` is 1,000,000,000 or more, if
  * `style` is above 2, or if `units` is above DURATION_STR_UNITS_ALL. */
