@@ -95,7 +95,8 @@ enum duration_str_option {
     /* the Chinese names of the units are read too */
     DURATION_STR_OPTION_CN_UNIT = 4,
     /* after a number only a unit can stand, so that `90` and `1h 30` are
-     * refused; without this option a number without a unit counts seconds */
+     * refused; without this option a number without a unit counts seconds,
+     * or the unit of DURATION_STR_OPTION_DEFAULT_UNIT */
     DURATION_STR_OPTION_REQUIRE_UNIT = 8
 };
 
