@@ -1,7 +1,6 @@
 /**
  * Reads durations as people write them, such as `3m + 13s + 29ms`, and prints them, such as
- * `3min 13s 29ms`. An error says what is wrong. For wrong syntax it also says where. The library
- * that reads and prints is proved.
+ * `3min 13s 29ms`. An error says what is wrong. For wrong syntax it also says where.
  *
  * A text is one term or several. A term is a number and a unit, such as `3m`. Terms are joined by
  * `+` or by `*`. If the operator is left out, as in `3m 13s`, the terms are added. A product
@@ -122,7 +121,7 @@ interface Refused {
     readonly expected: Expected;
 }
 
-/** The token at the place can't follow the text before it. */
+/** The token at the place can't follow the text before it, or the text ends too early. */
 export interface SyntaxFault extends Refused {
     readonly code: "SYNTAX";
     /**
