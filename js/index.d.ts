@@ -1,7 +1,6 @@
 /**
  * Reads durations as people write them, such as `3m + 13s + 29ms`, and prints them, such as
- * `3min 13s 29ms`. An error says what is wrong. For wrong syntax it also says where. The library
- * that reads and prints is proved.
+ * `3min 13s 29ms`. An error says what is wrong. For wrong syntax it also says where.
  *
  * A text is one term or several. A term is a number and a unit, such as `3m`. Terms are joined by
  * `+` or by `*`. If the operator is left out, as in `3m 13s`, the terms are added. A product
@@ -79,7 +78,8 @@ interface Counted<Name extends Unit> {
 /**
  * How much of a duration is printed, and how. By default all of it is printed, from `y` to `ns`. If
  * all counts are 0, the text is 0 of the smallest unit, such as `0h`. If that unit is shorter than
- * a second, the text is `0s`, even if you left out the second.
+ * a second, the text is `0s`, even if you left out the second. In the style `long` these texts are
+ * `0 hours` and `0 seconds`.
  */
 export interface Limits extends Counted<Unit> {
     /**
@@ -121,7 +121,7 @@ interface Refused {
     readonly expected: Expected;
 }
 
-/** The token at the place can't follow the text before it. */
+/** The token at the place can't follow the text before it, or the text ends too early. */
 export interface SyntaxFault extends Refused {
     readonly code: "SYNTAX";
     /**

@@ -95,7 +95,8 @@ enum duration_str_option {
     /* the Chinese names of the units are read too */
     DURATION_STR_OPTION_CN_UNIT = 4,
     /* after a number only a unit can stand, so that `90` and `1h 30` are
-     * refused; without this option a number without a unit counts seconds */
+     * refused; without this option a number without a unit counts seconds,
+     * or the unit of DURATION_STR_OPTION_DEFAULT_UNIT */
     DURATION_STR_OPTION_REQUIRE_UNIT = 8
 };
 
@@ -244,7 +245,8 @@ size_t duration_str_format(
  * If all counts are 0, the text is `0` and the name of the smallest unit in
  * the set, such as `0h`. If that unit is shorter than a second, the text is
  * `0s`, even if the set has no second. If `parts` is 0, every duration has
- * this text. If the set is empty, every duration has the text `0s`.
+ * this text. If the set is empty, every duration has the text `0s`. In the
+ * long style `0h` is `0 hours`, and `0s` is `0 seconds`.
  *
  * Returns 0, and the text is empty, if `nanos` is 1,000,000,000 or more, if
  * `style` is above 2, or if `units` is above DURATION_STR_UNITS_ALL. */

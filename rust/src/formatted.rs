@@ -33,7 +33,16 @@ use duration_str_core::{Format, STYLED_BUFFER_SIZE, Style, TimeUnit, write_withi
 ///
 /// If all counts are 0, or if you ask for 0 parts, the text is `0` and the smallest unit's name. If
 /// that unit is shorter than a second, the text is `0s`, even if you left out the second. If you
-/// left out all units, the text is `0s` for each duration.
+/// left out all units, the text is `0s` for each duration. In the long style it is `0 seconds`.
+///
+/// ```
+/// use duration_str::{Style, format_duration};
+/// use std::time::Duration;
+///
+/// let nothing = format_duration(Duration::from_secs(5)).only(&[]);
+/// assert_eq!(nothing.to_string(), "0s");
+/// assert_eq!(nothing.style(Style::Long).to_string(), "0 seconds");
+/// ```
 ///
 /// Width and fill pad the text. A precision is ignored.
 ///

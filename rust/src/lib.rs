@@ -19,7 +19,7 @@
 //! - Use [`parse_with_units`] to refuse `90` and `1h 30`, which most calls read as seconds.
 //! - Use [`parse_in`] if your program's numbers count another unit, such as milliseconds.
 //! - Use [`parse_with`] to set options, or if nothing may be allocated. Its [`Fault`] borrows the
-//!   text.
+//!   text. [`parse_with_default_unit`] also takes the default unit, or `None` to require units.
 //! - [`parse`], [`parse_std`] (which is the same) and the calls for `chrono` and `time` are the
 //!   calls of `duration-str` 0.19.0. Their error is a `String` of up to three lines. The features
 //!   of the whole program decide what these calls read.
@@ -65,8 +65,8 @@
 //! # Command lines
 //!
 //! For clap, use [`HumanDuration`] as the field's type, or a `Duration` with [`parse_duration`] as
-//! its `value_parser`. If you set `allow_hyphen_values`, `-5m` is refused as a negative duration,
-//! and not taken for an option.
+//! its `value_parser`. To refuse a number without a unit, take [`parse_with_units`] instead. If you
+//! set `allow_hyphen_values`, `-5m` is refused as a negative duration, and not taken for an option.
 //!
 //! ```text
 //! /// How long a request may take

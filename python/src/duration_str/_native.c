@@ -854,7 +854,7 @@ PyDoc_STRVAR(format_doc,
     "            (`1 hour 30 minutes`)\n\n"
     "The remainder is left out, so the text never shows more than the duration.\n"
     "If all counts are 0, the text is `0` and the smallest unit. If that unit is\n"
-    "shorter than a second, the text is `0s`.\n\n"
+    "shorter than a second, the text is `0s`. In the long style it is `0 seconds`.\n\n"
     "Raises ValueError if the duration is negative, if `parts` is 0, if a name is\n"
     "not that of a unit, or if no units are left. Raises OverflowError if the\n"
     "duration is 2**64 seconds or more. Raises TypeError if it is neither an int nor\n"

@@ -38,6 +38,10 @@
 //! assert_eq!((settings.timeout, settings.keep_alive), (Duration::from_secs(90), None));
 //! let text = serde_json::to_string(&settings)?;
 //! assert_eq!(text, r#"{"timeout":"1min 30s","keep_alive":null,"pauses":["1s","5s"]}"#);
+//!
+//! let refusal = serde_json::from_str::<Settings>(r#"{ "timeout": 90 }"#).err().unwrap();
+//! let line = "invalid type: integer `90`, expected a duration such as '1min 30s'";
+//! assert!(refusal.to_string().starts_with(line));
 //! # Ok::<(), serde_json::Error>(())
 //! ```
 //!
