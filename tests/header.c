@@ -112,6 +112,10 @@ static void check_default_units(void) {
                is_unknown(DURATION_STR_OPTION_DEFAULT_UNIT(14)) &&
                is_unknown(DURATION_STR_OPTION_DEFAULT_UNIT(15)),
         "a default unit above the last unit");
+    expect(is_unknown(DURATION_STR_OPTION_DEFAULT_UNIT(-1)) &&
+               is_unknown(DURATION_STR_OPTION_DEFAULT_UNIT(0xFFFF)) &&
+               is_unknown(DURATION_STR_OPTION_DEFAULT_UNIT(0x10000)),
+        "a default unit that would leave its four bits");
 }
 
 static void check_refusals(void) {
