@@ -31,8 +31,8 @@ export interface Options {
     /**
      * The default unit, which a number without a unit counts. With `ms`, `1500` is 1.5 seconds, and
      * so is `1s 500`. A factor without a unit would count it too: `90s*2` would be 90 seconds times
-     * 2 milliseconds. So a default unit other than the second turns `noCalc` on. You can't set
-     * `defaultUnit` together with `requireUnit`.
+     * 2 milliseconds. So a default unit other than the second turns `noCalc` on, and you can't
+     * set it together with `requireUnit`.
      */
     defaultUnit?: Unit | undefined;
 }
@@ -227,7 +227,8 @@ export declare const version: string;
  *
  * @throws DurationError if the text is refused
  * @throws TypeError if `text` is not a string, or if an option is unknown or of another type
- * @throws RangeError if no unit has the name of `defaultUnit`, or if `requireUnit` is also on
+ * @throws RangeError if no unit has the name of `defaultUnit`, or if a unit is required and
+ * `defaultUnit` is not the second
  * @throws Error if WebAssembly is missing or refused. The other functions throw it too. The message
  * says what to do, and the `cause` is the engine's error. The next call tries again.
  */

@@ -13,6 +13,13 @@ SECOND = 10**9
 UNITS = ["y", "q", "mon", "w", "d", "h", "min", "s", "ms", "µs", "ns"]
 
 
+class Interrupted:
+    """An iterable that raises an error of its own."""
+
+    def __iter__(self):
+        raise KeyboardInterrupt("while it iterates")
+
+
 def length_of(text):
     """The nanoseconds of a text of the vectors, also if the duration is too long to be read."""
     secs, is_long, nanos = text.removesuffix(" ns").partition(" s ")
@@ -182,6 +189,7 @@ class Printing(unittest.TestCase):
             for units in ("yd", "d", "", 4)
         ]
         rows += [({"units": units}, ValueError, "^units must not be empty$") for units in ([], {})]
+        rows += [({"units": Interrupted()}, KeyboardInterrupt, "^while it iterates$")]
         for limits in ({"largest": "w"}, {"largest": "w", "smallest": "w"}):
             limits["units"] = ("y", "mon")
             rows += [(limits, ValueError, "^units must have one from largest to smallest$")]

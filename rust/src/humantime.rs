@@ -13,7 +13,7 @@
 //!
 //! This module prints what humantime prints, such as `1day 2h 3m`.
 //!
-//! Some texts that humantime reads are refused. The error says what to write:
+//! Some texts that humantime reads are refused. The error says what is wrong:
 //!
 //! - fractions of humantime 2.4, such as `1.5h`, and its `0` without a unit
 //! - 584 years and more

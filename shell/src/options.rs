@@ -240,9 +240,16 @@ fn with_list(shell: Shell, script: &str) -> String {
             script.replace("(LIST)", &format!("_sequence compadd - {words}"))
         }
         _ => {
-            // Each word, after the part of the list that is there already
-            let words = WORDS.map(|word| format!(r#"${{cur%"${{cur##*,}}"}}{word}"#));
-            script.replace("LIST", &words.join(" "))
+            // What was typed must not become a part of the words, since compgen expands them, and
+            // so would run a command that stands in them. The last word is completed, and the part
+            // of the list before it is put in front of each answer.
+            let answer = r#"COMPREPLY=($(compgen -W "LIST" -- "${cur}"))"#;
+            let (words, last) = (WORDS.join(" "), r"${cur##*,}");
+            let answers = format!(
+                r#"COMPREPLY=($(compgen -W "{words}" -- "{last}"))
+                    COMPREPLY=("${{COMPREPLY[@]/#/"${{cur%"{last}"}}"}}")"#
+            );
+            script.replace(answer, &answers)
         }
     }
 }

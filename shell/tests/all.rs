@@ -602,10 +602,11 @@ fn tells_of_itself() {
     }
 }
 
+/// What was typed is never run, such as `$(echo)`.
 #[test]
 fn completes_in_bash() {
     let words = "
-        lists=('--units m' '--units y,m' '--units y,d,n')
+        lists=('--units m' '--units y,m' '--units y,d,n' '--units $(echo),n' '--units y,&,n')
         for words in --sma '--to m' '--style l' '--round u' \"${lists[@]}\"; do
             COMP_WORDS=(duration $words) COMP_CWORD=$((${#COMP_WORDS[@]} - 1))
             _duration duration
@@ -615,6 +616,7 @@ fn completes_in_bash() {
     let ended = Command::new("bash").args(["-c", &script, "--"]).output();
     assert_eq!(
         ended.unwrap().stdout,
-        b"--smallest\nmon min ms\nlong\nup\nmon min ms\ny,mon y,min y,ms\ny,d,ns\n"
+        b"--smallest\nmon min ms\nlong\nup\nmon min ms\ny,mon y,min y,ms\ny,d,ns\n\
+        $(echo),ns\ny,&,ns\n"
     );
 }

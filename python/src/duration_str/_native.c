@@ -362,7 +362,9 @@ static int take_units(PyObject *value, uint32_t *units) {
         return 0;
     PyObject *names = PyUnicode_Check(value) ? NULL : PyObject_GetIter(value), *name;
     if (!names) {
-        PyErr_Format(PyExc_TypeError, "units must be a list of units, not %R", value);
+        /* An error of the value's own __iter__ passes through. */
+        if (!PyErr_Occurred() || PyErr_ExceptionMatches(PyExc_TypeError))
+            PyErr_Format(PyExc_TypeError, "units must be a list of units, not %R", value);
         return -1;
     }
     uint32_t chosen = 0;
