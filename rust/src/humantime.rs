@@ -322,16 +322,29 @@ impl FormattedDuration {
 /// `584542046089years 11months 30days 23h 59m 59s 999ms 999us 999ns`.
 const MAX_LEN: usize = 64;
 
-/// Appends a number to the text. `write!` would take twice as many instructions.
-fn push_count(text: &mut String, mut count: u64) {
-    let mut digits = [b'0'; 20];
-    let mut start = digits.len();
-    while count > 0 {
-        start -= 1;
-        digits[start] += (count % 10) as u8;
-        count /= 10;
+/// A text that is written into a buffer.
+struct Written {
+    buffer: [u8; MAX_LEN],
+    end: usize,
+}
+
+impl Written {
+    fn push(&mut self, text: &[u8]) {
+        self.buffer[self.end..][..text.len()].copy_from_slice(text);
+        self.end += text.len();
     }
-    text.push_str(core::str::from_utf8(&digits[start..]).unwrap_or_default());
+
+    /// Appends a number. `write!` would take twice as many instructions.
+    fn push_count(&mut self, mut count: u64) {
+        let mut digits = [b'0'; 20];
+        let mut start = digits.len();
+        while count > 0 {
+            start -= 1;
+            digits[start] += (count % 10) as u8;
+            count /= 10;
+        }
+        self.push(&digits[start..]);
+    }
 }
 
 impl fmt::Display for FormattedDuration {
@@ -350,15 +363,28 @@ impl fmt::Display for FormattedDuration {
             (u64::from(nanos / 1_000 % 1_000), "us", "us"),
             (u64::from(nanos % 1_000), "ns", "ns"),
         ];
-        let mut text = String::with_capacity(MAX_LEN);
-        for (count, one, several) in counts.into_iter().filter(|(count, ..)| *count > 0) {
-            if !text.is_empty() {
-                text.push(' ');
+        let mut text = Written {
+            buffer: [0; MAX_LEN],
+            end: 0,
+        };
+        for (count, one, several) in &counts {
+            if *count == 0 {
+                continue;
             }
-            push_count(&mut text, count);
-            text.push_str(if count == 1 { one } else { several });
+            if text.end > 0 {
+                text.push(b" ");
+            }
+            text.push_count(*count);
+            text.push(if *count == 1 { one } else { several }.as_bytes());
         }
-        pad(f, &[if text.is_empty() { "0s" } else { &text }])
+        if text.end == 0 {
+            text.push(b"0s");
+        }
+        let text = core::str::from_utf8(&text.buffer[..text.end]).unwrap_or_default();
+        match f.width() {
+            None => f.write_str(text),
+            Some(_) => pad(f, &[text]),
+        }
     }
 }
 
