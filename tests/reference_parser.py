@@ -599,6 +599,7 @@ def line_of(answer):
     return LINES[answer.cause]
 
 
+@functools.lru_cache(1 << 16)
 def message(text, answer):
     """The message about a refused text, which the program writes."""
     line = line_of(answer)
@@ -727,6 +728,7 @@ def expected_in_line(expected):
     return "expected " + re.sub(", the end", " or the end", words)
 
 
+@functools.lru_cache(1 << 16)
 def report(text, answer):
     """The report about a refused text for a terminal. It has the text and a caret above the line,
     if a quote would escape nothing in the text.
@@ -740,6 +742,7 @@ def report(text, answer):
     return f"{text}\n{' ' * sum(columns)}^\n{line}"
 
 
+@functools.lru_cache(1 << 16)
 def one_line(text, answer):
     """The line about a refused text."""
     match answer.cause:

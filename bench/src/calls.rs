@@ -8,6 +8,8 @@
 //! - `calls SIDE print NANOS COUNT`, `calls crate parts PARTS NANOS COUNT`: prints a duration into
 //!   a buffer, whole and in at most PARTS parts.
 //! - `calls SIDE units COUNT`: reads the same text, with units required.
+//! - `calls crate as-humantime TEXT COUNT`, `calls crate print-as-humantime NANOS COUNT`: reads a
+//!   text, and prints a duration into a `String`, by the module `humantime`.
 //! - `calls crate print-string COUNT`: prints its duration into a `String`.
 //! - `calls SIDE with OPTIONS TEXT COUNT`: reads a text under the options, the bits of
 //!   `duration_str.h`.

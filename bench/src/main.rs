@@ -38,6 +38,14 @@ impl Library for Humantime {
         Humantime::reading(text)
     }
 
+    fn reading_as_humantime(text: &str) -> Duration {
+        Humantime::reading(text)
+    }
+
+    fn printing_as_humantime(length: Duration) -> String {
+        Humantime::printing_string(length)
+    }
+
     fn printing(length: Duration) -> usize {
         let mut buffer = [0; 64];
         let mut rest = &mut buffer[..];

@@ -24,6 +24,13 @@ pub trait Library {
     fn reading_units(_: &str) -> Self::Value {
         unimplemented!()
     }
+    /// The value of a text, and the text of a duration, by the calls for humantime's users.
+    fn reading_as_humantime(_: &str) -> Duration {
+        unimplemented!()
+    }
+    fn printing_as_humantime(_: Duration) -> String {
+        unimplemented!()
+    }
     /// Prints a duration into a buffer, and returns the length of the text.
     fn printing(length: Duration) -> usize;
     /// Prints a duration in at most this many parts, if the library can.
@@ -68,6 +75,14 @@ impl Library for Crate {
 
     fn reading_units(text: &str) -> Duration {
         parse_with_units(text).expect("a text that is read")
+    }
+
+    fn reading_as_humantime(text: &str) -> Duration {
+        duration_str::humantime::parse_duration(text).expect("a text that is read")
+    }
+
+    fn printing_as_humantime(length: Duration) -> String {
+        duration_str::humantime::format_duration(length).to_string()
     }
 
     fn printing(length: Duration) -> usize {
@@ -221,6 +236,15 @@ pub fn calls<L: Library>(words: &[&str], count: u64) {
         ["units"] => repeat(count, || {
             black_box(L::reading_units(black_box(EXPRESSION)));
         }),
+        ["as-humantime", text] => repeat(count, || {
+            black_box(L::reading_as_humantime(black_box(text)));
+        }),
+        ["print-as-humantime", nanos] => {
+            let length = of_nanos(nanos);
+            repeat(count, || {
+                black_box(L::printing_as_humantime(black_box(length)));
+            });
+        }
         ["print"] => repeat(count, || {
             black_box(L::printing(black_box(length)));
         }),

@@ -149,27 +149,59 @@ const YEAR_SECONDS: u64 = 31_557_600;
 const MONTH_SECONDS: u64 = 2_630_016;
 
 /// The name that the rest of this crate reads for a unit, given a name that only humantime reads.
-fn own_name(name: &str) -> Option<&'static str> {
+/// Except for `M`, it is no longer than the given one.
+fn own_name(name: &[u8]) -> Option<&'static str> {
     match name {
-        "yr" => Some("year"),
-        "M" => Some("month"),
-        "wk" => Some("week"),
-        "hrs" => Some("hour"),
-        "mins" => Some("min"),
-        "secs" => Some("sec"),
-        "millis" => Some("ms"),
-        "nanos" => Some("ns"),
+        b"yr" => Some("y"),
+        b"M" => Some("month"),
+        b"wk" => Some("w"),
+        b"hrs" => Some("hr"),
+        b"mins" => Some("min"),
+        b"secs" => Some("sec"),
+        b"millis" => Some("ms"),
+        b"nanos" => Some("ns"),
         _ => None,
     }
 }
 
+/// Whether a text may have a name that only humantime reads.
+fn may_have_other_name(text: &str) -> bool {
+    text.as_bytes()
+        .split(|byte| !byte.is_ascii_alphabetic())
+        .any(|word| own_name(word).is_some())
+}
+
+/// The longest text of which [`renamed_sum_of`] makes a copy
+const MAX_RENAMED: usize = 64;
+
+/// The nanoseconds of a short sum without operators. In a copy of the text, each name that only
+/// humantime reads becomes the crate's own name, and blanks. The function returns `None` for any
+/// other text, for a text that is refused, and for one with the name `M`, since the crate has no
+/// name as short.
+fn renamed_sum_of(text: &str) -> Option<u64> {
+    let mut copy = [0; MAX_RENAMED];
+    let copy = copy.get_mut(..text.len())?;
+    copy.copy_from_slice(text.as_bytes());
+    // A letter beyond ASCII may belong to the name beside it, and then it is another name.
+    for word in copy.split_mut(|byte| byte.is_ascii() && !byte.is_ascii_alphabetic()) {
+        if let Some(own) = own_name(word).filter(|own| own.len() <= word.len()) {
+            word.fill(b' ');
+            word[..own.len()].copy_from_slice(own.as_bytes());
+        }
+    }
+    sum_of(core::str::from_utf8(copy).ok()?)
+}
+
 /// Reads a text by the proved reader. If the text has a name that only humantime reads, or a year
-/// or a month, the reader gets it [rewritten](Rewritten).
+/// or a month, the reader gets it [renamed](renamed_sum_of), or else [rewritten](Rewritten).
 #[cold]
 #[inline(never)]
 fn read_other(text: &str) -> Result<StdDuration, Fault<'_>> {
-    let mut tokens = Tokens::new(text, CASE_SENSITIVE);
-    if !has_longer(text) && !tokens.any(|token| own_name(token.text).is_some()) {
+    if may_have_other_name(text) {
+        if let Some(nanos) = renamed_sum_of(text) {
+            return Ok(StdDuration::from_nanos(nanos));
+        }
+    } else if !has_longer(text) {
         return with_operators(text);
     }
     let rewritten = Rewritten::of(text);
@@ -211,7 +243,7 @@ impl Rewritten {
         };
         let mut number: Option<(usize, u64)> = None;
         for token in Tokens::new(text, CASE_SENSITIVE) {
-            let name = own_name(token.text).unwrap_or(token.text);
+            let name = own_name(token.text.as_bytes()).unwrap_or(token.text);
             let seconds = match TimeUnit::from_word(name, CASE_SENSITIVE) {
                 Some(TimeUnit::Year) => Some(YEAR_SECONDS),
                 Some(TimeUnit::Month) => Some(MONTH_SECONDS),
@@ -292,16 +324,29 @@ impl FormattedDuration {
 /// `584542046089years 11months 30days 23h 59m 59s 999ms 999us 999ns`.
 const MAX_LEN: usize = 64;
 
-/// Appends a number to the text. `write!` would take twice as many instructions.
-fn push_count(text: &mut String, mut count: u64) {
-    let mut digits = [b'0'; 20];
-    let mut start = digits.len();
-    while count > 0 {
-        start -= 1;
-        digits[start] += (count % 10) as u8;
-        count /= 10;
+/// A text that is written into a buffer.
+struct Written {
+    buffer: [u8; MAX_LEN],
+    end: usize,
+}
+
+impl Written {
+    fn push(&mut self, text: &[u8]) {
+        self.buffer[self.end..][..text.len()].copy_from_slice(text);
+        self.end += text.len();
     }
-    text.push_str(core::str::from_utf8(&digits[start..]).unwrap_or_default());
+
+    /// Appends a number. `write!` would take twice as many instructions.
+    fn push_count(&mut self, mut count: u64) {
+        let mut digits = [b'0'; 20];
+        let mut start = digits.len();
+        while count > 0 {
+            start -= 1;
+            digits[start] += (count % 10) as u8;
+            count /= 10;
+        }
+        self.push(&digits[start..]);
+    }
 }
 
 impl fmt::Display for FormattedDuration {
@@ -320,15 +365,28 @@ impl fmt::Display for FormattedDuration {
             (u64::from(nanos / 1_000 % 1_000), "us", "us"),
             (u64::from(nanos % 1_000), "ns", "ns"),
         ];
-        let mut text = String::with_capacity(MAX_LEN);
-        for (count, one, several) in counts.into_iter().filter(|(count, ..)| *count > 0) {
-            if !text.is_empty() {
-                text.push(' ');
+        let mut text = Written {
+            buffer: [0; MAX_LEN],
+            end: 0,
+        };
+        for (count, one, several) in &counts {
+            if *count == 0 {
+                continue;
             }
-            push_count(&mut text, count);
-            text.push_str(if count == 1 { one } else { several });
+            if text.end > 0 {
+                text.push(b" ");
+            }
+            text.push_count(*count);
+            text.push(if *count == 1 { one } else { several }.as_bytes());
         }
-        pad(f, &[if text.is_empty() { "0s" } else { &text }])
+        if text.end == 0 {
+            text.push(b"0s");
+        }
+        let text = core::str::from_utf8(&text.buffer[..text.end]).unwrap_or_default();
+        match f.width() {
+            None => f.write_str(text),
+            Some(_) => pad(f, &[text]),
+        }
     }
 }
 
