@@ -112,6 +112,10 @@ static void check_default_units(void) {
                is_unknown(DURATION_STR_OPTION_DEFAULT_UNIT(14)) &&
                is_unknown(DURATION_STR_OPTION_DEFAULT_UNIT(15)),
         "a default unit above the last unit");
+    expect(is_unknown(DURATION_STR_OPTION_DEFAULT_UNIT(-1)) &&
+               is_unknown(DURATION_STR_OPTION_DEFAULT_UNIT(65535)) &&
+               is_unknown(DURATION_STR_OPTION_DEFAULT_UNIT(65544)),
+        "a default unit with a number of more than four bits");
 }
 
 static void check_refusals(void) {

@@ -108,7 +108,8 @@ enum duration_str_option {
  * option is unknown if you take the bit DURATION_STR_OPTION_NO_CALC out, if you
  * add DURATION_STR_OPTION_REQUIRE_UNIT, or if no unit has the number `unit`. */
 #define DURATION_STR_OPTION_DEFAULT_UNIT(unit) \
-    (DURATION_STR_OPTION_NO_CALC | ((unit) + UINT32_C(1)) << 16)
+    (DURATION_STR_OPTION_NO_CALC | \
+        ((unit) + UINT32_C(0) < 11 ? (unit) + UINT32_C(1) : UINT32_C(15)) << 16)
 
 /* Why a text is refused. */
 enum duration_str_cause {
