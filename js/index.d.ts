@@ -1,7 +1,7 @@
 /**
  * Reads durations as people write them, such as `3m + 13s + 29ms`, and prints them, such as
- * `3min 13s 29ms`. An error says what is wrong. For wrong syntax it also says where. The library
- * that reads and prints is proved.
+ * `3min 13s 29ms`. An error says what is wrong. For wrong syntax it also says where. The source of
+ * the library inside is proved for 64-bit processors. In WebAssembly it is only tested.
  *
  * A text is one term or several. A term is a number and a unit, such as `3m`. Terms are joined by
  * `+` or by `*`. If the operator is left out, as in `3m 13s`, the terms are added. A product

@@ -1,6 +1,6 @@
-// Reads and prints durations as people write them, by a proved library. The library is a module of
-// WebAssembly (compiled.js), or JavaScript made from that module (plain.js). `instance` comes from
-// one of the two. index.d.ts documents the exports.
+// Reads and prints durations as people write them, by a library whose source is proved for 64 bits.
+// The library is a module of WebAssembly (compiled.js), or JavaScript made from it (plain.js).
+// `instance` comes from one of the two. index.d.ts documents the exports.
 //
 // A page may have changed the prototypes of arrays and of objects. So loops go over arrays by
 // index, and don't use their methods. Tables of names and descriptions of properties have no
