@@ -227,6 +227,8 @@ pub record DefaultUnits : Type 0 where
   pub milliseconds-factor : in_milliseconds (codes "90s*2") ≡ Ok 180_000_000
   pub milliseconds-two_numbers : in_milliseconds (codes "1 2") ≡ Err (Syntax 2 after_number)
   pub milliseconds-later_overflow : in_milliseconds (codes "1+18446744073710") ≡ Err (Overflow None)
+  -- in seconds this would overflow
+  pub milliseconds-later_fits : in_milliseconds (codes "1+18446744074") ≡ Ok 18_446_744_075_000_000
   pub years : answer_with (Some Year) off (codes "2") ≡ Ok 63_072_000_000_000_000
   -- ---- No default unit: each number must have its unit
   pub required-each : with_units (codes "1h30m 2 s") ≡ Ok 5_402_000_000_000

@@ -1,10 +1,9 @@
 -- Lemmas about the canonical text of a value, and about comparing texts by their bytes.
 use Rattle.std.proofs.Common.{ap, Bool, chars, IsTrue, IsUtf8, List, refl, rules, sym, ℕ, ◌<◌, ◌^◌, ◌↔◌, ◌∙◌, ◌≡◌}
 use Rattle.std.specs.Str.{bytes_eq}
-use Rattle.duration_str.proofs.Common.{bytes_eq-Decides, counts_of, encodes, encodes-chars, EqualTexts, FitsDuration, GreatestBreakdown, IsPrintedIn, IsRead, off, ReadsBack, unit_lengths, Some}
+use Rattle.duration_str.proofs.Common.{bytes_eq-Decides, counts_of, encodes, encodes-chars, EqualTexts, FitsDuration, GreatestBreakdown, IsPrintedIn, IsRead, off, ReadsBack, unit_lengths}
 use Rattle.duration_str.specs.declared.format.Style.{Style}
 use Rattle.uses.specs.Cache.{canonical_text, IsCanonical, IsKey}
-use Rattle.duration_str.specs.declared.unit.TimeUnit.TheVariants.{Second}
 
 -- The text that a value prints as is the value's key.
 pub printed_is_key : GreatestBreakdown → EqualTexts → (style : Style) (nanos : ℕ) (key : List ℕ) → FitsDuration nanos
@@ -26,7 +25,7 @@ key_is_canonical back style text key nanos small read k = record {
   nanos = nanos;
   read = read;
   is_key = k;
-  read_back = λ o. back.below (Some Second) o style nanos key small (key_is_printed style nanos key k);
+  read_back = λ default_unit o. back.below default_unit o style nanos key small (key_is_printed style nanos key k);
 }
 
 chars_tell : (a b : List ℕ) → IsUtf8 a → IsUtf8 b → chars a ≡ chars b → a ≡ b

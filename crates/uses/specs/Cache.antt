@@ -1,7 +1,8 @@
 -- The canonical text of a value, and how it is read back.
-use Rattle.std.specs.Prelude.{◌≡◌, ℕ, List, Result, Ok, Err, chars}
-use Rattle.uses.specs.Common.{Duration, as_nanos, Options, Cause, Fault, off, unit_lengths, IsRead, IsRefused, IsGreatestBreakdown, counts_of, printed_counts}
+use Rattle.std.specs.Prelude.{◌≡◌, ℕ, List, Option, Result, Ok, Err, chars}
+use Rattle.uses.specs.Common.{Duration, as_nanos, Options, Cause, Fault, off, unit_lengths, IsRead, IsReadWith, IsRefused, IsGreatestBreakdown, counts_of, printed_counts}
 use Rattle.duration_str.specs.declared.format.Style.{Style}
+use Rattle.duration_str.specs.declared.unit.TimeUnit.{TimeUnit}
 
 -- the text of a value whose counts are found by division: what the longer units leave is divided by the next unit
 abbrev pub canonical_text : Style → ℕ → List ℕ
@@ -12,13 +13,13 @@ pub record IsKey (style : Style) (nanos : ℕ) (key : List ℕ) : Type 0 where
   pub one : key ≡ canonical_text style nanos
   pub greatest : IsGreatestBreakdown unit_lengths nanos (counts_of unit_lengths nanos)
 
--- The text is read as a value, and `key` is that value's key. Under every choice of options, the key is read as the
--- same value.
+-- The text is read as a value, and `key` is that value's key. Under every choice of options and with each default unit
+-- or none, the key is read as the same value.
 pub record IsCanonical (style : Style) (text key : List ℕ) : Type 0 where
   pub nanos : ℕ
   pub read : IsRead off text nanos
   pub is_key : IsKey style nanos key
-  pub read_back : (o : Options) → IsRead o key nanos
+  pub read_back : (default_unit : Option TimeUnit) (o : Options) → IsReadWith default_unit o key nanos
 
 -- The fault has this text, and a cause for which the text is refused.
 abbrev pub Refuses : List ℕ → Fault → Type 0

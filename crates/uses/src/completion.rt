@@ -2,11 +2,11 @@
 #![tactic(auto, using(crate::proofs::CompletionLemmas::refused_completion))]
 
 ghost use Rattle.std.specs.Prelude.{◌≡◌, ◌↔◌, ℕ, length, IsTrue, IfSome, IfNone, chars};
-ghost use Rattle.uses.specs.Common.{Syntax, Expected as Kinds, IsRefused};
+ghost use Rattle.uses.specs.Common.{Syntax, Expected as Kinds, IsRefused, IsRefusedWith};
 ghost use Rattle.uses.specs.Completion.{IsCompletion};
 
 use duration_str::laws::{one_sentence, place_and_kinds};
-use duration_str::{Cause, Expected, Options, parse_with};
+use duration_str::{Cause, Expected, Options, TimeUnit, parse_with, parse_with_default_unit};
 
 /// Where a text stops being the beginning of an expression, and what can be typed there.
 #[derive(Clone, Copy, Debug, PartialEq, Eq)]
@@ -46,15 +46,17 @@ pub fn complete(text: &str, o: Options) -> Option<Completion>
 /// for more.
 ///
 /// ```text
-/// is_unfinished("1m +", Options::off()) // true
-/// is_unfinished("1m -", Options::off()) // false
+/// is_unfinished("1m +", Options::off(), Some(TimeUnit::Second)) // true
+/// is_unfinished("1m -", Options::off(), Some(TimeUnit::Second)) // false
+/// is_unfinished("1h 30", Options::off(), None)                  // true: the unit is missing
 /// ```
-pub fn is_unfinished(text: &str, o: Options) -> bool
-    ensures { (place : ℕ) (expected : Kinds) → IsRefused o (chars text.now) (Syntax place expected)
+pub fn is_unfinished(text: &str, o: Options, default_unit: Option<TimeUnit>) -> bool
+    ensures { (place : ℕ) (expected : Kinds)
+        → IsRefusedWith default_unit o (chars text.now) (Syntax place expected)
         → (IsTrue result ↔ (place ≡ length text.now)) }
 {
     one_sentence();
-    match parse_with(text, o) {
+    match parse_with_default_unit(text, o, default_unit) {
         Ok(_) => false,
         Err(fault) => matches!(fault.cause(), Cause::Syntax { .. }) && fault.found(o).is_none(),
     }

@@ -1,5 +1,5 @@
 -- Lemmas about the place of a fault, the token there, and the answer to a whole text.
-use Rattle.duration_str.proofs.Common.{and_parts, answer_left, answer_with, ap, append-nil, append_assoc, AreTokens, arith, Bool, Bor, byte_len, cases_Bool, Cause, chars, chars-append, chars-nil, common_steps, CondUnit, drop, drop-nil, early, early_fault, Empty, encodes, encodes-append, encodes-chars, eq-eqb, Err, evaluation_fault, false, fault_of_terms, ForSome, found_token, IfSome, IsCharBoundary, IsCharBoundary-at_seam, IsCharBoundary-start, IsLexeme, IsMissingAtEnd, IsNone, IsRefusedWith, IsSliceOf, IsUtf8, IsUtf8-take, late, late_fault, length, length-append, length-encode, lexemes_of, List, map, ne_eqb, None, Option, Options, options_of, or_else, place_of, refl, rest_from, rest_of, Result, running_fault, scalars, scalars-chars, Second, Some, source, start_after, start_left, suc, sym, Syntax, syntax_fault, take, take-add, Term, Terminal, terminal_of, terminals_in, TimeUnit, Token, token_at, Tokens, tokens_left, tokens_of, true, unless, zero, [], ℕ, ◌++◌, ◌+◌, ◌-◌, ◌<◌, ◌==◌, ◌↔◌, ◌∙◌, ◌∷◌, ◌≡◌, ◌≤◌}
+use Rattle.duration_str.proofs.Common.{and_parts, answer_left, answer_with, ap, append-nil, append_assoc, AreTokens, arith, Bool, Bor, byte_len, cases_Bool, Cause, chars, chars-append, chars-nil, common_steps, CondUnit, drop, drop-nil, early, early_fault, Empty, encodes, encodes-append, encodes-chars, eq-eqb, Err, evaluation_fault, false, fault_of_terms, ForSome, found_token, IfSome, IsCharBoundary, IsCharBoundary-at_seam, IsCharBoundary-start, IsLexeme, IsMissingAtEnd, IsNone, IsRefusedWith, IsSliceOf, IsUtf8, IsUtf8-take, late, late_fault, length, length-append, length-encode, lexemes_of, List, map, ne_eqb, None, Option, Options, options_of, or_else, place_of, refl, rest_from, rest_of, Result, running_fault, scalars, scalars-chars, Some, source, start_after, start_left, suc, sym, Syntax, syntax_fault, take, take-add, Term, Terminal, terminal_of, terminals_in, TimeUnit, Token, token_at, Tokens, tokens_left, tokens_of, true, unless, zero, [], ℕ, ◌++◌, ◌+◌, ◌-◌, ◌<◌, ◌==◌, ◌↔◌, ◌∙◌, ◌∷◌, ◌≡◌, ◌≤◌}
 use Rattle.duration_str.specs.OtherResults.{ReachesPlace}
 use Rattle.duration_str.specs.Internal.Rest.{IsPlacedUpTo}
 use Rattle.duration_str.proofs.Characters.CharacterLemmas.{byte_len-append}
@@ -148,13 +148,13 @@ missing_token bytes token slice h = grind arith
 
 pub missing_at_end : (o : Options) (bytes : List ℕ) (cause : Cause) (slice : Option (Bor (List ℕ))) → IsUtf8 bytes
     → IsSliceOf bytes (found_token o (chars bytes) cause) slice → IsMissingAtEnd o bytes cause slice
-missing_at_end o bytes cause slice utf8 is place expected e refused =
+missing_at_end o bytes cause slice utf8 is default_unit place expected e refused =
     let text = chars bytes in
     let tokens = tokens_of o text in
     let end : byte_len text ≡ length bytes = byte_count bytes utf8 in
     let none = none_at o (length bytes) 0 text tokens (omega (arith, end)) (tokens_are o 0 text) in
     let stands : (token_at place tokens ≡ None) ↔ (place ≡ length bytes) =
-    refused_stands (λ at. (token_at at tokens ≡ None) ↔ (at ≡ length bytes)) (Some Second) o text (Syntax place expected)
+    refused_stands (λ at. (token_at at tokens ≡ None) ↔ (at ≡ length bytes)) default_unit o text (Syntax place expected)
     (rw e at refused) (λ n. (λ lost. found_at n (byte_len text) tokens lost ∙ end, λ same. rw same none)) in
     let missing = missing_token bytes (token_at place tokens) slice (rw e at is) in
     (λ none. stands.0 (missing.0 none), λ same. missing.1 (stands.1 same))
