@@ -323,8 +323,17 @@ def run(words, options, data, cuts):
     return Said(output + rest, errors, process.returncode)
 
 
+def untried(program):
+    """The options in the program's help that no command here has."""
+    told = subprocess.run([program, "--help"], capture_output=True, text=True, check=True).stdout
+    names = set(re.findall(r"^ +(?:-., )? *--([a-z-]+)", told, re.M))
+    return names - {*VALUES, "units", "completions", "help", "version"}
+
+
 def main(program, seconds="20", seed=str(time.time_ns())):
     print(f"duration_model: seed {seed}")
+    if names := untried(program):
+        sys.exit(f"duration_model: not tried: {' '.join(sorted(names))}")
     commands, ends, count = Commands(seed), time.monotonic() + float(seconds), 0
     while time.monotonic() < ends:
         options, texts, data = commands.command()
