@@ -46,9 +46,19 @@ use duration_str_core::{Format, STYLED_BUFFER_SIZE, Style, TimeUnit, write_withi
 ///
 /// Width and fill pad the text. A precision is ignored.
 ///
-/// A negative duration has a minus before its text, unless the text is a zero. No call reads back a
-/// text with a minus, or the text of a duration of 2^64 nanoseconds or more, which is some 584
-/// years.
+/// A negative duration has a minus before its text, unless the text is a zero. No call reads a text
+/// with a minus, or one that stands for 2^64 nanoseconds or more, which is some 584 years. But if
+/// parts are left out of the text of such a duration, it may stand for less, and is read:
+///
+/// ```
+/// use duration_str::{format_duration, parse_duration};
+/// use std::time::Duration;
+///
+/// let long = format_duration(Duration::from_secs(18_446_744_074));
+/// assert!(parse_duration(&long.to_string()).is_err());
+/// assert_eq!(long.parts(1).to_string(), "584y");
+/// assert!(parse_duration("584y").is_ok());
+/// ```
 #[derive(Clone, Copy, Debug, PartialEq, Eq, Hash)]
 pub struct FormattedDuration {
     is_negative: bool,

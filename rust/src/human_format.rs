@@ -14,7 +14,7 @@ use duration_str_core::{FORMAT_BUFFER_SIZE, write_human};
 /// assert_eq!(Duration::ZERO.human_format(), "0s");
 /// ```
 ///
-/// No call reads back the text of a duration of 2^64 nanoseconds or more, which is some 584 years.
+/// No call reads a text that stands for 2^64 nanoseconds or more, which is some 584 years.
 ///
 /// A duration of `chrono` or `time` may be negative. Then it prints as a minus and the text of its
 /// magnitude, which no call reads back, since texts have no minus. If that text is a zero, such as

@@ -16,7 +16,7 @@
 //! Some texts that humantime reads are refused. The error says what is wrong:
 //!
 //! - fractions of humantime 2.4, such as `1.5h`, and its `0` without a unit
-//! - 584 years and more
+//! - durations of 2^64 nanoseconds or more, which is some 584 years (`584y` is read)
 //! - a blank within a number, as in `1 000ms`, and blanks beyond ASCII
 //!
 //! As in humantime, a number without a unit is refused. Unlike humantime, this module reads `+`,

@@ -154,18 +154,22 @@
 //!
 //! # What is proved
 //!
-//! Reading and printing are proved: their code is the source of a proved library, without its
-//! contracts. Three `unsafe` blocks skip the test that a printed duration, the message of an error
-//! and the line of an error are UTF-8, since that is proved.
+//! The code that reads a text and prints a duration is the source of a library that is proved for
+//! 64-bit processors, without its contracts. The rest of this crate is only tested: the types of
+//! errors, minus signs, the code for `serde`, `chrono` and `time`, and the module [`humantime`].
+//!
+//! Three `unsafe` blocks skip the test that a printed duration, the message of an error and the
+//! line of an error are UTF-8, since that is proved.
 //!
 //! # From humantime and `duration-str` 0.19.0
 //!
 //! If you come from humantime, change one import: `use` the module [`humantime`] of this crate. Its
 //! months and years have humantime's lengths.
 //!
-//! This crate has the public interface of `duration-str` 0.19.0 from crates.io: [`parse`], whose
-//! error is a `String`, [`HumanFormat`], `deserialize_duration` and the rest. The module `dates`
-//! has the calls of `duration-str` for a moment before or after now.
+//! This crate has the calls of `duration-str` 0.19.0 from crates.io, such as [`parse`], whose error
+//! is a `String`, [`HumanFormat`] and `deserialize_duration`. A few macros and types are missing,
+//! which `docs/MIGRATING.md` in the repository lists. The module `dates` has the calls of
+//! `duration-str` for a moment before or after now.
 //!
 //! ```
 //! use duration_str::{parse, HumanFormat};
