@@ -1,6 +1,7 @@
 """Reads durations as people write them, such as `3m + 13s + 29ms`, and prints
 them, such as `3min 13s 29ms`. An error says what is wrong. For wrong syntax it
-also says where. The library that reads and prints is proved.
+also says where. The library inside is proved for 64-bit processors. This
+package, which calls it, is only tested.
 
 >>> import duration_str
 >>> duration_str.parse("3m + 13s + 29ms")
@@ -13,8 +14,8 @@ Terms are joined by `+` or by `*`. If the operator is left out, as in `3m 13s`,
 the terms are added. A product multiplies its terms in seconds. A number
 without a unit counts seconds, unless an option says otherwise. Such a number
 must be last or before an operator. Blanks may be anywhere except inside a
-number or a unit. A number must be below 2**64, and a value below 2**64
-nanoseconds.
+number or a unit. Each number must be below 2**64. Each term, each step of the
+evaluation and the value must be below 2**64 nanoseconds.
 
 The units:
 
