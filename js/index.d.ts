@@ -6,7 +6,8 @@
  * `+` or by `*`. If the operator is left out, as in `3m 13s`, the terms are added. A product
  * multiplies its terms in seconds. A number without a unit counts seconds, unless an option says
  * otherwise. Such a number must be last or before an operator. Blanks may be anywhere except inside
- * a number or a unit. A number must be below 2^64, and a value below 2^64 nanoseconds.
+ * a number or a unit. Each number must be below 2^64. Each term, each step of the evaluation and
+ * the value must be below 2^64 nanoseconds.
  */
 
 /**
@@ -136,8 +137,9 @@ export interface SyntaxFault extends Refused {
 }
 
 /**
- * A number, or a value in nanoseconds, is 2^64 or more. In the first term the fault has the place
- * 0. In a later term, and in a step, it has no place.
+ * A number is 2^64 or more, or a term, a step of the evaluation or the value is 2^64 nanoseconds or
+ * more. In the first term the fault has the place 0. In a later term, and in a step, it has no
+ * place.
  */
 export interface SizeFault extends Refused {
     readonly code: "NUMBER_TOO_LARGE" | "OVERFLOW";
@@ -171,7 +173,7 @@ export type Refusal = SyntaxFault | SizeFault | TextFault | OtherFault;
 interface Told {
     /**
      * One line that says what is wrong, for `SYNTAX` also where, and often what to write. The line
-     * is safe in a terminal and a log.
+     * has no control characters.
      */
     readonly message: string;
     /**
