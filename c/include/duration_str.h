@@ -26,8 +26,9 @@
  * microseconds, ns nsec nanosecond nanoseconds. The Chinese names, which an
  * option adds: 年 year, 月 month, 周 week, 日 天 day, 时 hour, 分 minute, 秒 second,
  * 毫秒 millisecond, 微秒 microsecond, 纳秒 nanosecond.
- * A year has 365 days, a quarter 91 and a month 30. A number must be below
- * 2^64, and a value below 2^64 nanoseconds. */
+ * A year has 365 days, a quarter 91 and a month 30. Each number must be below
+ * 2^64. Each term, each step of the evaluation and the value must be below 2^64
+ * nanoseconds. */
 #ifndef DURATION_STR_H
 #define DURATION_STR_H
 
@@ -83,8 +84,9 @@ extern "C" {
 
 /* The name of each constant begins with the name of its enumeration. */
 
-/* The options are the bits of a `uint32_t`; 0 turns all of them off. If any
- * other bit is set, every text is refused, with the cause
+/* The options are bits of a `uint32_t`; 0 turns all of them off. Further bits
+ * are those of DURATION_STR_OPTION_DEFAULT_UNIT. If a bit is set that belongs
+ * to no option, every text is refused, with the cause
  * DURATION_STR_CAUSE_UNKNOWN_OPTION. */
 enum duration_str_option {
     /* `+` and `*` are not read, and the terms are added one by one */
