@@ -108,7 +108,7 @@ pub record AnswerIsReading : Type 0 where
       → (answer_with default_unit o text ≡ Err cause ↔ IsRefusedWith default_unit o text cause)
 
 -- The table `expected_after` says, for each terminal that can end the beginning of a sentence, what can follow it. The
--- longest beginning of a sentence is the one that the table allows (`front_of`).
+-- longest prefix of the terminals that begins a sentence is the one that the table allows (`front_of`).
 pub record PlaceAndKinds : Type 0 where
   pub kinds : (default_unit : Option TimeUnit) (no_calc : Bool) (front : List Terminal) (expected : Expected)
       → BeginsSentence default_unit no_calc front

@@ -13,9 +13,10 @@ pub fn one_sentence()
     ensures computed { AnswerIsReading }
 {}
 
-/// The last terminal of the beginning of a sentence decides alone what can follow. The longest beginning of a sentence
-/// in a text ends before the first terminal that can't follow the one before it. So `1m` can be followed by a number,
-/// an operator (not under `no_calc`) or the end, and the longest beginning in `1m 3-5` is `1m 3`.
+/// The last terminal of the beginning of a sentence, `no_calc` and whether there is a default unit decide what can
+/// follow. Nothing else does. The longest prefix of a text's terminals that begins a sentence ends before the first
+/// terminal that can't follow the one before it. So `1m` can be followed by a number, an operator (not under
+/// `no_calc`) or the end, and the longest such prefix of `1m 3-5` is `1m 3`.
 #[tactic(auto, using(crate::proofs::LawProofs::PlaceAndKinds::place_and_kinds_hold))]
 pub fn place_and_kinds()
     ensures { PlaceAndKinds }
@@ -73,8 +74,8 @@ pub fn greatest_breakdown()
     ensures { GreatestBreakdown }
 {}
 
-/// Two durations print the same text in a style exactly if they are equal. So `3min 31s` is printed for 211 seconds
-/// only.
+/// Printed in full and in one style, two durations have the same text exactly if they are equal. So only 211 seconds
+/// print in full as `3min 31s`.
 pub fn equal_texts()
     ensures { EqualTexts }
 {}

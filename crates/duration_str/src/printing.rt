@@ -78,8 +78,8 @@ pub const STYLED_BUFFER_SIZE: usize = 144;
 /// on, until it has `format.parts` parts. (It is the lexicographically greatest breakdown that has
 /// only the format's units and at most that many parts, and is not above the duration.) If all
 /// counts are 0, the text is `0` and the name of the smallest unit, or of the second if the
-/// smallest unit is shorter than that. A format without units prints every duration as `0s`. A
-/// format with 0 parts prints every duration as it prints a duration of 0.
+/// smallest unit is shorter than that. A format without units prints every duration as zero
+/// seconds, such as `0s`. A format with 0 parts prints every duration as it prints a duration of 0.
 ///
 /// The text has at most `MAX_PRINTED_LEN` bytes, or `MAX_LONG_LEN` in the long style. Bytes after
 /// it may change too. The call allocates nothing and cannot fail.
