@@ -273,10 +273,10 @@ bool duration_str_parse_with(const char *text, size_t length,
  * Returns the length of the line, at most DURATION_STR_MAX_ONE_LINE_LEN. If the
  * text is read, returns 0, and the line is empty.
  *
- * The line quotes at most 40 characters of the text. Characters that can't be
- * seen, or could do harm in a terminal or a log, are escaped. For bytes that
- * are not UTF-8 the line is `not UTF-8`, and for an unknown option bit it is
- * `unknown option`. */
+ * The line quotes at most 40 characters of the text. Quotation marks,
+ * backslashes, control characters and characters that can't be seen are
+ * escaped. For bytes that are not UTF-8 the line is `not UTF-8`, and for an
+ * unknown option bit it is `unknown option`. */
 DURATION_STR_NONNULL(4, 5)
 size_t duration_str_one_line(
     const char *text, size_t length, uint32_t options,
