@@ -99,8 +99,8 @@ class DurationError(ValueError):
     place: int | None
     """The byte at which the fault is, in UTF-8 and from 0, or None if the fault has no place."""
     pos: int | None
-    """The same place in characters: `text[pos:]` begins with `found`. The column in the line is one
-    more, since columns count from 1."""
+    """The same place in characters. For a syntax fault `text[pos:]` begins with `found`. The column
+    in the line is one more, since columns count from 1."""
     expected: Expected
     """What could stand at the place of a syntax fault. For other faults no flag is set."""
     found: str | None
