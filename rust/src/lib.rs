@@ -154,8 +154,8 @@
 //!
 //! # What is proved
 //!
-//! The code that reads a text and prints a duration is the source of a library that is proved for
-//! 64-bit processors, without its contracts. The rest of this crate is only tested: the types of
+//! The code that reads a text and prints a duration is that of a library which is proved for 64-bit
+//! processors. (The contracts are removed.) The rest of this crate is only tested: the types of
 //! errors, minus signs, the code for `serde`, `chrono` and `time`, and the module [`humantime`].
 //!
 //! Three `unsafe` blocks skip the test that a printed duration, the message of an error and the
