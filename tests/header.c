@@ -117,6 +117,9 @@ static void check_default_units(void) {
                is_unknown(DURATION_STR_OPTION_DEFAULT_UNIT(0xFFFF)) &&
                is_unknown(DURATION_STR_OPTION_DEFAULT_UNIT(0x10000 + DURATION_STR_UNIT_SECOND)),
         "a default unit that is no unit, such as a search's -1");
+    const int64_t too_wide = INT64_C(0x100000000) + DURATION_STR_UNIT_SECOND;
+    expect(is_unknown(DURATION_STR_OPTION_DEFAULT_UNIT(too_wide)),
+        "a default unit of more than 32 bits");
 }
 
 static void check_refusals(void) {

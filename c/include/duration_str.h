@@ -78,6 +78,14 @@
 #define DURATION_STR_MUST_USE
 #endif
 
+/* A conversion of an integer that compilers don't warn about. Because of `| 0`
+ * they refuse pointers and fractions. */
+#ifdef __cplusplus
+#define DURATION_STR_CAST(type, integer) static_cast<type>((integer) | 0)
+#else
+#define DURATION_STR_CAST(type, integer) ((type)((integer) | 0))
+#endif
+
 #ifdef __cplusplus
 extern "C" {
 #endif
@@ -116,8 +124,8 @@ enum duration_str_option {
  * the option is 0x90001. */
 #define DURATION_STR_OPTION_DEFAULT_UNIT(unit) \
     (DURATION_STR_OPTION_NO_CALC | \
-     ((unit) + UINT64_C(0) <= DURATION_STR_UNIT_NANOSECOND \
-          ? (unit) + UINT32_C(1) : UINT32_C(15)) << 16)
+     (DURATION_STR_CAST(uint64_t, unit) <= DURATION_STR_UNIT_NANOSECOND \
+          ? DURATION_STR_CAST(uint32_t, unit) + 1 : 15) << 16)
 
 /* Why a text is refused. */
 enum duration_str_cause {
