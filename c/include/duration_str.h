@@ -118,10 +118,11 @@ enum duration_str_option {
  * unit would count `unit` too: with milliseconds `90s*2` would be 180 ms. The
  * option is unknown if you take the bit DURATION_STR_OPTION_NO_CALC out, if you
  * add DURATION_STR_OPTION_REQUIRE_UNIT, or if no unit has the number `unit`.
+ * The macro computes `unit` twice, so don't write `unit++` there.
  *
- * Bindings that can't call macros, such as those of Go and ctypes, compute it:
- * the bits from bit 16 on are the unit's number plus 1. So with milliseconds
- * the option is 0x90001. */
+ * Bindings that can't call macros, such as those of Go and ctypes, compute the
+ * option: the bits from bit 16 on are the unit's number plus 1. So with
+ * milliseconds the option is 0x90001. */
 #define DURATION_STR_OPTION_DEFAULT_UNIT(unit) \
     (DURATION_STR_OPTION_NO_CALC | \
      (DURATION_STR_CAST(uint64_t, unit) <= DURATION_STR_UNIT_NANOSECOND \
