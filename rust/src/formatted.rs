@@ -47,8 +47,8 @@ use duration_str_core::{Format, STYLED_BUFFER_SIZE, Style, TimeUnit, write_withi
 /// Width and fill pad the text. A precision is ignored.
 ///
 /// A negative duration has a minus before its text, unless the text is a zero. No call reads a text
-/// with a minus, or one that stands for 2^64 nanoseconds or more, which is some 584 years. But if
-/// parts are left out of the text of such a duration, it may stand for less, and is read:
+/// with a minus, or one that stands for 2^64 nanoseconds or more, which is some 584 years. But the
+/// text of such a long duration is read if the parts that it leaves out make it stand for less:
 ///
 /// ```
 /// use duration_str::{format_duration, parse_duration};

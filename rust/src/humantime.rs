@@ -225,9 +225,9 @@ fn with_operators(text: &str) -> Result<StdDuration, Fault<'_>> {
     }
 }
 
-/// A text, rewritten for the proved reader: each token of the user's text, and a blank after it. The
-/// names that only humantime reads are replaced. A number of years or months becomes a number of
-/// seconds. If that is too large, it becomes the greatest number, which is refused too. A number
+/// A text, rewritten for the proved reader: each token of the user's text, and a blank after it.
+/// The names that only humantime reads are replaced. A number of years or months becomes a number
+/// of seconds. If that is too large, it becomes the greatest number, which is refused too. A number
 /// that is too large by itself stays.
 struct Rewritten {
     text: String,

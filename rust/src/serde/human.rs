@@ -165,7 +165,7 @@ pub(crate) const SECONDS: u8 = 2;
 pub(crate) const STRICT: u8 = 3;
 pub(crate) const MILLIS: u8 = 4;
 
-/// The unit that a number has which is not a text, or `None` if such a number is refused.
+/// The unit of a number that is not a text, or `None` if such a number is refused.
 const fn unit_of_numbers(how: u8) -> Option<TimeUnit> {
     match how {
         SECONDS => Some(TimeUnit::Second),
