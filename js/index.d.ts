@@ -32,8 +32,8 @@ export interface Options {
     /**
      * The default unit, which a number without a unit counts. With `ms`, `1500` is 1.5 seconds, and
      * so is `1s 500`. A factor without a unit would count it too: `90s*2` would be 90 seconds times
-     * 2 milliseconds. So a default unit other than the second turns `noCalc` on, and you can't
-     * set it together with `requireUnit`.
+     * 2 milliseconds. So a default unit other than the second turns `noCalc` on. You can't give
+     * such a unit together with `requireUnit`.
      */
     defaultUnit?: Unit | undefined;
 }
@@ -177,9 +177,9 @@ interface Told {
      */
     readonly message: string;
     /**
-     * The report for a terminal: the text, a caret below the place, and the message. It is the
-     * message alone if the code is not `SYNTAX`, if the text has more than 80 characters, or if the
-     * message would escape something in the text.
+     * The report for a terminal. For `SYNTAX` it is the text, a caret below the place, and the
+     * message. It is the message alone for other codes, if the text has more than 80 characters, or
+     * if the message would escape something in the text.
      */
     readonly report: string;
 }
