@@ -362,7 +362,8 @@ static int take_units(PyObject *value, uint32_t *units) {
         return 0;
     PyObject *names = PyUnicode_Check(value) ? NULL : PyObject_GetIter(value), *name;
     if (!names) {
-        /* An error of the value's own __iter__ passes through. */
+        /* An error of the value's own __iter__ passes through, except a TypeError, which also says
+         * that there is no __iter__. */
         if (!PyErr_Occurred() || PyErr_ExceptionMatches(PyExc_TypeError))
             PyErr_Format(PyExc_TypeError, "units must be a list of units, not %R", value);
         return -1;
@@ -856,7 +857,7 @@ PyDoc_STRVAR(format_doc,
     "            (`1 hour 30 minutes`)\n\n"
     "The remainder is left out, so the text never shows more than the duration.\n"
     "If all counts are 0, the text is `0` and the smallest unit. If that unit is\n"
-    "shorter than a second, the text is `0s`. In the long style it is `0 seconds`.\n\n"
+    "shorter than a second, the text is `0s`, or `0 seconds` in the long style.\n\n"
     "Raises ValueError if the duration is negative, if `parts` is 0, if a name is\n"
     "not that of a unit, or if no units are left. Raises OverflowError if the\n"
     "duration is 2**64 seconds or more. Raises TypeError if it is neither an int nor\n"
