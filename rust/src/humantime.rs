@@ -17,7 +17,8 @@
 //!
 //! - fractions of humantime 2.4, such as `1.5h`, and its `0` without a unit
 //! - durations of 2^64 nanoseconds or more, which is some 584 years (`584y` is read)
-//! - a blank within a number, as in `1 000ms`, and blanks beyond ASCII
+//! - a blank within a number, as in `1 000ms`, and any blank except a space, a tab, a carriage
+//!   return or a line feed, such as a form feed
 //!
 //! As in humantime, a number without a unit is refused. Unlike humantime, this module reads `+`,
 //! `*`, `mon` and the quarter of 91 days. `docs/MIGRATING.md` in the repository lists all
