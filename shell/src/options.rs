@@ -249,7 +249,12 @@ fn with_list(shell: Shell, script: &str) -> String {
                 r#"COMPREPLY=($(compgen -W "{words}" -- "{last}"))
                     COMPREPLY=("${{COMPREPLY[@]/#/"${{cur%"{last}"}}"}}")"#
             );
-            script.replace(answer, &answers)
+            // compgen -f would give the names of files without quotation marks, and a name can be a
+            // command. bash itself completes them if there is no answer, and quotes them.
+            let files = r#"COMPREPLY=($(compgen -f "${cur}"))"#;
+            script
+                .replace(answer, &answers)
+                .replace(files, "COMPREPLY=()")
         }
     }
 }

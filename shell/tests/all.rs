@@ -602,12 +602,13 @@ fn tells_of_itself() {
     }
 }
 
-/// What was typed is never run, such as `$(echo)`.
+/// What was typed is never run, such as `$(echo)`. Names of files are left to bash, which quotes
+/// them.
 #[test]
 fn completes_in_bash() {
     let words = "
         lists=('--units m' '--units y,m' '--units y,d,n' '--units $(echo),n' '--units y,&,n')
-        for words in --sma '--to m' '--style l' '--round u' \"${lists[@]}\"; do
+        for words in --sma '--to m' '--style l' '--round u' \"${lists[@]}\" '--field C' '-d C'; do
             COMP_WORDS=(duration $words) COMP_CWORD=$((${#COMP_WORDS[@]} - 1))
             _duration duration
             echo ${COMPREPLY[@]}
@@ -617,6 +618,6 @@ fn completes_in_bash() {
     assert_eq!(
         ended.unwrap().stdout,
         b"--smallest\nmon min ms\nlong\nup\nmon min ms\ny,mon y,min y,ms\ny,d,ns\n\
-        $(echo),ns\ny,&,ns\n"
+        $(echo),ns\ny,&,ns\n\n\n"
     );
 }
