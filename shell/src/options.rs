@@ -242,12 +242,16 @@ fn with_list(shell: Shell, script: &str) -> String {
         _ => {
             // What was typed must not become a part of the words, since compgen expands them, and
             // so would run a command that stands in them. The last word is completed, and the part
-            // of the list before it is put in front of each answer.
+            // of the list before it is put in front of each answer. A list with a blank or another
+            // character that no unit has is left alone: bash would write the answer after the
+            // blank.
             let answer = r#"COMPREPLY=($(compgen -W "LIST" -- "${cur}"))"#;
             let (words, last) = (WORDS.join(" "), r"${cur##*,}");
             let answers = format!(
-                r#"COMPREPLY=($(compgen -W "{words}" -- "{last}"))
-                    COMPREPLY=("${{COMPREPLY[@]/#/"${{cur%"{last}"}}"}}")"#
+                r#"if [[ ${{cur}} != *[![:alpha:],\'\"]* ]]; then
+                        COMPREPLY=($(compgen -W "{words}" -- "{last}"))
+                        COMPREPLY=("${{COMPREPLY[@]/#/"${{cur%"{last}"}}"}}")
+                    fi"#
             );
             // compgen -f would give the names of files without quotation marks, and a name can be a
             // command. bash itself completes them if there is no answer, and quotes them.

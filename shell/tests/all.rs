@@ -607,7 +607,8 @@ fn tells_of_itself() {
 #[test]
 fn completes_in_bash() {
     let words = "
-        lists=('--units m' '--units y,m' '--units y,d,n' '--units $(echo),n' '--units y,&,n')
+        lists=('--units m' '--units y,m' '--units y,d,n' '--units \"y,n')
+        lists+=('--units $(echo),n' '--units y,&,n')
         for words in --sma '--to m' '--style l' '--round u' \"${lists[@]}\" '--field C' '-d C'; do
             COMP_WORDS=(duration $words) COMP_CWORD=$((${#COMP_WORDS[@]} - 1))
             _duration duration
@@ -618,6 +619,6 @@ fn completes_in_bash() {
     assert_eq!(
         ended.unwrap().stdout,
         b"--smallest\nmon min ms\nlong\nup\nmon min ms\ny,mon y,min y,ms\ny,d,ns\n\
-        $(echo),ns\ny,&,ns\n\n\n"
+        \"y,ns\n\n\n\n\n"
     );
 }
