@@ -231,9 +231,12 @@ fn with_list(shell: Shell, script: &str) -> String {
             let (before, after) = script.split_once("LIST").expect("clap writes the word");
             let (before, _) = before.rsplit_once('"').expect("it is in quotation marks");
             let (_, after) = after.split_once('"').expect("they are two");
-            // After a tab fish expects an explanation of the word, which is empty here.
+            // The part of the list before the last word is put in front of each word. It is left
+            // out if it has a character that no unit has. After a tab fish expects an explanation
+            // of the word, which is empty here.
             let words = WORDS.join(r"\t,") + r"\t";
-            format!(r#"{before}"(__fish_complete_list , 'string split , {words}')"{after}"#)
+            let list = r"(string match -r '^(?:.*=)?\K(?:[\pL,]*,)?' -- (commandline -ct))";
+            format!(r#"{before}"{list}{{{words}}}"{after}"#)
         }
         Shell::Zsh => {
             let words = WORDS.join(" ");

@@ -591,10 +591,7 @@ fn tells_of_itself() {
     assert!(help.lines().all(|line| line.len() <= 80));
     for (shell, list) in [
         ("bash", "##*,"),
-        (
-            "fish",
-            r"(__fish_complete_list , 'string split , y\t,q\t,mon\t,w\t,d\t,",
-        ),
+        ("fish", r"(commandline -ct)){y\t,q\t,mon\t,w\t,d\t,"),
         ("zsh", ":UNITS:_sequence compadd - y q mon "),
     ] {
         let script = answer(&["--completions", shell]);
