@@ -116,10 +116,12 @@ class Sources(sdist):
         copy_crates(base_dir)
         shutil.copyfile(CRATES / "rust/vectors.json", pathlib.Path(base_dir, "rust/vectors.json"))
         for name in ["tests", "examples"]:
+            # Later versions of setuptools have copied some of the tests already.
             shutil.copytree(
                 HERE / name,
                 pathlib.Path(base_dir, name),
                 ignore=shutil.ignore_patterns("__pycache__"),
+                dirs_exist_ok=True,
             )
         shutil.copytree(INCLUDE, pathlib.Path(base_dir, "include"))
 
