@@ -384,15 +384,15 @@ fn refuses_wrong_usage() {
     for (words, wanted) in [
         (
             ["--to", "mins", "1h"],
-            "Invalid value 'mins' for '--to <UNIT>': did you mean \"min\"?",
+            "invalid value 'mins' for '--to <UNIT>': did you mean \"min\"?",
         ),
         (
             ["--from", "foo", "1h"],
-            "Invalid value 'foo' for '--from <UNIT>': no unit",
+            "invalid value 'foo' for '--from <UNIT>': no unit",
         ),
         (
             ["--units", "y,mins", "1h"],
-            "Invalid value 'y,mins' for '--units <UNITS>': \"mins\": did you mean \"min\"?",
+            "invalid value 'y,mins' for '--units <UNITS>': \"mins\": did you mean \"min\"?",
         ),
         (
             ["--units=y", "--smallest=y", "--largest=d"],
@@ -404,10 +404,17 @@ fn refuses_wrong_usage() {
         ),
         (
             ["--parts", "-1", "1h"],
-            "Invalid value '-1' for '--parts <N>': invalid digit found in string",
+            "invalid value '-1' for '--parts <N>': invalid digit found in string",
         ),
     ] {
-        assert!(run(&words, b"").2.starts_with(&format!("error: {wanted}")));
+        // Clap 4.0 begins some of these with a capital letter, and later versions don't.
+        let errors = run(&words, b"")
+            .2
+            .replacen("error: Invalid", "error: invalid", 1);
+        assert!(
+            errors.starts_with(&format!("error: {wanted}")),
+            "{words:?}: {errors}"
+        );
     }
     // If an option is given twice, the last value counts, so that an alias can have another one.
     assert_eq!(answer(&["--to", "s", "-q", "--to", "ms", "1h", "-q"]), "");
