@@ -25,10 +25,8 @@ fn moment(secs: i64, nanos: u32) -> NaiveDateTime {
 
 /// Seconds since 1970, most of them near the first or the last moment that chrono can represent.
 fn secs() -> impl Strategy<Value = i64> {
-    let (first, last) = (
-        NaiveDateTime::MIN.timestamp(),
-        NaiveDateTime::MAX.timestamp(),
-    );
+    let [first, last] = [NaiveDateTime::MIN, NaiveDateTime::MAX]
+        .map(|moment| Utc.from_utc_datetime(&moment).timestamp());
     prop_oneof![
         first..=last,
         first..first + 600 * 31_536_000,

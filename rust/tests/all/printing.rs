@@ -187,6 +187,7 @@ fn prints_negative(length: impl HumanFormat) {
 
 #[test]
 #[cfg(feature = "chrono")]
+#[allow(deprecated)] // Debian 12's chrono has no other names of the least and the most.
 fn prints_negative_durations_of_chrono() {
     use chrono::Duration as Signed;
     prints_negative(Signed::seconds(-5_401));
