@@ -189,19 +189,23 @@ class Consumers:
         return library
 
     def sleep(self, nanos):
-        """GNU sleep reads a double, and waits for at most 24 days at a time."""
+        """GNU sleep reads a double, and waits for at most 24 days at a time. That of coreutils 9.7
+        waits longer, by up to four units in the double's last place.
+        """
         nanos = nanos[:20]
         for line, each in zip(self.printed(nanos, "--to", "s"), nanos):
             told = output_of(["sleep", line], LD_PRELOAD=self.waits())
-            same("sleep", [sum(map(int, told))], [each], slack=1)
+            same("sleep", [sum(map(int, told))], [each], slack=4)
 
     def timeout(self, nanos):
-        """0 would mean no limit, so whole seconds are rounded up, as MIGRATING says."""
+        """0 would mean no limit, so whole seconds are rounded up, as MIGRATING says. The timeout of
+        coreutils 9.7 waits longer too.
+        """
         nanos = [each for each in nanos if each][:20]
         lines = self.printed(nanos, "--to", "s", "--decimals", "0", "--round", "up")
         for line, each in zip(lines, nanos):
             told = output_of(["timeout", f"{line}s", "true"], LD_PRELOAD=self.waits())
-            same("timeout", told[:1], [-(-each // 10**9) * 10**9])
+            same("timeout", told[:1], [-(-each // 10**9) * 10**9], slack=4)
 
 
 NEEDS = {"systemd_analyze": "systemd-analyze", "sleep": "cc", "timeout": "cc", "duration": "true"}
