@@ -151,7 +151,9 @@ PROMISES = {
     "other --sma": "other --sma",
     "duration --units=y,d,n": "duration --units=y,d,ns",
 }
-OFFERED = re.compile(r"\b(y,)?min +(y,)?mon +(y,)?ms\b")  # After `--units y,m`
+# Three words that begin with `m`, which is what is offered after `--units y,m`. They stand in any
+# order: since clap_complete 4.5 the script tells bash not to sort them.
+OFFERED = re.compile(r"\b(?:y,)?(m\w+) +(?:y,)?(m\w+) +(?:y,)?(m\w+)\b")
 Row = collections.namedtuple("Row", "typed file")
 Fault = collections.namedtuple("Fault", "what shown")
 
@@ -259,7 +261,8 @@ class Terminal:
                 fails(self.name, f"{typed!r} is completed to {line!r}", shown)
         typed = "duration --units y,m"
         _, shown, _ = self.answer(typed)
-        if not OFFERED.search(shown):
+        offered = OFFERED.search(shown)
+        if not offered or set(offered.groups()) != {"min", "mon", "ms"}:
             fails(self.name, f"{typed!r}: units are not offered", shown)
 
     def ends(self):
