@@ -256,14 +256,16 @@ fn with_list(shell: Shell, script: &str) -> String {
                         COMPREPLY=("${{COMPREPLY[@]/#/"${{cur%"{last}"}}"}}")
                     fi"#
             );
-            // compgen -f would give the names of files without quotation marks, and a name can be a
-            // command. bash itself completes them if there is no answer, and quotes them.
-            let files = r#"COMPREPLY=($(compgen -f "${cur}"))"#;
-            script
-                .replace(answer, &answers)
-                .replace(files, "COMPREPLY=()")
+            without_files(&script.replace(answer, &answers))
         }
     }
+}
+
+/// Makes clap's script for bash leave the names of files to bash, which completes them itself if
+/// there is no answer, and quotes them. `compgen -f` gives them as they are, and a name can be a
+/// command.
+fn without_files(script: &str) -> String {
+    script.replace(r#"COMPREPLY=($(compgen -f "${cur}"))"#, "COMPREPLY=()")
 }
 
 /// A byte that no argument has. It is put before an argument that begins like a negative number, so
