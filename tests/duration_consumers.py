@@ -86,6 +86,13 @@ def in_nanos(texts, unit=10**9):
     return [fractions.Fraction(text) * unit for text in texts]
 
 
+def waits_longer():
+    """Whether sleep and timeout wait longer than they are told, by up to four units in the last
+    place of a double. Those of coreutils 9.7 do so, and those of 9.1 don't."""
+    version = output_of(["sleep", "--version"])[0].split()[-1]
+    return tuple(map(int, version.split(".")[:2])) > (9, 1)
+
+
 class Consumers:
     def __init__(self, program, room):
         self.program, self.room = program, room
@@ -189,23 +196,19 @@ class Consumers:
         return library
 
     def sleep(self, nanos):
-        """GNU sleep reads a double, and waits for at most 24 days at a time. That of coreutils 9.7
-        waits longer, by up to four units in the double's last place.
-        """
-        nanos = nanos[:20]
+        """GNU sleep reads a double, and waits for at most 24 days at a time."""
+        nanos, slack = nanos[:20], 4 if waits_longer() else 1
         for line, each in zip(self.printed(nanos, "--to", "s"), nanos):
             told = output_of(["sleep", line], LD_PRELOAD=self.waits())
-            same("sleep", [sum(map(int, told))], [each], slack=4)
+            same("sleep", [sum(map(int, told))], [each], slack)
 
     def timeout(self, nanos):
-        """0 would mean no limit, so whole seconds are rounded up, as MIGRATING says. The timeout of
-        coreutils 9.7 waits longer too.
-        """
-        nanos = [each for each in nanos if each][:20]
+        """0 would mean no limit, so whole seconds are rounded up, as MIGRATING says."""
+        nanos, slack = [each for each in nanos if each][:20], 4 if waits_longer() else 0
         lines = self.printed(nanos, "--to", "s", "--decimals", "0", "--round", "up")
         for line, each in zip(lines, nanos):
             told = output_of(["timeout", f"{line}s", "true"], LD_PRELOAD=self.waits())
-            same("timeout", told[:1], [-(-each // 10**9) * 10**9], slack=4)
+            same("timeout", told[:1], [-(-each // 10**9) * 10**9], slack)
 
 
 NEEDS = {"systemd_analyze": "systemd-analyze", "sleep": "cc", "timeout": "cc", "duration": "true"}
