@@ -30,7 +30,7 @@ function rustReading(text, { requireUnit, defaultUnit, ...options }) {
     const literal = JSON.stringify(text);
     const names = namesOf(options);
     const isPlain = names.length === 0;
-    if (requireUnit && isPlain) return `parse_with_units(${literal})`;
+    if (requireUnit && isPlain) return `parse_require_unit(${literal})`;
     if (defaultUnit && isPlain) return `parse_in(${literal}, ${rustUnit(defaultUnit)})`;
     // A factor without a unit would count the default unit too.
     if (defaultUnit) names.unshift("noCalc");

@@ -52,7 +52,7 @@ class Lines(unittest.TestCase):
         field = duration_str.DurationField
         self.assertEqual(field(default_unit="ms"), field(default_unit="ms"))
         self.assertEqual(len({field(), field(), field(default_unit="ms")}), 2)
-        self.assertNotEqual(duration_str.Duration, duration_str.DurationWithUnits)
+        self.assertNotEqual(duration_str.Duration, duration_str.DurationRequireUnit)
         self.assertIn("default_unit='ms'", repr(field(default_unit="ms")))
 
     def test_argparse(self):
@@ -141,12 +141,12 @@ class Models(unittest.TestCase):
         self.assertEqual(self.model.model_validate_json('{"timeout": "1m"}').timeout, MINUTE)
 
     def test_requires_units(self):
-        adapter = self.pydantic.TypeAdapter(duration_str.DurationWithUnits)
+        adapter = self.pydantic.TypeAdapter(duration_str.DurationRequireUnit)
         self.assertEqual(adapter.validate_python("1h 30m"), 1.5 * HOUR)
         self.assertEqual(adapter.dump_json(adapter.validate_python(MINUTE)), b'"1min"')
         self.assertEqual(
-            pickle.loads(pickle.dumps(duration_str.DurationWithUnits)),
-            duration_str.DurationWithUnits,
+            pickle.loads(pickle.dumps(duration_str.DurationRequireUnit)),
+            duration_str.DurationRequireUnit,
         )
         for text, line in [
             ("90", "expected a unit at column 3, found the end"),

@@ -72,21 +72,21 @@ pub fn parse_in(input: &str, default_unit: TimeUnit) -> Result<Duration, Duratio
 /// unit.
 ///
 /// Most other calls read `90` and `1h 30` as seconds, which may not be what was meant. In clap,
-/// write `value_parser = duration_str::parse_with_units`. For serde, use the module
-/// `human_with_units`.
+/// write `value_parser = duration_str::parse_require_unit`. For serde, use the module
+/// `human_require_unit`.
 ///
 /// # Errors
 ///
 /// Returns why the text is refused, with a copy of the text.
 ///
 /// ```
-/// use duration_str::{DurationError, parse_with_units};
+/// use duration_str::{DurationError, parse_require_unit};
 ///
-/// assert_eq!(parse_with_units("1h 30m")?.as_secs(), 5_400);
-/// let refusal = parse_with_units("1h 30").unwrap_err();
+/// assert_eq!(parse_require_unit("1h 30m")?.as_secs(), 5_400);
+/// let refusal = parse_require_unit("1h 30").unwrap_err();
 /// assert_eq!(refusal.to_string(), "expected a unit at column 6, found the end");
 /// # Ok::<(), DurationError>(())
 /// ```
-pub fn parse_with_units(input: &str) -> Result<Duration, DurationError> {
+pub fn parse_require_unit(input: &str) -> Result<Duration, DurationError> {
     parse_with_default_unit(input, ADDITIONS, None).map_err(Fault::into_owned)
 }

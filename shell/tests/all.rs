@@ -1,5 +1,5 @@
 //! Tests the program by running it. Its lines about refused texts are compared with the library's.
-use duration_str::{parse_duration, parse_with_units};
+use duration_str::{parse_duration, parse_require_unit};
 use serde_json::{Value, json};
 use std::ffi::OsStr;
 use std::fs::File;
@@ -234,7 +234,7 @@ fn takes_bare_numbers_as_a_unit() {
     ] {
         let errors = format!(
             "duration: argument 1: {}\n",
-            parse_with_units(text).unwrap_err()
+            parse_require_unit(text).unwrap_err()
         );
         assert_eq!(
             run(&["--from", "s", "--", text], b""),

@@ -407,8 +407,8 @@ def try_code(page):
     page.put("1h 30m")
     taken = {
         "rust": (
-            "use duration_str::{format_duration, parse_with_units};",
-            'parse_with_units("1h 30m")?;',
+            "use duration_str::{format_duration, parse_require_unit};",
+            'parse_require_unit("1h 30m")?;',
         ),
         "python": ('duration_str.parse("1h 30m", require_unit=True)',),
         "javascript": ('parse("1h 30m", { requireUnit: true });',),

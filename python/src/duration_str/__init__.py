@@ -61,7 +61,7 @@ For other packages:
   duration_str.argparse.DURATION  a type of argparse's arguments
 
 In a model of pydantic a field may have the type `Duration`, or
-`DurationWithUnits`, which refuses a number without a unit. `DurationField`
+`DurationRequireUnit`, which refuses a number without a unit. `DurationField`
 makes such a type with other options. These types are only annotations: to make
 a value, call `parse`.
 """
@@ -71,7 +71,7 @@ from __future__ import annotations
 
 from ._arrays import format_many, to_timedelta
 from ._columns import parse_buffers, parse_many
-from ._models import Duration, DurationField, DurationWithUnits
+from ._models import Duration, DurationField, DurationRequireUnit
 from ._native import format as format
 from ._native import parse, parse_ns, parse_seconds
 from ._texts import Cause, DurationError, DurationTypeError, Expected, Style, Unit
@@ -82,7 +82,7 @@ __all__ = [
     "DurationError",
     "DurationField",
     "DurationTypeError",
-    "DurationWithUnits",
+    "DurationRequireUnit",
     "Expected",
     "Style",
     "Unit",

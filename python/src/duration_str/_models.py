@@ -109,5 +109,5 @@ class DurationField(WithOptions):
 Duration = Annotated[datetime.timedelta, DurationField()]
 """A timedelta in a model of pydantic 2. A text is read, and a timedelta is kept. In JSON it is the
 printed text. The limits `gt`, `ge`, `lt` and `le` of a `Field` are timedeltas."""
-DurationWithUnits = Annotated[datetime.timedelta, DurationField(require_unit=True)]
+DurationRequireUnit = Annotated[datetime.timedelta, DurationField(require_unit=True)]
 """A `Duration`, but a number without a unit is refused, as in `90` and `1h 30`."""
