@@ -70,7 +70,7 @@
 //! assert!(serde_json::from_str::<Settings>(r#"{ "timeout": "90s*2" }"#).is_err());
 //! # Ok::<(), serde_json::Error>(())
 //! ```
-use crate::default_unit::parse_with_default_unit;
+use crate::default_unit::{naming, parse_with_default_unit};
 use crate::human_duration::HumanDuration;
 use crate::human_format::Sealed;
 use crate::humantime;
@@ -235,8 +235,8 @@ impl<T: Length, const HOW: u8> Visitor<'_> for Text<T, HOW> {
             REQUIRE_UNIT => parse_with_default_unit(text, ADDITIONS, None),
             STRICT => humantime::read(text),
             MILLIS => {
-                let options = ADDITIONS.with_no_calc();
-                parse_with_default_unit(text, options, Some(TimeUnit::MilliSecond))
+                let unit = TimeUnit::MilliSecond;
+                parse_with_default_unit(text, naming(unit), Some(unit))
             }
             _ => parse_with(text, ADDITIONS),
         };
