@@ -14,7 +14,7 @@
 /* The Python objects that the module keeps. First come the names of the options: the flags, in the
  * order of their bits, and then the default unit. They are followed by the names of the keywords
  * that limit printing, the names of a timedelta's parts, and the types and functions that the
- * module calls. */
+ * module calls. The last ones are the names of the units, from UNIT_NAMES on. */
 enum kept {
     NO_CALC,
     LOWERCASE,
@@ -35,7 +35,8 @@ enum kept {
     TIMEDELTA,
     A_MICROSECOND,
     A_SECOND,
-    KEPT
+    UNIT_NAMES,
+    KEPT = UNIT_NAMES + DURATION_STR_UNIT_NANOSECOND + 1
 };
 /* The names. In the enumeration they come before ERROR, in the same order */
 static const char *const kept_names[] = {"no_calc", "lowercase", "cn_unit", "require_unit",
@@ -213,7 +214,11 @@ static int unit_read(PyObject *name) {
 }
 
 /* The number of the unit that is printed or read by this name. Returns -1 with an error. */
-static int unit_of(PyObject *name, const char *keyword) {
+static int unit_of(struct state *state, PyObject *name, const char *keyword) {
+    /* A name that stands in a program is almost always the same object as the kept one. */
+    for (int unit = 0; unit <= DURATION_STR_UNIT_NANOSECOND; unit++)
+        if (name == state->kept[UNIT_NAMES + unit])
+            return unit;
     int unit = place_among(name, unit_names, DURATION_STR_UNIT_NANOSECOND + 1);
     if (unit < 0 && PyUnicode_Check(name))
         unit = unit_read(name);
@@ -229,7 +234,7 @@ static int take_option(struct state *state, const char *call, PyObject *keyword,
     if (option < 0)
         return -1;
     if (option == DEFAULT_UNIT) {
-        *default_unit = unit_of(value, "default_unit");
+        *default_unit = unit_of(state, value, "default_unit");
         return *default_unit < 0 ? -1 : 0;
     }
     const int is_on = value == Py_True ? 1 : value == Py_False ? 0 : PyObject_IsTrue(value);
@@ -357,7 +362,7 @@ static int take_style(PyObject *name, uint32_t *style) {
 }
 
 /* Takes a set of units. None stands for all units. Returns -1 with an error. */
-static int take_units(PyObject *value, uint32_t *units) {
+static int take_units(struct state *state, PyObject *value, uint32_t *units) {
     if (Py_IsNone(value))
         return 0;
     PyObject *names = PyUnicode_Check(value) ? NULL : PyObject_GetIter(value), *name;
@@ -369,7 +374,7 @@ static int take_units(PyObject *value, uint32_t *units) {
     }
     uint32_t chosen = 0;
     while ((name = PyIter_Next(names))) {
-        const int unit = unit_of(name, "each of units");
+        const int unit = unit_of(state, name, "each of units");
         Py_DECREF(name);
         if (unit < 0)
             break;
@@ -395,12 +400,12 @@ static int take_limit(struct state *state, PyObject *keyword, PyObject *value,
     case PARTS:
         return take_parts(value, &limits->parts);
     case UNITS:
-        return take_units(value, &limits->units);
+        return take_units(state, value, &limits->units);
     case LARGEST:
-        *largest = unit_of(value, "largest");
+        *largest = unit_of(state, value, "largest");
         return *largest < 0 ? -1 : 0;
     case SMALLEST:
-        *smallest = unit_of(value, "smallest");
+        *smallest = unit_of(state, value, "smallest");
         return *smallest < 0 ? -1 : 0;
     case STYLE:
         return take_style(value, &limits->style);
@@ -902,6 +907,13 @@ static int begin(PyObject *module) {
     if (state->kept[TIMEDELTA])
         state->kept[A_MICROSECOND] = PyObject_GetAttrString(state->kept[TIMEDELTA], "resolution");
     state->kept[A_SECOND] = PyLong_FromLong(SECOND);
+    for (int unit = 0; unit <= DURATION_STR_UNIT_NANOSECOND; unit++) {
+        const char *name = unit_names[unit];
+        PyObject **kept = state->kept + UNIT_NAMES + unit;
+        *kept = PyUnicode_DecodeLatin1(name, (Py_ssize_t)strlen(name), NULL);
+        if (*kept)
+            PyUnicode_InternInPlace(kept);
+    }
     for (int at = 0; at < KEPT; at++)
         is_there = is_there && state->kept[at];
     return is_there ? 0 : -1;
