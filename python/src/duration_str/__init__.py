@@ -16,6 +16,11 @@ must be last or before an operator. Blanks may be anywhere except inside a
 number or a unit. A number must be below 2**64, and a value below 2**64
 nanoseconds.
 
+If you name a default unit, whole numbers that are not texts are read too:
+
+>>> duration_str.parse(1500, default_unit="ms")
+datetime.timedelta(seconds=1, microseconds=500000)
+
 The units:
 
   365 days     y, year, years
