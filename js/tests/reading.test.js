@@ -129,6 +129,20 @@ test("reads numbers if a default unit is named", () => {
     }
 });
 
+test("reads the numbers of the vectors", () => {
+    for (const [defaultUnit, number, secs, nanos] of VECTORS.numbers) {
+        const wanted = BigInt(secs) * 1_000_000_000n + BigInt(nanos);
+        for (const value of [number, BigInt(number), String(number)]) {
+            assert.equal(parseNs(value, { defaultUnit }), wanted);
+        }
+    }
+    for (const [defaultUnit, number] of VECTORS.refused_numbers) {
+        const { fault } = tryParse(number, { defaultUnit });
+        assert.ok(fault);
+        assert.deepEqual(fault, tryParse(String(number), { defaultUnit }).fault);
+    }
+});
+
 test("refuses a number as its text, or says why it is no whole number", () => {
     const options = { defaultUnit: "ms" };
     const refused = [1.5, -1, -1n, 1e-7, 18_446_744_073_710, 10n ** 20n, 10n ** 1000n];

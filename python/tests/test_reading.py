@@ -24,7 +24,7 @@ from duration_str import (
     parse_seconds,
     to_timedelta,
 )
-from tests.vectors import CHOICES, values_under, words_of
+from tests.vectors import CHOICES, VECTORS, error_of, values_under, words_of
 
 
 class Whole(enum.IntEnum):
@@ -124,6 +124,18 @@ class Reading(unittest.TestCase):
         for value in [*others, fractions.Fraction(1)]:
             with self.assertRaisesRegex(DurationTypeError, "must be a str or a whole number, not "):
                 parse(value, default_unit="ms")
+
+    def test_reads_the_numbers_of_the_vectors(self):
+        for unit, number, secs, nanos in VECTORS["numbers"]:
+            for value in [number, float(number), str(number)]:
+                self.assertEqual(parse_ns(value, default_unit=unit), secs * 10**9 + nanos)
+                self.assertEqual(
+                    parse_many([value], default_unit=unit).tolist(), [secs * 10**9 + nanos]
+                )
+        for unit, number in VECTORS["refused_numbers"]:
+            errors = [error_of(parse_ns, each, default_unit=unit) for each in (number, str(number))]
+            self.assertEqual(*map(str, errors))
+            self.assertEqual(parse_many([number], errors="coerce", default_unit=unit)[1][0], 0)
 
     def test_says_how_numbers_are_read(self):
         for value in [1, 1.5, Whole.FEW]:

@@ -1,5 +1,5 @@
 //! Durations as text, which serde writes and reads.
-use crate::STYLES;
+use crate::{STYLES, vectors};
 use duration_str::human::{self, HumanText};
 use duration_str::{
     HumanDuration, Style, TimeUnit, UnknownStyle, UnknownUnit, human_or_millis, human_or_seconds,
@@ -380,6 +380,35 @@ fn reads_whole_milliseconds_and_texts() {
         let line = parse_in(text, TimeUnit::MilliSecond).unwrap_err();
         let refusal = in_millis(BytesDeserializer::new(text.as_bytes()));
         assert_eq!(refusal, Err(format!("invalid duration: {line}")));
+    }
+}
+
+/// Reads a value as a number of this unit, or as a text in which it is the default unit. There are
+/// modules for seconds and milliseconds.
+fn by_module(unit: &str, value: Value) -> Option<Result<Duration, serde_json::Error>> {
+    match unit {
+        "s" => Some(human_or_seconds::deserialize(value)),
+        "ms" => Some(human_or_millis::deserialize(value)),
+        _ => None,
+    }
+}
+
+#[test]
+fn reads_the_numbers_of_the_vectors() {
+    for (unit, number, secs, nanos) in vectors().numbers {
+        let wanted = Duration::new(secs, nanos);
+        for value in [json!(number), json!(number.to_string())] {
+            if let Some(read) = by_module(&unit, value) {
+                assert_eq!(read.unwrap(), wanted, "{number} {unit}");
+            }
+        }
+    }
+    for (unit, number) in vectors().refused_numbers {
+        for value in [json!(number.to_string()), number] {
+            if let Some(read) = by_module(&unit, value) {
+                assert!(read.is_err(), "{unit}");
+            }
+        }
     }
 }
 

@@ -101,6 +101,19 @@ fn reads_in_another_unit() {
     assert_eq!(is_read, cfg!(feature = "cn_unit"));
 }
 
+/// The texts of the numbers. The modules for serde read the numbers themselves.
+#[test]
+fn reads_the_digits_of_numbers_in_another_unit() {
+    for (unit, number, secs, nanos) in vectors().numbers {
+        let read = parse_in(&number.to_string(), unit.parse().unwrap());
+        assert_eq!(read, Ok(Duration::new(secs, nanos)), "{number} {unit}");
+    }
+    for (unit, number) in vectors().refused_numbers {
+        let read = parse_in(&number.to_string(), unit.parse().unwrap());
+        assert!(read.is_err(), "{number} {unit}");
+    }
+}
+
 /// The macro `duration!`.
 #[cfg(feature = "macros")]
 mod macros {
