@@ -163,8 +163,8 @@ class Reading(unittest.TestCase):
         self.assertEqual(numbers(to_timedelta(masked, default_unit="ms")), [None, read[1]])
         self.assertEqual(to_timedelta(1500, default_unit="ms"), pandas.Timedelta(1.5, "s"))
         self.assertEqual(to_timedelta(numpy.uint8(9), default_unit="s"), pandas.Timedelta(9, "s"))
-        mixed = [7, "8", datetime.timedelta(1), numpy.timedelta64(5, "s"), numpy.int64(1), None]
-        wanted = [7 * SECOND, 8 * SECOND, 86_400 * SECOND, 5 * SECOND, SECOND, None]
+        mixed = [7, "8", datetime.timedelta(1), numpy.timedelta64(5, "ms"), numpy.int64(1), None]
+        wanted = [7 * SECOND, 8 * SECOND, 86_400 * SECOND, 5_000_000, SECOND, None]
         self.assertEqual(numbers(to_timedelta(mixed, default_unit="s")), wanted)
         self.assertEqual(
             numbers(to_timedelta(["1", 10**5_000], default_unit="s", errors="coerce")),
@@ -190,6 +190,7 @@ class Reading(unittest.TestCase):
             pandas.Series(day, dtype="datetime64[ns]"),
             numpy.array([1.0], dtype="float32"),
             numpy.array([True]),
+            [numpy.True_],
         ]:
             for call in (to_timedelta, parse_many):
                 with self.subTest(column=column, call=call):
@@ -201,9 +202,10 @@ class Reading(unittest.TestCase):
         self.assertEqual(numbers(to_timedelta(lengths, default_unit="ms")), [5])
         with self.assertRaisesRegex(TypeError, "str or a whole number, not timedelta64$"):
             parse_many(lengths, default_unit="ms")
-        masked = numpy.ma.array([1, 2], mask=[True, False], dtype="float32")
-        coerced = to_timedelta(masked, default_unit="ms", errors="coerce")
-        self.assertEqual(numbers(coerced), [None, None])
+        masked = numpy.ma.array([1, 2], mask=True, dtype="float32")
+        self.assertEqual(numbers(to_timedelta(masked, default_unit="ms")), [None, None])
+        with self.assertRaisesRegex(TypeError, "not int64: .*default_unit='ms'$"):
+            to_timedelta([numpy.int64(1)])
 
     def test_refuses_what_timedelta64_lacks(self):
         most = 2**63 - 1

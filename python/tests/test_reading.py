@@ -37,6 +37,13 @@ class Whole(enum.IntEnum):
         return self.name
 
 
+class Place:
+    """No number, although it has the place of an item in a list."""
+
+    def __index__(self):
+        return 1
+
+
 def value_of(text, options):
     try:
         return parse_ns(text, **options)
@@ -121,7 +128,7 @@ class Reading(unittest.TestCase):
         with self.assertRaisesRegex(ValueError, "4300 digits"):
             parse_ns(10**5_000, default_unit="ms")
         others = [True, None, float("nan"), b"1", [1], datetime.timedelta(1), decimal.Decimal(1)]
-        for value in [*others, fractions.Fraction(1)]:
+        for value in [*others, fractions.Fraction(1), Place()]:
             with self.assertRaisesRegex(DurationTypeError, "must be a str or a whole number, not "):
                 parse(value, default_unit="ms")
 
