@@ -42,7 +42,7 @@ interface RequiringOptions extends Switches {
 interface CountingOptions extends Switches {
     /**
      * The default unit, which a number without a unit counts. With `ms`, `1500` is 1.5 seconds, and
-     * so is `1s 500`. For a text, to name the second is the same as to name nothing. With any other
+     * so is `1s 500`. For a text, naming the second is the same as naming nothing. With any other
      * unit `+` and `*` are not read, since a factor would count it too: `90s*2` would be 90 seconds
      * times 2 milliseconds.
      *

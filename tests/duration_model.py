@@ -112,7 +112,7 @@ def read(data, options):
         text if len(text) < 10_000 else text.strip(BLANKS)
     )  # The blanks around a long text would take long.
     unit = LENGTHS[options.get("from", "s")]
-    # To name the second is the same as to name nothing.
+    # Naming the second is the same as naming nothing.
     no_calc = unit != reference.SECOND
     answer = reference.answer_of(
         text,

@@ -101,7 +101,7 @@ static void check_default_units(void) {
                    read_with(units[unit], 0).nanos,
             "a number without a unit");
     const uint32_t second = DURATION_STR_OPTION_DEFAULT_UNIT(DURATION_STR_UNIT_SECOND);
-    expect(second == 0, "to name the second is to name nothing");
+    expect(second == 0, "naming the second is naming nothing");
     expect(read_with("1s+1", second).nanos == 2000000000u, "operators beside the second");
     const uint32_t millisecond = DURATION_STR_OPTION_DEFAULT_UNIT(DURATION_STR_UNIT_MILLISECOND);
     expect(millisecond == 0x90001u, "the bits of a default unit, which bindings compute");

@@ -382,7 +382,7 @@ function unitOf(what, name) {
     throw new RangeError(`${what} must be one of ${listed(UNITS)}, not ${name}`);
 }
 
-/** The bits of a default unit. For a text, to name the second is the same as to name nothing.
+/** The bits of a default unit. For a text, naming the second is the same as naming nothing.
  * Another unit turns `noCalc` on, since a factor without a unit would count it too. */
 function defaultUnitBits(name) {
     if (name === undefined) return 0;

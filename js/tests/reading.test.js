@@ -86,7 +86,7 @@ test("counts the default unit where a number has none", () => {
         ["1", "us", 0.001],
         ["1", "µs", 0.001],
         ["18446744073709", "ms", 18_446_744_073_709],
-        // For a text, to name the second is the same as to name nothing.
+        // For a text, naming the second is the same as naming nothing.
         ["2*3", "s", 6000],
         ["1s+500ms", "second", 1500],
         ["2*3", undefined, 6000],

@@ -84,7 +84,7 @@ class Reading(unittest.TestCase):
             parse_ns("90s*2", default_unit="ms")
         with self.assertRaisesRegex(DurationError, r"at column 3, found \"\+\"$"):
             parse_ns("1s+500ms", default_unit="ms")
-        # For a text, to name the second is the same as to name nothing.
+        # For a text, naming the second is the same as naming nothing.
         self.assertEqual(parse_ns("90s*2", default_unit="s"), 180 * 10**9)
         self.assertEqual(parse_ns("1s+500ms", default_unit="second"), 1_500_000_000)
         with self.assertRaises(DurationError):

@@ -188,7 +188,7 @@ fn requires_units() {
     assert_eq!(answer(&["--require-unit", "--cn-unit", "1分"]), "1min\n");
 }
 
-/// `--from` names the default unit. To name the second is the same as to name nothing. With any
+/// `--from` names the default unit. Naming the second is the same as naming nothing. With any
 /// other unit `+` and `*` are not read.
 #[test]
 fn reads_all_texts_in_the_unit_of_from() {

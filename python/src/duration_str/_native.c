@@ -908,7 +908,7 @@ PyDoc_STRVAR(parse_ns_doc,
     "  cn_unit       the Chinese names of the units are read too\n"
     "  require_unit  a number without a unit is refused\n\n"
     "A number without a unit counts the `default_unit`. You can give the unit by any\n"
-    "name that is read. For a text, to name the second is the same as to name\n"
+    "name that is read. For a text, naming the second is the same as naming\n"
     "nothing; with any other default unit `+` and `*` are not read, since a factor\n"
     "would count it too.\n\n"
     "If you name a default unit, even the second, a whole number that is not a text\n"

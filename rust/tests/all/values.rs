@@ -72,8 +72,8 @@ fn reads_the_vectors_and_refuses_them_under_the_other_options() {
     }
 }
 
-/// `parse_in` is for a program whose numbers count another unit. To name the second is the same as
-/// to name nothing. With any other unit `+` and `*` are not read.
+/// `parse_in` is for a program whose numbers count another unit. Naming the second is the same as
+/// naming nothing. With any other unit `+` and `*` are not read.
 #[test]
 fn reads_in_another_unit() {
     for unit in TimeUnit::ALL {
