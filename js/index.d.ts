@@ -13,8 +13,11 @@
 /**
  * Options for reading. If you give none, all are off, and the default unit is the second. They must
  * be a plain object, and only the object's own properties count. An unknown name is a `TypeError`.
+ * `requireUnit` and `defaultUnit` can't stand together.
  */
-export interface Options {
+export type Options = RequiringOptions | CountingOptions;
+
+interface Switches {
     /** `+` and `*` are not read, and the terms are added one by one. */
     noCalc?: boolean | undefined;
     /**
@@ -24,19 +27,35 @@ export interface Options {
     lowercase?: boolean | undefined;
     /** The Chinese names of the units are read too. */
     cnUnit?: boolean | undefined;
+}
+
+/** Options that can require units, and so name no default unit. */
+interface RequiringOptions extends Switches {
     /**
      * A number without a unit is refused, as in `90` and `1h 30`. Without this option, such a
      * number counts the default unit.
      */
     requireUnit?: boolean | undefined;
+    defaultUnit?: undefined;
+}
+
+/** Options that can name the default unit, and so don't require units. */
+interface CountingOptions extends Switches {
     /**
      * The default unit, which a number without a unit counts. With `ms`, `1500` is 1.5 seconds, and
-     * so is `1s 500`. A factor without a unit would count it too: `90s*2` would be 90 seconds times
-     * 2 milliseconds. So a default unit other than the second turns `noCalc` on. You can't give
-     * such a unit together with `requireUnit`.
+     * so is `1s 500`. For a text, naming the second is the same as naming nothing. With any other
+     * unit `+` and `*` are not read, since a factor would count it too: `90s*2` would be 90 seconds
+     * times 2 milliseconds.
+     *
+     * If you name a default unit, even the second, a number that is not a text is read as its
+     * digits would be.
      */
     defaultUnit?: Unit | undefined;
+    requireUnit?: false | undefined;
 }
+
+/** Options that name the default unit, under which numbers are read. */
+export type NumberOptions = CountingOptions & { defaultUnit: Unit };
 
 /**
  * The names of the units, with a line for each unit, the longest first. These are the names that a
@@ -227,14 +246,20 @@ export declare const version: string;
  * setTimeout(retry, parse("1m 30s")); // setTimeout takes at most 24.8 days
  * ```
  *
- * @throws DurationError if the text is refused
- * @throws TypeError if `text` is not a string, or if an option is unknown or of another type
- * @throws RangeError if no unit has the name of `defaultUnit`, or if a unit is required and
- * `defaultUnit` is not the second
+ * With `defaultUnit` it also reads a whole number or a bigint, as its digits would be:
+ * `parse(1500, { defaultUnit: "ms" })` is `1500`, and `parse(2, { defaultUnit: "h" })` is
+ * `7200000`. A number with a fraction is refused as its text would be.
+ *
+ * @throws DurationError if the text or the number is refused
+ * @throws TypeError if `text` is not a string, and not a number beside `defaultUnit`, or if an
+ * option is unknown or of another type
+ * @throws RangeError if no unit has the name of `defaultUnit`, if it stands beside `requireUnit`,
+ * or if a number is NaN, or is 2^53 or more, where it can have lost digits
  * @throws Error if WebAssembly is missing or refused. The other functions throw it too. The message
  * says what to do, and the `cause` is the engine's error. The next call tries again.
  */
 export function parse(text: string, options?: Options): number;
+export function parse(value: string | number | bigint, options: NumberOptions): number;
 
 /**
  * Returns what `parse` returns, or what is wrong with the text. It makes no error and no stack.
@@ -242,6 +267,7 @@ export function parse(text: string, options?: Options): number;
  * @throws TypeError, RangeError as `parse` does
  */
 export function tryParse(text: string, options?: Options): Result;
+export function tryParse(value: string | number | bigint, options: NumberOptions): Result;
 
 /**
  * Returns the exact value of a text in nanoseconds: `parseNs("3m + 13s + 29ms")` is
@@ -250,9 +276,13 @@ export function tryParse(text: string, options?: Options): Result;
  * @throws DurationError, TypeError, RangeError as `parse` does
  */
 export function parseNs(text: string, options?: Options): bigint;
+export function parseNs(value: string | number | bigint, options: NumberOptions): bigint;
 
 /** Returns what `parseNs` returns, or what is wrong with the text, as `tryParse` does. */
 export function tryParseNs(text: string, options?: Options): Result<bigint>;
+export function tryParseNs(
+    value: string | number | bigint, options: NumberOptions,
+): Result<bigint>;
 
 /**
  * Prints a duration of this many milliseconds, and returns the text: `format(5_400_000)` is

@@ -111,11 +111,13 @@ def read(data, options):
     text = (
         text if len(text) < 10_000 else text.strip(BLANKS)
     )  # The blanks around a long text would take long.
-    is_unit_required = "from" in options or "require-unit" in options
+    unit = LENGTHS[options.get("from", "s")]
+    # Naming the second is the same as naming nothing.
+    no_calc = unit != reference.SECOND
     answer = reference.answer_of(
         text,
-        reference.Options(False, "lowercase" in options, "cn-unit" in options),
-        None if is_unit_required else reference.SECOND,
+        reference.Options(no_calc, "lowercase" in options, "cn-unit" in options),
+        None if "require-unit" in options else unit,
     )
     if answer.cause == "read":
         return answer.value
@@ -203,7 +205,8 @@ def is_wrong(options, texts):
         or "delimiter" in names
         and "field" not in names
     )
-    return bool(numbers or fields or not units_of(options) or "header" in names and texts)
+    units = {"from", "require-unit"} <= names
+    return bool(numbers or fields or units or not units_of(options) or "header" in names and texts)
 
 
 class Commands(Texts):

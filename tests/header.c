@@ -100,10 +100,14 @@ static void check_default_units(void) {
         expect(read_with("1", DURATION_STR_OPTION_DEFAULT_UNIT(unit)).nanos ==
                    read_with(units[unit], 0).nanos,
             "a number without a unit");
+    const uint32_t second = DURATION_STR_OPTION_DEFAULT_UNIT(DURATION_STR_UNIT_SECOND);
+    expect(second == 0, "naming the second is naming nothing");
+    expect(read_with("1s+1", second).nanos == 2000000000u, "operators beside the second");
     const uint32_t millisecond = DURATION_STR_OPTION_DEFAULT_UNIT(DURATION_STR_UNIT_MILLISECOND);
     expect(millisecond == 0x90001u, "the bits of a default unit, which bindings compute");
     expect(read_with("1s 500", millisecond).nanos == 1500000000u, "a second and milliseconds");
     expect(is_syntax(read_with("90s*2", millisecond), 3, after_unit, 1), "a factor");
+    expect(is_syntax(read_with("1s+500ms", millisecond), 2, after_unit, 1), "a plus");
     expect(read_with("1M 500", millisecond | DURATION_STR_OPTION_LOWERCASE).place == 1,
         "a default unit beside another option");
     expect(is_unknown(millisecond & ~no_calc), "a default unit beside operators");

@@ -1,7 +1,7 @@
 // Programs that read and print the text, in each language. A text that is read has no character
 // that a language escapes differently than JSON does.
 import { format, formatNs, parse, parseNs } from "../js/dist/duration-str.js";
-import { terms, UNITS } from "./units.js";
+import { UNITS } from "./units.js";
 
 /** The names of the options that are on, except the default unit: in JavaScript, and in other
  * languages. */
@@ -30,7 +30,7 @@ function rustReading(text, { requireUnit, defaultUnit, ...options }) {
     const literal = JSON.stringify(text);
     const names = namesOf(options);
     const isPlain = names.length === 0;
-    if (requireUnit && isPlain) return `parse_with_units(${literal})`;
+    if (requireUnit && isPlain) return `parse_require_unit(${literal})`;
     if (defaultUnit && isPlain) return `parse_in(${literal}, ${rustUnit(defaultUnit)})`;
     // A factor without a unit would count the default unit too.
     if (defaultUnit) names.unshift("noCalc");
@@ -153,7 +153,7 @@ function c(text, options, limits) {
 }
 
 /** `durstr` reads lines, and prints each duration in full. `duration` can do more, but it has no
- * `no_calc`, and a default unit only for a single number. */
+ * `no_calc`. */
 function shell(text, options, limits) {
     if (/\p{C}/u.test(text)) return "";
     const { requireUnit, defaultUnit } = options;
@@ -162,9 +162,7 @@ function shell(text, options, limits) {
     if (!requireUnit && !defaultUnit && chosen.length === 0) {
         return ["printf '%s\\n'", `'${text}'`, "| durstr", ...names].join(" ");
     }
-    const counts = Array.from(terms(text, options));
-    const isSum = counts.length > 1 && counts.some(({ unit }) => !unit);
-    if (options.noCalc || defaultUnit && isSum) return "";
+    if (options.noCalc) return "";
     const taken = names.map((name) => `--${name.replace("_", "-")}`);
     if (defaultUnit) taken.push(`--from ${defaultUnit}`);
     const printed = chosen.map(([name, value]) => `--${name} ${value}`);

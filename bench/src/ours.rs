@@ -4,7 +4,7 @@ use duration_str::{
     DurationError, FORMAT_BUFFER_SIZE, Fault, Format, HumanFormat, Options, STYLED_BUFFER_SIZE,
 };
 use duration_str::{
-    parse, parse_duration, parse_with, parse_with_units, write_human, write_within,
+    parse, parse_duration, parse_require_unit, parse_with, write_human, write_within,
 };
 use std::hint::black_box;
 use std::time::Duration;
@@ -74,7 +74,7 @@ impl Library for Crate {
     }
 
     fn reading_units(text: &str) -> Duration {
-        parse_with_units(text).expect("a text that is read")
+        parse_require_unit(text).expect("a text that is read")
     }
 
     fn reading_as_humantime(text: &str) -> Duration {

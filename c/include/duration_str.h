@@ -114,19 +114,25 @@ enum duration_str_option {
  * `enum duration_str_unit`, instead of seconds. For example, with milliseconds
  * `1500` and `1s 500` are 1.5 seconds.
  *
- * The option includes DURATION_STR_OPTION_NO_CALC, since a factor without a
- * unit would count `unit` too: with milliseconds `90s*2` would be 180 ms. The
- * option is unknown if you take the bit DURATION_STR_OPTION_NO_CALC out, if you
- * add DURATION_STR_OPTION_REQUIRE_UNIT, or if no unit has the number `unit`.
- * The macro computes `unit` twice, so don't write `unit++` there.
+ * For the second the option is 0, since naming the second is the same as
+ * naming nothing. For any other unit it includes DURATION_STR_OPTION_NO_CALC,
+ * since a factor without a unit would count `unit` too: with milliseconds
+ * `90s*2` would be 180 ms. Then the option is unknown if you take the bit
+ * DURATION_STR_OPTION_NO_CALC out, or if you add
+ * DURATION_STR_OPTION_REQUIRE_UNIT. It is also unknown if no unit has the
+ * number `unit`. The macro computes `unit` more than once, so don't write
+ * `unit++` there.
  *
- * Bindings that can't call macros, such as those of Go and ctypes, compute the
- * option: the bits from bit 16 on are the unit's number plus 1. So with
+ * Bindings that can't call macros, such as those of Go and ctypes, compute it.
+ * For the second it is 0. For any other unit the bits from bit 16 on are the
+ * unit's number plus 1, and DURATION_STR_OPTION_NO_CALC is on. So with
  * milliseconds the option is 0x90001. */
 #define DURATION_STR_OPTION_DEFAULT_UNIT(unit) \
-    (DURATION_STR_OPTION_NO_CALC | \
-     (DURATION_STR_CAST(uint64_t, unit) <= DURATION_STR_UNIT_NANOSECOND \
-          ? DURATION_STR_CAST(uint32_t, unit) + 1 : 15) << 16)
+    (DURATION_STR_CAST(uint64_t, unit) == DURATION_STR_UNIT_SECOND \
+         ? UINT32_C(0) \
+         : DURATION_STR_OPTION_NO_CALC | \
+           (DURATION_STR_CAST(uint64_t, unit) <= DURATION_STR_UNIT_NANOSECOND \
+                ? DURATION_STR_CAST(uint32_t, unit) + 1 : 15) << 16)
 
 /* Why a text is refused. */
 enum duration_str_cause {

@@ -42,6 +42,8 @@ const STYLES = ["short", "compact", "long"];
 const OPTIONS = { __proto__: null, noCalc: 1, lowercase: 2, cnUnit: 4, requireUnit: 8 };
 /** From this bit on, the options hold the default unit's number plus 1, or 0 for the second. */
 const DEFAULT_UNIT = 16;
+/** A bit that the library doesn't know: a default unit is named, so numbers are read. */
+const READS_NUMBERS = 1 << 30;
 
 /** The size of the buffer that the module writes to. Everything that it writes fits. */
 const WRITTEN_SIZE = 867;
@@ -380,12 +382,13 @@ function unitOf(what, name) {
     throw new RangeError(`${what} must be one of ${listed(UNITS)}, not ${name}`);
 }
 
-/** The bits of a default unit. The second has none. Another unit turns `noCalc` on, since a factor
- * without a unit would count it too. */
+/** The bits of a default unit. For a text, naming the second is the same as naming nothing.
+ * Another unit turns `noCalc` on, since a factor without a unit would count it too. */
 function defaultUnitBits(name) {
     if (name === undefined) return 0;
     const unit = unitOf("the option defaultUnit", name);
-    return UNITS[unit] === "s" ? 0 : OPTIONS.noCalc | (unit + 1) << DEFAULT_UNIT;
+    if (UNITS[unit] === "s") return READS_NUMBERS;
+    return READS_NUMBERS | OPTIONS.noCalc | (unit + 1) << DEFAULT_UNIT;
 }
 
 /** The bits of the options that are on, and of the default unit. */
@@ -408,7 +411,7 @@ function bitsOf(options) {
             throw new TypeError(`the option ${name} must be a boolean, not ${typeOf(value)}`);
         }
     }
-    if (bits & OPTIONS.requireUnit && bits >> DEFAULT_UNIT) {
+    if (bits & OPTIONS.requireUnit && bits & READS_NUMBERS) {
         throw new RangeError("the options requireUnit and defaultUnit contradict each other");
     }
     return bits;
@@ -542,16 +545,32 @@ function put(value) {
 
 // ---- Reading
 
-/** Reads a text. Returns the fault, or null if the text is read. Then its value is at ANSWER. */
-function faultIn(text, options) {
-    if (typeof text !== "string") {
-        throw new TypeError(`a duration's text must be a string, not ${typeOf(text)}`);
+const notText = (value, help = "") =>
+    new TypeError(`a duration's text must be a string, not ${typeOf(value)}${help}`);
+
+/** The digits of a number or a bigint. For a number with a fraction it is the text that JavaScript
+ * prints, which the library refuses. */
+function digitsOf(value, bits) {
+    if (!(bits & READS_NUMBERS)) {
+        throw notText(value, ": to read numbers, name their unit, as by { defaultUnit: 'ms' }");
     }
+    // From 2^53 on a number can have lost digits. NaN is not below it.
+    if (typeof value === "bigint" || Math.abs(value) < 2 ** 53) return `${value}`;
+    throw new RangeError(`a number must be below 2^53, or a bigint, not ${value}`);
+}
+
+/** Reads a text, or a number if a default unit is named. Returns the fault, or null if the text is
+ * read. Then its value is at ANSWER. */
+function faultIn(value, options) {
+    const isText = typeof value === "string";
+    if (!isText && typeof value !== "number" && typeof value !== "bigint") throw notText(value);
     const bits = bitsOf(options);
+    const text = isText ? value : digitsOf(value, bits);
     if (!calls) start();
     const { length, lone } = write(text);
     if (lone >= 0) return loneSurrogateAt(text, lone);
-    const reportLength = calls.duration_str_report(TEXT, length, bits, ANSWER, WRITTEN);
+    const taken = bits & ~READS_NUMBERS;
+    const reportLength = calls.duration_str_report(TEXT, length, taken, ANSWER, WRITTEN);
     return reportLength > 0 ? faultOf(text, length, reportLength) : null;
 }
 
@@ -564,20 +583,20 @@ function valueOf(fault, value) {
     return value();
 }
 
-export function tryParseNs(text, options) {
-    return resultOf(faultIn(text, options), nanoseconds);
+export function tryParseNs(value, options) {
+    return resultOf(faultIn(value, options), nanoseconds);
 }
 
-export function parseNs(text, options) {
-    return valueOf(faultIn(text, options), nanoseconds);
+export function parseNs(value, options) {
+    return valueOf(faultIn(value, options), nanoseconds);
 }
 
-export function tryParse(text, options) {
-    return resultOf(faultIn(text, options), milliseconds);
+export function tryParse(value, options) {
+    return resultOf(faultIn(value, options), milliseconds);
 }
 
-export function parse(text, options) {
-    return valueOf(faultIn(text, options), milliseconds);
+export function parse(value, options) {
+    return valueOf(faultIn(value, options), milliseconds);
 }
 
 // ---- Printing

@@ -86,8 +86,9 @@ test("counts the default unit where a number has none", () => {
         ["1", "us", 0.001],
         ["1", "µs", 0.001],
         ["18446744073709", "ms", 18_446_744_073_709],
-        // Seconds are also the default unit if none is chosen, and operators are read with them.
+        // For a text, naming the second is the same as naming nothing.
         ["2*3", "s", 6000],
+        ["1s+500ms", "second", 1500],
         ["2*3", undefined, 6000],
     ];
     for (const [text, defaultUnit, value] of rows) {
@@ -104,7 +105,65 @@ test("counts the default unit where a number has none", () => {
     }
     assert.equal(tryParse("18446744073710", { defaultUnit: "ms" }).fault.code, "OVERFLOW");
     assert.equal(parse("1分 500", { cnUnit: true, defaultUnit: "ms" }), 60_500);
-    assert.equal(parse("1s", { requireUnit: true, defaultUnit: "s" }), 1000);
+    assert.equal(parse("1s", { requireUnit: true, defaultUnit: undefined }), 1000);
+    assert.equal(tryParse("1s+500ms", { defaultUnit: "ms" }).fault.index, 2);
+});
+
+test("reads numbers if a default unit is named", () => {
+    const rows = [
+        [1500, "ms", 1_500_000_000n],
+        [1500, "s", 1_500_000_000_000n],
+        [1500n, "ms", 1_500_000_000n],
+        [0, "y", 0n],
+        [-0, "y", 0n],
+        [2 ** 53 - 1, "ns", 9_007_199_254_740_991n],
+        [LARGEST, "ns", LARGEST],
+        [1e3, "us", 1_000_000n],
+    ];
+    for (const [number, defaultUnit, nanos] of rows) {
+        const options = { defaultUnit, requireUnit: false, lowercase: true };
+        assert.equal(parseNs(number, options), nanos);
+        assert.equal(tryParseNs(number, { defaultUnit }).value, nanos);
+        assert.equal(parse(number, options), parse(`${nanos}ns`));
+        assert.equal(tryParse(number, options).value, parse(`${nanos}ns`));
+    }
+});
+
+test("reads the numbers of the vectors", () => {
+    for (const [defaultUnit, number, secs, nanos] of VECTORS.numbers) {
+        const wanted = BigInt(secs) * 1_000_000_000n + BigInt(nanos);
+        for (const value of [number, BigInt(number), String(number)]) {
+            assert.equal(parseNs(value, { defaultUnit }), wanted);
+        }
+    }
+    for (const [defaultUnit, number] of VECTORS.refused_numbers) {
+        const { fault } = tryParse(number, { defaultUnit });
+        assert.ok(fault);
+        assert.deepEqual(fault, tryParse(String(number), { defaultUnit }).fault);
+    }
+});
+
+test("refuses a number as its text, or says why it is no whole number", () => {
+    const options = { defaultUnit: "ms" };
+    const refused = [1.5, -1, -1n, 1e-7, 18_446_744_073_710, 10n ** 20n, 10n ** 1000n];
+    for (const number of refused) {
+        const text = String(number);
+        const { fault } = tryParse(number, options);
+        assert.deepEqual(fault, tryParse(text, options).fault);
+        assert.deepEqual([fault.text, fault.report], [text, tryParse(text, options).fault.report]);
+        assert.throws(() => parseNs(number, options), { name: "DurationError", code: fault.code });
+    }
+    // From 2^53 on a number can have lost digits.
+    for (const number of [NaN, Infinity, -Infinity, 2 ** 53, -(2 ** 53), 1e21, Number.MAX_VALUE]) {
+        const error = new RangeError(`a number must be below 2^53, or a bigint, not ${number}`);
+        for (const call of [parse, parseNs, tryParse, tryParseNs]) {
+            assert.throws(() => call(number, options), error);
+        }
+    }
+    for (const value of [true, null, [1], new Number(1), undefined, {}]) {
+        const error = { name: "TypeError", message: /^a duration's text must be a string, not / };
+        assert.throws(() => parse(value, options), error);
+    }
 });
 
 test("refuses a default unit that there is not, or beside a required one", () => {
@@ -117,6 +176,7 @@ test("refuses a default unit that there is not, or beside a required one", () =>
         ]),
         [{ requireUnit: true, defaultUnit: "ms" }, new RangeError(message)],
         [{ defaultUnit: "y", requireUnit: true }, new RangeError(message)],
+        [{ requireUnit: true, defaultUnit: "s" }, new RangeError(message)],
         [{ defaultUnit: 5 }, new TypeError("the option defaultUnit must be a string, not number")],
         [{ defaultUnit: null }, new TypeError("the option defaultUnit must be a string, not null")],
         [
@@ -158,8 +218,8 @@ test("refuses what is no string", () => {
     const rows = [
         [undefined, "undefined"],
         [null, "null"],
-        [1, "number"],
-        [1n, "bigint"],
+        [1, "number: to read numbers, name their unit, as by { defaultUnit: 'ms' }"],
+        [1n, "bigint: to read numbers, name their unit, as by { defaultUnit: 'ms' }"],
         [Symbol("1s"), "symbol"],
         [["1s"], "array"],
         [new String("1s"), "object"],

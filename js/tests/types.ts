@@ -2,12 +2,22 @@
 // that expects an error.
 import {
     DurationError, type Expected, type Fault, formatNs, format, type Options, parseNs, parse, type Parts, parts,
-    type Refusal, tryParseNs, tryParse, version,
+    type Refusal, tryParseNs, tryParse, type Unit, version,
 } from "duration-str";
 
 const options: Options = { noCalc: true, lowercase: false, cnUnit: undefined, requireUnit: true };
 const inMilliseconds: Options = { defaultUnit: "ms" };
 const nanoseconds: bigint = parseNs("2h 37m", options);
+const configured: number | string = 1500;
+const timeouts: (number | bigint | undefined)[] = [
+    parse(1500, { defaultUnit: "ms" }), parse(1500n, { defaultUnit: "s", noCalc: true }),
+    parseNs(configured, { defaultUnit: "ms", requireUnit: false }),
+    tryParse(1500, { defaultUnit: "ms" }).value, tryParseNs(1500, { defaultUnit: "ms" }).value,
+];
+/** Options of which some may be left out */
+function chosen(unit: Unit | undefined, isRequired: boolean | undefined): Options[] {
+    return [{ defaultUnit: unit }, { requireUnit: isRequired }, { noCalc: isRequired }];
+}
 const milliseconds: number = parse("1m 30s", {});
 const texts: string[] = [
     formatNs(nanoseconds),
@@ -42,8 +52,18 @@ try {
     void [places, any, told, index];
 }
 
-// @ts-expect-error: no string
+// @ts-expect-error: no string, and no unit of numbers is named
 parseNs(1);
+// @ts-expect-error: no unit of numbers is named
+parse(1500, { noCalc: true });
+// @ts-expect-error: the unit of numbers may be left out
+parse(1500, inMilliseconds);
+// @ts-expect-error: a unit can't be required and left out
+parse("1500", { requireUnit: true, defaultUnit: "ms" });
+// @ts-expect-error: a unit can't be required and left out, even if it is the second
+tryParseNs("1500", { requireUnit: true, defaultUnit: "s" });
+// @ts-expect-error: a unit can't be required and left out
+const contradictory: Options = { defaultUnit: "h", requireUnit: true };
 // @ts-expect-error: no option
 parseNs("1s", { no_calc: true });
 // @ts-expect-error: no boolean
@@ -81,4 +101,4 @@ const fault: Fault | undefined = result.fault;
 const lines: string[] = [result.fault?.message ?? "", version];
 const inMs: number | undefined = tryParse("1s").value;
 
-void [inMilliseconds, hours, wrong, read, fault, lines, inMs];
+void [inMilliseconds, timeouts, chosen, contradictory, hours, wrong, read, fault, lines, inMs];

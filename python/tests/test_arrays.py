@@ -4,6 +4,7 @@ says so.
 
 import datetime
 import decimal
+import re
 import subprocess
 import sys
 import unittest
@@ -139,6 +140,73 @@ class Reading(unittest.TestCase):
         coerced = to_timedelta(["2*3"], default_unit="ms", errors="coerce")
         self.assertEqual(numbers(coerced), [None])
 
+    def test_reads_numbers_in_a_unit_that_is_named(self):
+        read = [1_500_000_000, 2_000_000]
+        for kind in ["int16", "int64", "uint64", "float64", "object", "Int64", "category"]:
+            column = pandas.Series([1500, 2], dtype=kind, name="wait", index=[7, 8])
+            with self.subTest(kind=kind):
+                result = to_timedelta(column, default_unit="ms")
+                self.assertEqual(numbers(result), read)
+                self.assertEqual((result.name, [*result.index]), ("wait", [7, 8]))
+                self.assertEqual(parse_many(column, default_unit="ms").tolist(), read)
+                # With no unit named, numbers are refused.
+                coerced = to_timedelta(column, errors="coerce")
+                self.assertEqual(numbers(coerced), [None, None])
+                with self.assertRaisesRegex(TypeError, "^at index 0: .*default_unit='ms'$"):
+                    to_timedelta(column)
+        # pandas makes floats of integers with gaps.
+        gaps = pandas.Series([1500, None, 2])
+        self.assertEqual(gaps.dtype, numpy.float64)
+        self.assertEqual(numbers(to_timedelta(gaps, default_unit="ms")), [read[0], None, read[1]])
+        self.assertEqual(numbers(to_timedelta(numpy.array([[1500, 2]]), default_unit="ms")), read)
+        masked = numpy.ma.array([1500, 2], mask=[True, False])
+        self.assertEqual(numbers(to_timedelta(masked, default_unit="ms")), [None, read[1]])
+        self.assertEqual(to_timedelta(1500, default_unit="ms"), pandas.Timedelta(1.5, "s"))
+        self.assertEqual(to_timedelta(numpy.uint8(9), default_unit="s"), pandas.Timedelta(9, "s"))
+        mixed = [7, "8", datetime.timedelta(1), numpy.timedelta64(5, "ms"), numpy.int64(1), None]
+        wanted = [7 * SECOND, 8 * SECOND, 86_400 * SECOND, 5_000_000, SECOND, None]
+        self.assertEqual(numbers(to_timedelta(mixed, default_unit="s")), wanted)
+        self.assertEqual(
+            numbers(to_timedelta(["1", 10**5_000], default_unit="s", errors="coerce")),
+            [SECOND, None],
+        )
+
+    def test_refuses_numbers_as_their_texts(self):
+        for value in [1.5, -1, 2**63, 1e300, float("inf")]:
+            column = pandas.Series(["1", value])
+            with self.assertRaises(DurationError) as raised:
+                to_timedelta(column, default_unit="ns")
+            text = str(value)
+            self.assertEqual((raised.exception.index, raised.exception.text), (1, text))
+            with self.assertRaisesRegex(ValueError, f"^{re.escape(str(raised.exception))}$"):
+                to_timedelta(["1", text], default_unit="ns")
+            coerced = to_timedelta(column, default_unit="ns", errors="coerce")
+            self.assertEqual(numbers(coerced), [1, None])
+
+    def test_takes_no_other_numbers(self):
+        day = ["2026-11-27"]
+        for column in [
+            numpy.array(day, dtype="datetime64[ns]"),
+            pandas.Series(day, dtype="datetime64[ns]"),
+            numpy.array([1.0], dtype="float32"),
+            numpy.array([True]),
+            [numpy.True_],
+        ]:
+            for call in (to_timedelta, parse_many):
+                with self.subTest(column=column, call=call):
+                    with self.assertRaisesRegex(TypeError, "str or a whole number, not [a-zT]"):
+                        call(column, default_unit="ms")
+            coerced = to_timedelta(column, default_unit="ms", errors="coerce")
+            self.assertEqual(numbers(coerced), [None])
+        lengths = numpy.array([5], dtype="timedelta64[ns]")
+        self.assertEqual(numbers(to_timedelta(lengths, default_unit="ms")), [5])
+        with self.assertRaisesRegex(TypeError, "str or a whole number, not timedelta64$"):
+            parse_many(lengths, default_unit="ms")
+        masked = numpy.ma.array([1, 2], mask=True, dtype="float32")
+        self.assertEqual(numbers(to_timedelta(masked, default_unit="ms")), [None, None])
+        with self.assertRaisesRegex(TypeError, "not int64: .*default_unit='ms'$"):
+            to_timedelta([numpy.int64(1)])
+
     def test_refuses_what_timedelta64_lacks(self):
         most = 2**63 - 1
         self.assertEqual(numbers(to_timedelta([f"{most}ns"])), [most])
@@ -260,7 +328,9 @@ class Reading(unittest.TestCase):
             with self.assertRaises(TypeError):
                 to_timedelta(column)
         for value in [5, 1.5]:
-            with self.assertRaisesRegex(TypeError, "must be a str, not (int|float)$"):
+            with self.assertRaisesRegex(
+                TypeError, "must be a str, not (int|float): .*default_unit"
+            ):
                 to_timedelta(value)
             self.assertTrue(pandas.isna(to_timedelta(value, errors="coerce")))
 

@@ -127,6 +127,26 @@ class Columns(unittest.TestCase):
         buffers = buffers_of([b"1500", b"2s"])
         self.assertEqual(parse_buffers(*buffers, default_unit="ms"), nanos[:2])
 
+    def test_reads_numbers_in_a_unit_that_is_named(self):
+        values = [1500, "1500", 1500.0, 0, 1.5, -1, None, True, 10**5_000, "1s"]
+        nanos, refused = parse_many(values, default_unit="ms", errors="coerce")
+        read = 1_500_000_000
+        self.assertEqual(nanos.tolist(), [read, read, read, 0, 0, 0, 0, 0, 0, SECOND])
+        self.assertEqual(refused.tolist(), [4, 5, 6, 7, 8])
+        self.assertEqual(list(parse_many(range(3), default_unit="s")), [0, SECOND, 2 * SECOND])
+        for value in [-1, 1.5, 2**64]:
+            error = error_of(parse_many, ["1", value], default_unit="ms")
+            self.assertEqual((error.index, error.text), (1, str(value)))
+            text = error_of(parse_many, ["1", str(value)], default_unit="ms")
+            self.assertEqual(str(error), str(text))
+        for value in [None, True, b"1", float("nan")]:
+            with self.assertRaisesRegex(TypeError, "^at index 1: .* str or a whole number, not "):
+                parse_many(["x", value], default_unit="ms")
+        with self.assertRaisesRegex(ValueError, "4300 digits"):
+            parse_many([1, 10**5_000], default_unit="ms")
+        data = array("Q", [1, 2**64 - 1])
+        self.assertEqual(parse_many(data, default_unit="ns"), data)
+
     def test_refuses_lone_surrogates(self):
         texts = ["1s", "\ud800", "1\udc00s", "\ud83d\ude00", "1µs"]
         wanted = (array("Q", [SECOND, 0, 0, 0, 1000]), array("Q", [1, 2, 3]))
@@ -143,8 +163,9 @@ class Columns(unittest.TestCase):
         for value in [None, float("nan"), b"1s", 1, ["1s"], Pretender()]:
             with self.subTest(value=value):
                 for before in [[], ["1s", "x"]]:
-                    line = f"^at index {len(before)}: .* must be a str, not {type(value).__name__}$"
-                    self.assertRaisesRegex(TypeError, line, parse_many, [*before, value])
+                    line = f"^at index {len(before)}: .* must be a str, not {type(value).__name__}"
+                    end = ": to read numbers, .*default_unit='ms'$" if value == 1 else "$"
+                    self.assertRaisesRegex(TypeError, line + end, parse_many, [*before, value])
                 answer = parse_many(["1s", value, "2s"], errors="coerce")
                 self.assertEqual(answer, (array("Q", [SECOND, 0, 2 * SECOND]), array("Q", [1])))
 
@@ -215,7 +236,7 @@ class Buffers(unittest.TestCase):
         before = signal.signal(signal.SIGVTALRM, interrupt)
         try:
             for call, arguments in [
-                (_native.read_list, (texts, nanos, 0, True, 0, None)),
+                (_native.read_list, (texts, nanos, (0, False), True, 0, None)),
                 (_native.format_list, ([SECOND] * count, None, printed, limits)),
             ]:
                 with self.assertRaises(KeyboardInterrupt):

@@ -52,7 +52,12 @@ class Lines(unittest.TestCase):
         field = duration_str.DurationField
         self.assertEqual(field(default_unit="ms"), field(default_unit="ms"))
         self.assertEqual(len({field(), field(), field(default_unit="ms")}), 2)
-        self.assertNotEqual(duration_str.Duration, duration_str.DurationWithUnits)
+        # With the second named, numbers are read too.
+        self.assertNotEqual(field(), field(default_unit="s"))
+        for made in [field(), field(default_unit="s")]:
+            self.assertEqual(pickle.loads(pickle.dumps(made)), made)
+            self.assertEqual(eval(repr(made), {"duration_str": duration_str}), made)
+        self.assertNotEqual(duration_str.Duration, duration_str.DurationRequireUnit)
         self.assertIn("default_unit='ms'", repr(field(default_unit="ms")))
 
     def test_argparse(self):
@@ -104,12 +109,15 @@ class Lines(unittest.TestCase):
 
     @unittest.skipUnless(has("click"), "Click is missing")
     def test_click_keeps_timedeltas(self):
-        from duration_str.click import DURATION
+        from duration_str.click import DURATION, DurationParamType
 
         self.assertEqual(DURATION.convert(MINUTE, None, None), MINUTE)
         self.assertEqual(DURATION("1m"), MINUTE)
         with self.assertRaises(duration_str.DurationTypeError):
             DURATION.convert(60, None, None)
+        # A default in a program need not be a text.
+        milliseconds = DurationParamType(default_unit="ms")
+        self.assertEqual(milliseconds.convert(60_000, None, None), MINUTE)
 
 
 @unittest.skipUnless(has("dask") and has("pandas"), "Dask or pandas is missing")
@@ -141,12 +149,12 @@ class Models(unittest.TestCase):
         self.assertEqual(self.model.model_validate_json('{"timeout": "1m"}').timeout, MINUTE)
 
     def test_requires_units(self):
-        adapter = self.pydantic.TypeAdapter(duration_str.DurationWithUnits)
+        adapter = self.pydantic.TypeAdapter(duration_str.DurationRequireUnit)
         self.assertEqual(adapter.validate_python("1h 30m"), 1.5 * HOUR)
         self.assertEqual(adapter.dump_json(adapter.validate_python(MINUTE)), b'"1min"')
         self.assertEqual(
-            pickle.loads(pickle.dumps(duration_str.DurationWithUnits)),
-            duration_str.DurationWithUnits,
+            pickle.loads(pickle.dumps(duration_str.DurationRequireUnit)),
+            duration_str.DurationRequireUnit,
         )
         for text, line in [
             ("90", "expected a unit at column 3, found the end"),
@@ -165,6 +173,23 @@ class Models(unittest.TestCase):
         self.assertEqual(adapter.dump_json(adapter.validate_python("1h 500")), b'"1h 500ms"')
         with self.assertRaisesRegex(self.pydantic.ValidationError, r"at column 4, found \"\*\""):
             adapter.validate_python("90s*2")
+        self.assertEqual(adapter.validate_python(60_000), MINUTE)
+        self.assertEqual(adapter.validate_json("6e4"), MINUTE)
+        for value, line in [
+            ("1.5", r'found "\."'),
+            ("-1", "negative durations are not read"),
+            ("99999999999999999999", "number of 2\\^64 or more"),
+            ("true", r"valid string or integer \[type=duration_type"),
+            ("[1]", r"valid string or integer \[type=duration_type"),
+        ]:
+            with self.assertRaisesRegex(self.pydantic.ValidationError, line):
+                adapter.validate_json(value)
+        kinds = {"anyOf": [{"type": "integer"}, {"type": "string"}]}
+        self.assertEqual(adapter.json_schema(), kinds)
+        self.assertEqual(adapter.json_schema(mode="serialization"), {"type": "string"})
+        for plain in [duration_str.Duration, duration_str.DurationRequireUnit]:
+            with self.assertRaisesRegex(self.pydantic.ValidationError, "type=string_type"):
+                self.pydantic.TypeAdapter(plain).validate_python(60)
         for option, text in [("no_calc", "1m+1"), ("lowercase", "1M"), ("require_unit", "90")]:
             field = duration_str.DurationField(**{option: True})
             adapter = self.pydantic.TypeAdapter(typing.Annotated[datetime.timedelta, field])

@@ -229,12 +229,14 @@ class Hostile(unittest.TestCase):
                 change(values)
                 return 7
 
-            self.assertEqual(duration_str._native.read_list(values, nanos, 0, True, 0, keep), [])
+            self.assertEqual(
+                duration_str._native.read_list(values, nanos, (0, False), True, 0, keep), []
+            )
             self.assertEqual(nanos.tolist(), [SECOND, 7, 0])
         for kept in ["1", 2**63, None]:
             with self.assertRaises((OverflowError, TypeError)):
                 duration_str._native.read_list(
-                    [Odd()], array("Q", [0]), 0, True, 0, lambda value, index: kept
+                    [Odd()], array("Q", [0]), (0, False), True, 0, lambda value, index: kept
                 )
 
     def test_reads_what_threads_overwrite(self):
@@ -325,10 +327,12 @@ class Hostile(unittest.TestCase):
                         pass
             for _ in range(rounds // 100):
                 parse_many(["1s", "x", None, "\ud800"] * 200, errors="coerce")
+                mixed = ["1s", 1_500, 1.5, 2e3, None, True, 10**5_000, -1_000]
+                parse_many(mixed * 20, errors="coerce", default_unit="ms")
                 parse_buffers(column, offsets)
                 missing = [b"x" * 10_000, b"y" * 10_000]
                 duration_str._native.read_list(
-                    missing, array("Q", [0, 0]), 0, True, 0, lambda *_: -(2**63)
+                    missing, array("Q", [0, 0]), (0, False), True, 0, lambda *_: -(2**63)
                 )
                 # The numbers are above 256, since Python keeps each smaller int for ever.
                 numbers = [*range(1_000, 1_200), *[None] * 200, "x"]

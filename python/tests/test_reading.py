@@ -2,6 +2,9 @@
 
 import concurrent.futures
 import datetime
+import decimal
+import enum
+import fractions
 import itertools
 import random
 import typing
@@ -21,7 +24,24 @@ from duration_str import (
     parse_seconds,
     to_timedelta,
 )
-from tests.vectors import CHOICES, values_under, words_of
+from tests.vectors import CHOICES, VECTORS, error_of, values_under, words_of
+
+
+class Whole(enum.IntEnum):
+    """An int that prints as its name."""
+
+    FEW = 1
+    MANY = 1_500
+
+    def __str__(self):
+        return self.name
+
+
+class Place:
+    """No number, although it has the place of an item in a list."""
+
+    def __index__(self):
+        return 1
 
 
 def value_of(text, options):
@@ -62,9 +82,78 @@ class Reading(unittest.TestCase):
         # A factor would count milliseconds too.
         with self.assertRaisesRegex(DurationError, r"at column 4, found \"\*\"$"):
             parse_ns("90s*2", default_unit="ms")
+        with self.assertRaisesRegex(DurationError, r"at column 3, found \"\+\"$"):
+            parse_ns("1s+500ms", default_unit="ms")
+        # For a text, naming the second is the same as naming nothing.
         self.assertEqual(parse_ns("90s*2", default_unit="s"), 180 * 10**9)
+        self.assertEqual(parse_ns("1s+500ms", default_unit="second"), 1_500_000_000)
         with self.assertRaises(DurationError):
             parse_ns("90s*2", default_unit="s", no_calc=True)
+
+    def test_reads_numbers_in_a_unit_that_is_named(self):
+        for name in typing.get_args(Unit):
+            self.assertEqual(parse_ns(3, default_unit=name), parse_ns(f"3{name}"))
+        half = datetime.timedelta(seconds=1.5)
+        for number in [1500, 1500.0, "1500", Whole.MANY]:
+            self.assertEqual(parse(number, default_unit="ms"), half)
+            self.assertEqual(parse_seconds(number, default_unit="ms", no_calc=True), 1.5)
+        for number in [0, -0.0]:
+            self.assertEqual(parse_ns(number, default_unit="s"), 0)
+        self.assertEqual(parse_ns(2**64 - 1, default_unit="ns"), 2**64 - 1)
+        self.assertEqual(parse_ns(2.0**53 - 1, default_unit="ns"), 2**53 - 1)
+        # A float from 2**53 on can have lost digits.
+        for number in [
+            -1,
+            -1.0,
+            2**64,
+            1.5,
+            0.1,
+            1e-07,
+            2.0**53,
+            1e22,
+            float("inf"),
+            10**4_000,
+        ]:
+            texts = [str(number), str(number).removesuffix(".0")]
+            for unit in ["ns", "s", "y"]:
+                with self.subTest(number=number, unit=unit):
+                    with self.assertRaises(DurationError) as by_number:
+                        parse_ns(number, default_unit=unit)
+                    error = by_number.exception
+                    self.assertIn(error.text, texts)
+                    with self.assertRaises(DurationError) as by_text:
+                        parse_ns(error.text, default_unit=unit)
+                    self.assertEqual(vars(error), vars(by_text.exception))
+                    self.assertEqual(str(error), str(by_text.exception))
+        with self.assertRaisesRegex(ValueError, "4300 digits"):
+            parse_ns(10**5_000, default_unit="ms")
+        others = [True, None, float("nan"), b"1", [1], datetime.timedelta(1), decimal.Decimal(1)]
+        for value in [*others, fractions.Fraction(1), Place()]:
+            with self.assertRaisesRegex(DurationTypeError, "must be a str or a whole number, not "):
+                parse(value, default_unit="ms")
+
+    def test_reads_the_numbers_of_the_vectors(self):
+        for unit, number, secs, nanos in VECTORS["numbers"]:
+            for value in [number, float(number), str(number)]:
+                self.assertEqual(parse_ns(value, default_unit=unit), secs * 10**9 + nanos)
+                self.assertEqual(
+                    parse_many([value], default_unit=unit).tolist(), [secs * 10**9 + nanos]
+                )
+        for unit, number in VECTORS["refused_numbers"]:
+            errors = [error_of(parse_ns, each, default_unit=unit) for each in (number, str(number))]
+            self.assertEqual(*map(str, errors))
+            self.assertEqual(parse_many([number], errors="coerce", default_unit=unit)[1][0], 0)
+
+    def test_says_how_numbers_are_read(self):
+        for value in [1, 1.5, Whole.FEW]:
+            for words in ({}, {"require_unit": True}, {"no_calc": True}):
+                with self.assertRaisesRegex(
+                    DurationTypeError, "^a duration's .*default_unit='ms'$"
+                ):
+                    parse_ns(value, **words)
+        for value in [True, None, b"1", float("nan")]:
+            with self.assertRaisesRegex(DurationTypeError, "must be a str, not [A-Za-z]*$"):
+                parse_ns(value)
 
     def test_wants_one_default_unit(self):
         names = "one of y, q, mon, w, d, h, min, s, ms, µs or us, ns, not "
@@ -75,7 +164,8 @@ class Reading(unittest.TestCase):
         rows += [({"default_unit": unit}, TypeError, names) for unit in (None, 8, b"s")]
         for others in ({}, {"lowercase": True}):
             both = {"require_unit": True, "default_unit": "ms", **others}
-            rows += [(both, ValueError, "^default_unit must be 's' if require_unit is on$")]
+            rows += [(both, ValueError, "^default_unit can't be named if require_unit is on$")]
+        rows += [({"require_unit": True, "default_unit": "s"}, ValueError, "can't be named")]
         calls = [lambda **words: parse("1s", **words), lambda **words: parse_ns("1s", **words)]
         calls += [lambda **words: parse_seconds("1s", **words), duration_str.DurationField]
         calls += [duration_str.argparse.DurationType]
@@ -92,7 +182,6 @@ class Reading(unittest.TestCase):
                 with self.assertRaisesRegex(error, told) as raised:
                     call(**words)
                 self.assertNotIsInstance(raised.exception, DurationError)
-        self.assertEqual(parse_ns("1s", require_unit=True, default_unit="s"), 10**9)
         self.assertEqual(parse_ns("1s", require_unit=False, default_unit="ms"), 10**9)
 
     def test_rounds_seconds_to_the_nearest_float(self):

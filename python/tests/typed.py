@@ -35,7 +35,13 @@ assert_type(duration_str.format(5, largest=unit, style=style), str)
 assert_type(duration_str.format(5, units=["years", "d"]), str)
 assert_type(duration_str.parse("1500", default_unit="ms"), datetime.timedelta)
 assert_type(duration_str.parse_many(["1500"], default_unit="ms"), "array[int]")
-duration_str.parse("1500", default_unit="mins")  # type: ignore[arg-type]
+assert_type(duration_str.parse(1500, default_unit="ms"), datetime.timedelta)
+assert_type(duration_str.parse_ns(numpy.int64(1500), default_unit="s"), int)
+assert_type(duration_str.parse_many([1500, "2h"], default_unit="ms"), "array[int]")
+duration_str.parse("1500", default_unit="mins")  # type: ignore[call-overload]
+duration_str.parse(1500)  # type: ignore[call-overload]
+duration_str.parse_many([1500])  # type: ignore[list-item]
+duration_str.parse("1500", default_unit="ms", require_unit=True)  # type: ignore[call-overload]
 duration_str.format(5, units=["mins"])  # type: ignore[list-item]
 duration_str.format(5, units=5)  # type: ignore[arg-type]
 duration_str.format(5, largest="mins")  # type: ignore[arg-type]

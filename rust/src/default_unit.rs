@@ -10,7 +10,7 @@ use duration_str_core::{self as proved, Options, TimeUnit};
 ///
 /// A factor without a unit counts the default unit too. So if your program's numbers are
 /// milliseconds, operators make no sense: turn on `no_calc`, or call [`parse_in`], which turns it
-/// on.
+/// on for every default unit except the second.
 ///
 /// # Errors
 ///
@@ -44,9 +44,11 @@ pub fn parse_with_default_unit(
 }
 
 /// Reads a text as [`parse_duration`](crate::parse_duration) does, except that a number without a
-/// unit counts this unit, and that `+` and `*` are not read.
+/// unit counts this unit, and that `+` and `*` are not read. If the unit is the second, it is the
+/// same call as `parse_duration`.
 ///
 /// This is for texts that used to be plain numbers, such as milliseconds in a configuration file.
+/// For fields that serde reads, the module `human_or_millis` also reads numbers that are not texts.
 ///
 /// # Errors
 ///
@@ -61,32 +63,42 @@ pub fn parse_with_default_unit(
 /// assert_eq!(timeout("2h")?, Duration::from_secs(7_200));
 /// let refusal = timeout("90s*2").unwrap_err();
 /// assert!(refusal.to_string().ends_with(r#"at column 4, found "*""#));
+/// assert_eq!(parse_in("90s*2", TimeUnit::Second)?, Duration::from_secs(180));
 /// # Ok::<(), DurationError>(())
 /// ```
 pub fn parse_in(input: &str, default_unit: TimeUnit) -> Result<Duration, DurationError> {
-    parse_with_default_unit(input, ADDITIONS.with_no_calc(), Some(default_unit))
+    parse_with_default_unit(input, naming(default_unit), Some(default_unit))
         .map_err(Fault::into_owned)
+}
+
+/// The options under which texts are read in a default unit that is named. With any other unit than
+/// the second `+` and `*` are not read.
+pub(crate) fn naming(default_unit: TimeUnit) -> Options {
+    Options {
+        no_calc: default_unit != TimeUnit::Second,
+        ..ADDITIONS
+    }
 }
 
 /// Reads a text as [`parse_duration`](crate::parse_duration) does, but refuses a number without a
 /// unit.
 ///
 /// Most other calls read `90` and `1h 30` as seconds, which may not be what was meant. In clap,
-/// write `value_parser = duration_str::parse_with_units`. For serde, use the module
-/// `human_with_units`.
+/// write `value_parser = duration_str::parse_require_unit`. For serde, use the module
+/// `human_require_unit`.
 ///
 /// # Errors
 ///
 /// Returns why the text is refused, with a copy of the text.
 ///
 /// ```
-/// use duration_str::{DurationError, parse_with_units};
+/// use duration_str::{DurationError, parse_require_unit};
 ///
-/// assert_eq!(parse_with_units("1h 30m")?.as_secs(), 5_400);
-/// let refusal = parse_with_units("1h 30").unwrap_err();
+/// assert_eq!(parse_require_unit("1h 30m")?.as_secs(), 5_400);
+/// let refusal = parse_require_unit("1h 30").unwrap_err();
 /// assert_eq!(refusal.to_string(), "expected a unit at column 6, found the end");
 /// # Ok::<(), DurationError>(())
 /// ```
-pub fn parse_with_units(input: &str) -> Result<Duration, DurationError> {
+pub fn parse_require_unit(input: &str) -> Result<Duration, DurationError> {
     parse_with_default_unit(input, ADDITIONS, None).map_err(Fault::into_owned)
 }

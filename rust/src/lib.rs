@@ -16,7 +16,7 @@
 //!
 //! - Use [`parse_duration`] for most texts. Its [`DurationError`] owns the text, so it can go
 //!   through `?`, threads and chains of errors.
-//! - Use [`parse_with_units`] to refuse `90` and `1h 30`, which most calls read as seconds.
+//! - Use [`parse_require_unit`] to refuse `90` and `1h 30`, which most calls read as seconds.
 //! - Use [`parse_in`] if your program's numbers count another unit, such as milliseconds.
 //! - Use [`parse_with`] to set options, or if nothing may be allocated. Its [`Fault`] borrows the
 //!   text. [`parse_with_default_unit`] also takes the default unit, or `None` to require units.
@@ -40,9 +40,9 @@
 //!
 //! # Configuration files
 //!
-//! The module `human` is for fields that serde writes and reads as text. `human_with_units` refuses
-//! a number without a unit, such as `"90"`. `human_or_seconds` also reads a number of seconds, such
-//! as `timeout = 30`. For `human_or_millis` numbers are milliseconds.
+//! The module `human` is for fields that serde writes and reads as text. `human_require_unit`
+//! refuses a number without a unit, such as `"90"`. `human_or_seconds` also reads a number of
+//! seconds, such as `timeout = 30`. For `human_or_millis` numbers are milliseconds.
 //!
 #![cfg_attr(feature = "serde", doc = "```")]
 #![cfg_attr(not(feature = "serde"), doc = "```ignore")]
@@ -65,8 +65,9 @@
 //! # Command lines
 //!
 //! For clap, use [`HumanDuration`] as the field's type, or a `Duration` with [`parse_duration`] as
-//! its `value_parser`. To refuse a number without a unit, take [`parse_with_units`] instead. If you
-//! set `allow_hyphen_values`, `-5m` is refused as a negative duration, and not taken for an option.
+//! its `value_parser`. To refuse a number without a unit, take [`parse_require_unit`] instead. If
+//! you set `allow_hyphen_values`, `-5m` is refused as a negative duration, and not taken for an
+//! option.
 //!
 //! ```text
 //! /// How long a request may take
@@ -206,7 +207,7 @@ pub use dates::{
     after_naive_date, after_naive_date_time, before_naive_date, before_naive_date_time,
     moment_after, moment_before,
 };
-pub use default_unit::{parse_in, parse_with_default_unit, parse_with_units};
+pub use default_unit::{parse_in, parse_require_unit, parse_with_default_unit};
 pub use derror::{DError, DResult};
 #[doc(inline)]
 pub use duration_str_core::{
@@ -229,7 +230,7 @@ pub use self::serde::original::{deserialize_duration_time, deserialize_option_du
 #[cfg(feature = "serde")]
 #[doc(inline)]
 pub use self::serde::{
-    human, human_or_millis, human_or_seconds, human_with_units, humantime_serde,
+    human, human_or_millis, human_or_seconds, human_require_unit, humantime_serde,
 };
 #[doc(hidden)]
 pub use duration_str_core::{MAX_LONG_LEN, MAX_PRINTED_LEN, UNITS};

@@ -38,7 +38,8 @@ pub struct Choices {
     #[arg(long, value_name = "WAY", default_value = "down", requires = "to",
         conflicts_with_all = SHAPES)]
     pub round: Round,
-    /// Read a bare number, such as 12.5 or 1e-05, in this unit; other texts need their units
+    /// Read a number without a unit in this unit; alone it may be 12.5 or 1e-05. Unless the unit is
+    /// s, + and * are not read
     #[arg(long, value_name = "UNIT", value_parser = unit)]
     pub from: Option<TimeUnit>,
     /// Print 1h 30min (short), 1h30min (compact) or 1 hour 30 minutes (long)
@@ -85,7 +86,7 @@ pub struct Choices {
     #[arg(long)]
     pub cn_unit: bool,
     /// Refuse a number without a unit, which otherwise counts seconds
-    #[arg(long)]
+    #[arg(long, conflicts_with = "from")]
     pub require_unit: bool,
     /// Print the completions for a shell
     #[arg(long, value_name = "SHELL", exclusive = true, value_parser =

@@ -47,8 +47,9 @@ impl From<Fault<'_>> for Refusal {
     }
 }
 
-/// Reads a text. With --from, a text that is only a number counts that unit, and in all other texts
-/// each number must have its unit.
+/// Reads a text. A number without a unit counts the unit of --from. Without --from it counts
+/// seconds. With any other unit than the second `+` and `*` are not read. With --from, a text that
+/// is only a number may have a fraction and an exponent.
 pub fn read<'a>(bytes: &'a [u8], choices: &Choices) -> Result<(&'a str, u64), Refusal> {
     let text = std::str::from_utf8(bytes).map_err(|_| Refusal::new("not UTF-8"))?;
     if let Some((number, nanos)) = choices
@@ -63,13 +64,13 @@ pub fn read<'a>(bytes: &'a [u8], choices: &Choices) -> Result<(&'a str, u64), Re
         };
         return Ok((text, u64::try_from(nanos).map_err(too_large)?));
     }
+    let unit = choices.from.unwrap_or(TimeUnit::Second);
     let options = Options {
+        no_calc: unit != TimeUnit::Second,
         lowercase: choices.lowercase,
         cn_unit: choices.cn_unit,
-        ..Options::off()
     };
-    let is_unit_required = choices.require_unit || choices.from.is_some();
-    let default_unit = (!is_unit_required).then_some(TimeUnit::Second);
+    let default_unit = (!choices.require_unit).then_some(unit);
     let duration = parse_with_default_unit(text, options, default_unit)?;
     Ok((text, duration.as_nanos() as u64))
 }

@@ -1,5 +1,5 @@
 //! Tests the program by running it. Its lines about refused texts are compared with the library's.
-use duration_str::{parse_duration, parse_with_units};
+use duration_str::{TimeUnit, parse_duration, parse_in};
 use serde_json::{Value, json};
 use std::ffi::OsStr;
 use std::fs::File;
@@ -186,11 +186,35 @@ fn requires_units() {
         }
     }
     assert_eq!(answer(&["--require-unit", "--cn-unit", "1分"]), "1min\n");
-    let errors = "duration: argument 1: expected a unit at column 4, found \"-\"\n";
-    assert_eq!(
-        run(&["--from", "s", "90 -"], b""),
-        (1, "".into(), errors.into())
-    );
+}
+
+/// `--from` names the default unit. Naming the second is the same as naming nothing. With any
+/// other unit `+` and `*` are not read.
+#[test]
+fn reads_all_texts_in_the_unit_of_from() {
+    for (words, wanted) in [
+        (["ms", "1s 500"], "1s 500ms\n"),
+        (["min", "1h 30"], "1h 30min\n"),
+        (["s", "1h 30"], "1h 30s\n"),
+        (["s", "1s+500ms"], "1s 500ms\n"),
+        (["seconds", "90*2"], "3min\n"),
+    ] {
+        assert_eq!(answer(&[&["--from"], &words[..]].concat()), wanted);
+    }
+    for text in ["1s+500ms", "90s*2", "1 + 2", "90 -", "1500 5", "1s 500x"] {
+        for (unit, name) in [(TimeUnit::MilliSecond, "ms"), (TimeUnit::Second, "s")] {
+            let (status, output, errors) = match parse_in(text, unit) {
+                Ok(_) => (0, format!("{}\n", answer(&[text]).trim()), "".into()),
+                Err(error) => (1, "".into(), format!("duration: argument 1: {error}\n")),
+            };
+            let wanted = (status, output, errors);
+            assert_eq!(run(&["--from", name, text], b""), wanted, "{text}");
+        }
+    }
+    let line = "expected a number or the end at column 3, found \"+\"";
+    let errors = format!("duration: argument 1: {line}\n");
+    let refused = run(&["--from", "ms", "1s+500ms"], b"");
+    assert_eq!(refused, (1, "".into(), errors));
 }
 
 #[test]
@@ -230,11 +254,11 @@ fn takes_bare_numbers_as_a_unit() {
         assert_eq!(answer(&[&["--from"], words].concat()), wanted, "{words:?}");
     }
     for text in [
-        "1h 30", "-5", "1.", ".", "1,5", "1e", "e5", "1e5.0", "1.e5", "", "+1", "\u{a0}1", "1.5.2",
+        "1h 3.5", "-5", "1.", ".", "1,5", "1e", "e5", "1e5.0", "1.e5", "", "+1", "\u{a0}1", "1.5.2",
     ] {
         let errors = format!(
             "duration: argument 1: {}\n",
-            parse_with_units(text).unwrap_err()
+            parse_duration(text).unwrap_err()
         );
         assert_eq!(
             run(&["--from", "s", "--", text], b""),
@@ -373,6 +397,7 @@ fn refuses_wrong_usage() {
         --field 1 -d ä 1h|--field 0 1h|--json --field 1 1h|--json --header|--completions elvish|--completions bash 1h|\
         --from x 1|--header 1|--header -- 1h|--round up 1h|--to s --round x 1h|\
         --decimals 2 --parts 1 1h|--round up --style long 1h|--json -d, 1h|\
+        --from ms --require-unit 1h|--require-unit --from s 90|\
         --units  1h|--units y, 1h|--units y;d 1h|--units y,年 1h|--units y,mon --largest w 1h|\
         --to s --units y 1h";
     for words in WRONG.split('|') {

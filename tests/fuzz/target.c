@@ -181,8 +181,7 @@ static void check_default_units(struct text text, const struct duration_str_answ
         struct duration_str_answer answer = read_with(text, DURATION_STR_OPTION_DEFAULT_UNIT(unit));
         count(answer);
         HOLDS(required.cause != DURATION_STR_CAUSE_READ || are_equal(answer, required));
-        HOLDS(unit != DURATION_STR_UNIT_SECOND ||
-              are_equal(answer, answers[DURATION_STR_OPTION_NO_CALC]));
+        HOLDS(unit != DURATION_STR_UNIT_SECOND || are_equal(answer, answers[0]));
     }
 }
 

@@ -407,8 +407,8 @@ def try_code(page):
     page.put("1h 30m")
     taken = {
         "rust": (
-            "use duration_str::{format_duration, parse_with_units};",
-            'parse_with_units("1h 30m")?;',
+            "use duration_str::{format_duration, parse_require_unit};",
+            'parse_require_unit("1h 30m")?;',
         ),
         "python": ('duration_str.parse("1h 30m", require_unit=True)',),
         "javascript": ('parse("1h 30m", { requireUnit: true });',),
@@ -452,9 +452,8 @@ def try_code(page):
                 any(line.endswith(end) for line in page.text_of(name).splitlines()),
             )
     page.put("1s 500")
-    page.same("no program reads a sum in a unit", None, page.text_of("shell"))
+    page.same("a sum in a unit", "duration --from ms -- '1s 500'", page.text_of("shell"))
     page.put("1s 500ms")
-    page.same("but one with units", "duration --from ms -- '1s 500ms'", page.text_of("shell"))
     page.choose("lowercase", "default_unit=µs")
     call = (
         'parse_with_default_unit("1s 500ms", Options { no_calc: true, lowercase: true, '

@@ -17,6 +17,11 @@ must be last or before an operator. Blanks may be anywhere except inside a
 number or a unit. Each number must be below 2**64. Each term, each step of the
 evaluation and the value must be below 2**64 nanoseconds.
 
+If you name a default unit, whole numbers that are not texts are read too:
+
+>>> duration_str.parse(1500, default_unit="ms")
+datetime.timedelta(seconds=1, microseconds=500000)
+
 The units:
 
   365 days     y, year, years
@@ -62,7 +67,7 @@ For other packages:
   duration_str.argparse.DURATION  a type of argparse's arguments
 
 In a model of pydantic a field may have the type `Duration`, or
-`DurationWithUnits`, which refuses a number without a unit. `DurationField`
+`DurationRequireUnit`, which refuses a number without a unit. `DurationField`
 makes such a type with other options. These types are only annotations: to make
 a value, call `parse`.
 """
@@ -72,7 +77,7 @@ from __future__ import annotations
 
 from ._arrays import format_many, to_timedelta
 from ._columns import parse_buffers, parse_many
-from ._models import Duration, DurationField, DurationWithUnits
+from ._models import Duration, DurationField, DurationRequireUnit
 from ._native import format as format
 from ._native import parse, parse_ns, parse_seconds
 from ._texts import Cause, DurationError, DurationTypeError, Expected, Style, Unit
@@ -83,7 +88,7 @@ __all__ = [
     "DurationError",
     "DurationField",
     "DurationTypeError",
-    "DurationWithUnits",
+    "DurationRequireUnit",
     "Expected",
     "Style",
     "Unit",

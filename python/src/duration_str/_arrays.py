@@ -9,8 +9,8 @@ from functools import partial
 from typing import TYPE_CHECKING, Any, overload
 
 from . import _native
-from ._columns import Errors, raises_errors, values_of, zeros
-from ._texts import DurationTypeError, Style, Unit, nanos_a_step, nanos_of
+from ._columns import Errors, keeps_types, raises_errors, values_of, zeros
+from ._texts import UNNAMED, Style, Unit, nanos_a_step, nanos_of, type_error_of
 
 if TYPE_CHECKING:
     import numpy
@@ -41,6 +41,9 @@ def _flat(values: Any) -> list[Any]:
     if not hasattr(values, "__array__"):
         return values_of(values)
     flat: Any = numpy.asarray(values, dtype=object)
+    if keeps_types(values):
+        flat = numpy.empty(flat.shape, dtype=object)
+        flat.flat = list(numpy.asarray(values).flat)
     if isinstance(values, numpy.ma.MaskedArray):
         flat = flat.copy()
         flat[values.mask] = None
@@ -71,23 +74,21 @@ def _like(values: Any, result: Any) -> Any:
     return result.reshape(values.shape) if hasattr(values, "shape") else result
 
 
-def _nanos_of_value(value: Any, index: int, raises: bool) -> int:
-    """The nanoseconds of a value that is not a text. They stand for NaT if the value is missing, or
-    if it is refused and no error is to be raised."""
+def _nanos_of_value(value: Any, index: int, raises: bool, takes_numbers: bool) -> int:
+    """The nanoseconds of a value that is neither a text nor a number that is read. They stand for
+    NaT if the value is missing, or if it is refused and no error is to be raised."""
     import numpy
 
     if _is_missing(value):
         return _NAT
-    where = "" if index < 0 else f"at index {index}: "
     is_kept = isinstance(value, (datetime.timedelta, numpy.timedelta64))
     if is_kept and abs(nanos := nanos_of(value)) < 2**63:
         return nanos
     if raises and is_kept:
+        where = "" if index < 0 else f"at index {index}: "
         raise OverflowError(f"{where}timedelta64 doesn't have 2**63 nanoseconds or more: {value!r}")
     if raises:
-        raise DurationTypeError(
-            f"{where}a duration's text must be a str, not {type(value).__name__}"
-        )
+        raise type_error_of(value, takes_numbers, index)
     return _NAT
 
 
@@ -107,7 +108,7 @@ def _nanos_of_lengths(values: Any, lengths: Any, raises: bool) -> Any:
     beyond = abs(numbers) > (2**63 - 1) // step
     if raises and beyond.any():
         first = int(beyond.argmax())
-        _nanos_of_value(lengths.ravel()[first], first, raises)
+        _nanos_of_value(lengths.ravel()[first], first, raises, False)
     nanos = numpy.where(beyond | (numbers == _NAT), _NAT, numbers * step)
     return _like(values, nanos.view("timedelta64[ns]"))
 
@@ -162,7 +163,7 @@ def to_timedelta(
     lowercase: bool = False,
     cn_unit: bool = False,
     require_unit: bool = False,
-    default_unit: Unit = "s",
+    default_unit: Unit = UNNAMED,
 ) -> Any:
     """Reads texts as timedelta64[ns], like `pandas.to_timedelta`. It needs
     NumPy, but not pandas. The options are those of `parse_ns`.
@@ -176,15 +177,20 @@ def to_timedelta(
     None, NaN, NaT, pandas' NA, and the masked values of an array become NaT. A
     single None stays None, as in pandas.
 
+    If you name a default unit, even the second, whole numbers are read too, as
+    by `parse_ns`. So a column of integers is read, and a column of floats that
+    pandas has made of integers with gaps.
+
     With `errors="raise"` the first text that is refused raises a
     DurationError, whose `index` is the text's position. So does a text of
     2**63 nanoseconds or more, which is some 292 years, since timedelta64 can't
-    hold it. Any other value, such as a number or bytes, raises
+    hold it. A number is refused as the text of its digits would be. Any other
+    value, such as bytes, or a number without a default unit, raises
     DurationTypeError, even if a text before it is refused. With
     `errors="coerce"` all of these become NaT.
     """
     raises = raises_errors(errors)
-    options = _native.option_bits(
+    reading = _native.reading(
         no_calc=no_calc,
         lowercase=lowercase,
         cn_unit=cn_unit,
@@ -201,9 +207,8 @@ def to_timedelta(
     is_one = is_one or not hasattr(values, "__iter__")
     texts = [values] if is_one else _flat(values)
     nanos = zeros(len(texts))
-    _native.read_list(
-        texts, nanos, options, raises, -1 if is_one else 0, partial(_nanos_of_value, raises=raises)
-    )
+    other = partial(_nanos_of_value, raises=raises, takes_numbers=reading[1])
+    _native.read_list(texts, nanos, reading, raises, -1 if is_one else 0, other)
     result = numpy.asarray(nanos).view("timedelta64[ns]")
     if not is_one:
         return _like(values, result)

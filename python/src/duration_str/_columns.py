@@ -4,13 +4,21 @@ from __future__ import annotations
 
 from array import array
 from collections.abc import Iterable
-from typing import Any, Literal, overload
+from typing import Any, Literal, SupportsIndex, overload
 
 from . import _native
-from ._texts import Unit
+from ._texts import UNNAMED, Unit
 
 #: What to do with a refused value
 Errors = Literal["raise", "coerce"]
+
+
+def keeps_types(values: Any) -> bool:
+    """Whether the values of a column must keep NumPy's types. Python's types for dates and for
+    lengths of time would be int, and for floats of 32 bits float. They would be read as numbers."""
+    dtype = getattr(values, "dtype", None)
+    kind = getattr(dtype, "kind", "O")
+    return kind in "mM" or kind == "f" and getattr(dtype, "itemsize", 0) != 8
 
 
 def values_of(texts: Any) -> list[Any]:
@@ -23,7 +31,7 @@ def values_of(texts: Any) -> list[Any]:
         raise TypeError(
             f"the texts must be one column, not {texts.ndim} dimensions of {type(texts).__name__}"
         )
-    return list(texts.tolist() if hasattr(texts, "tolist") else texts)
+    return list(texts.tolist() if hasattr(texts, "tolist") and not keeps_types(texts) else texts)
 
 
 def zeros(count: int) -> array[int]:
@@ -47,7 +55,20 @@ def parse_many(
     lowercase: bool = ...,
     cn_unit: bool = ...,
     require_unit: bool = ...,
-    default_unit: Unit = ...,
+) -> array[int]:
+    ...
+
+
+@overload
+def parse_many(
+    texts: Iterable[str | SupportsIndex | float],
+    *,
+    errors: Literal["raise"] = ...,
+    no_calc: bool = ...,
+    lowercase: bool = ...,
+    cn_unit: bool = ...,
+    require_unit: Literal[False] = ...,
+    default_unit: Unit,
 ) -> array[int]:
     ...
 
@@ -74,27 +95,29 @@ def parse_many(
     lowercase: bool = False,
     cn_unit: bool = False,
     require_unit: bool = False,
-    default_unit: Unit = "s",
+    default_unit: Unit = UNNAMED,
 ) -> array[int] | tuple[array[int], array[int]]:
     """Reads texts, any iterable of str, and returns their values in
-    nanoseconds as an `array('Q')`. The options are those of `parse_ns`.
+    nanoseconds as an `array('Q')`. The options are those of `parse_ns`. If you
+    name a default unit, whole numbers are read too, as by `parse_ns`.
 
     With `errors="raise"` the first text that is refused raises a
-    DurationError, whose `index` is the text's position. A value that is not a
-    str, such as None, raises DurationTypeError, even if a text before it is
-    refused.
+    DurationError, whose `index` is the text's position. Any other value, such
+    as None, raises DurationTypeError, even if a text before it is refused.
 
     With `errors="coerce"` it returns two arrays. The first has the values, and
-    0 for each text that is refused and each value that is not a str. The
-    second has the positions of these zeros.
+    0 for each text that is refused and for any other value. The second has the
+    positions of these zeros.
 
     >>> duration_str.parse_many(["1s", "2m"])
     array('Q', [1000000000, 120000000000])
+    >>> duration_str.parse_many(["1s", 1500], default_unit="ms")
+    array('Q', [1000000000, 1500000000])
     >>> duration_str.parse_many(["1s", "soon", None], errors="coerce")
     (array('Q', [1000000000, 0, 0]), array('Q', [1, 2]))
     """
     raises = raises_errors(errors)
-    options = _native.option_bits(
+    reading = _native.reading(
         no_calc=no_calc,
         lowercase=lowercase,
         cn_unit=cn_unit,
@@ -103,7 +126,7 @@ def parse_many(
     )
     given = values_of(texts)
     nanos = zeros(len(given))
-    refused = _native.read_list(given, nanos, options, raises, 0, None)
+    refused = _native.read_list(given, nanos, reading, raises, 0, None)
     return nanos if raises else (nanos, array("Q", refused))
 
 
@@ -146,7 +169,7 @@ def parse_buffers(
     lowercase: bool = False,
     cn_unit: bool = False,
     require_unit: bool = False,
-    default_unit: Unit = "s",
+    default_unit: Unit = UNNAMED,
 ) -> array[int] | tuple[array[int], array[int]]:
     """Reads texts as `parse_many` does, but from a buffer of UTF-8. Text `k`
     is `data[offsets[k] : offsets[k + 1]]`, so there is one offset more than
@@ -168,7 +191,7 @@ def parse_buffers(
     array('Q', [1000000000, 120000000000])
     """
     raises = raises_errors(errors)
-    options = _native.option_bits(
+    reading = _native.reading(
         no_calc=no_calc,
         lowercase=lowercase,
         cn_unit=cn_unit,
@@ -177,5 +200,5 @@ def parse_buffers(
     )
     with memoryview(offsets) as row:
         nanos = zeros(max(0, len(row) - 1))
-        refused = _native.read_buffers(data, row, nanos, options, raises)
+        refused = _native.read_buffers(data, row, nanos, reading, raises)
     return nanos if raises else (nanos, array("Q", refused))

@@ -9,20 +9,24 @@ from typing import Annotated, Any
 
 from ._native import format, parse
 from ._options import WithOptions
-from ._texts import DurationError, Options
+from ._texts import DurationError, DurationTypeError
 
 
-def _read(value: Any, options: Options) -> Any:
-    """Returns the value of a text, or a timedelta as it is. Raises pydantic's own errors."""
+def _read(value: Any, options: dict[str, Any]) -> Any:
+    """Returns the value of a text, and, if a default unit is named, of a whole number. Returns a
+    timedelta as it is. Raises pydantic's own errors."""
     core = import_module("pydantic_core")
     if isinstance(value, datetime.timedelta):
         if value < datetime.timedelta(0):
             raise core.PydanticCustomError("duration_negative", "a negative duration has no text")
         return value
-    if not isinstance(value, str):
-        raise core.PydanticKnownError("string_type")
     try:
         return parse(value, **options)
+    except DurationTypeError:
+        if "default_unit" not in options:
+            raise core.PydanticKnownError("string_type") from None
+        line = "Input should be a valid string or integer"
+        raise core.PydanticCustomError("duration_type", line) from None
     except DurationError as error:
         told = {
             "cause": error.cause.name,
@@ -66,7 +70,8 @@ class _Shown(dict[str, Any]):
 
 class DurationField(WithOptions):
     """Makes pydantic 2 read a timedelta from a text, under these options, and
-    write it as a text. Use this class in `Annotated`.
+    write it as a text. If you name a default unit, whole numbers are read too,
+    such as `1500` in JSON. Use this class in `Annotated`.
 
     >>> from datetime import timedelta
     >>> from typing import Annotated
@@ -99,8 +104,11 @@ class DurationField(WithOptions):
         )
 
     def __get_pydantic_json_schema__(self, schema: Any, handler: Any) -> Any:
+        kinds = [{"type": "str"}]
+        if self._takes_numbers and handler.mode == "validation":
+            kinds.insert(0, {"type": "int"})
+        told = handler({"type": "union", "choices": kinds} if kinds[1:] else kinds[0])
         # pydantic also writes the limits, which JSON Schema doesn't have for a string.
-        told = handler({"type": "str"})
         return _Shown(
             (key, value) for key, value in told.items() if key not in ("gt", "ge", "lt", "le")
         )
@@ -109,5 +117,5 @@ class DurationField(WithOptions):
 Duration = Annotated[datetime.timedelta, DurationField()]
 """A timedelta in a model of pydantic 2. A text is read, and a timedelta is kept. In JSON it is the
 printed text. The limits `gt`, `ge`, `lt` and `le` of a `Field` are timedeltas."""
-DurationWithUnits = Annotated[datetime.timedelta, DurationField(require_unit=True)]
+DurationRequireUnit = Annotated[datetime.timedelta, DurationField(require_unit=True)]
 """A `Duration`, but a number without a unit is refused, as in `90` and `1h 30`."""

@@ -13,8 +13,8 @@
 
 /* The Python objects that the module keeps. First come the names of the options: the flags, in the
  * order of their bits, and then the default unit. They are followed by the names of the keywords
- * that limit printing, the names of a timedelta's parts, and the types and functions that the
- * module calls. */
+ * that limit printing, the names of a timedelta's parts, and the types, functions and values that
+ * the module uses. The last ones are the names of the units, from UNIT_NAMES on. */
 enum kept {
     NO_CALC,
     LOWERCASE,
@@ -30,12 +30,15 @@ enum kept {
     SECONDS,
     MICROSECONDS,
     ERROR,
-    TYPE_ERROR,
+    TYPE_ERROR_OF,
     NANOS_OF,
+    WHOLE_OF,
+    UNNAMED,
     TIMEDELTA,
     A_MICROSECOND,
     A_SECOND,
-    KEPT
+    UNIT_NAMES,
+    KEPT = UNIT_NAMES + DURATION_STR_UNIT_NANOSECOND + 1
 };
 /* The names. In the enumeration they come before ERROR, in the same order */
 static const char *const kept_names[] = {"no_calc", "lowercase", "cn_unit", "require_unit",
@@ -47,8 +50,17 @@ static const char *const kept_names[] = {"no_calc", "lowercase", "cn_unit", "req
 #define MISSING ((uint64_t)INT64_MIN)
 #define MOST_DAYS 106750
 
+/* From here on a float can have lost digits of the number that it was made of. */
+#define INEXACT 9007199254740992.0
+
 struct state {
     PyObject *kept[KEPT];
+};
+
+/* How values are read. */
+struct reading {
+    uint32_t options;
+    int takes_numbers; /* whether a whole number that is not a text is read */
 };
 
 /* A text in UTF-8. Its str owns the bytes. */
@@ -75,15 +87,15 @@ static void raise_error(struct state *state, PyObject *report, PyObject *text,
     Py_XDECREF(error);
 }
 
-/* Raises the package's error for a value that is no str. The index -1 stands for none. */
-static void raise_type_error(struct state *state, PyObject *value, Py_ssize_t index) {
-    PyObject *name = PyType_GetName(Py_TYPE(value));
-    if (name && index < 0)
-        PyErr_Format(state->kept[TYPE_ERROR], "a duration's text must be a str, not %U", name);
-    else if (name)
-        PyErr_Format(state->kept[TYPE_ERROR],
-            "at index %zd: a duration's text must be a str, not %U", index, name);
-    Py_XDECREF(name);
+/* Raises the package's error for a value that is neither a text nor a number that is read. The
+ * index -1 stands for none. */
+static void raise_type_error(
+    struct state *state, PyObject *value, const struct reading *reading, Py_ssize_t index) {
+    PyObject *error = PyObject_CallFunction(
+        state->kept[TYPE_ERROR_OF], "Oin", value, reading->takes_numbers, index);
+    if (error)
+        PyErr_SetObject((PyObject *)Py_TYPE(error), error);
+    Py_XDECREF(error);
 }
 
 /* Turns the pending error, of a str that can't be encoded, into the package's error. */
@@ -141,6 +153,40 @@ static int read_str(struct state *state, PyObject *given, uint32_t options, uint
         return answer.cause == DURATION_STR_CAUSE_READ;
     raise_error(state, report, PyUnicode_FromObject(given), &answer, text.bytes, index);
     return -1;
+}
+
+/* The digits of a whole number, as a str. For a float that is not whole, or can have lost digits,
+ * it is what Python prints, which the library refuses. Returns NULL if the value is no number, or
+ * with an error if Python refuses to print the number. */
+static PyObject *digits_of(struct state *state, PyObject *value) {
+    PyObject *number = NULL, *digits = NULL;
+    if (PyBool_Check(value))
+        return NULL;
+    if (PyLong_Check(value)) {
+        number = Py_NewRef(value);
+    } else if (PyFloat_Check(value)) {
+        const double given = PyFloat_AsDouble(value);
+        const bool is_exact =
+            given > -INEXACT && given < INEXACT && given == (double)(int64_t)given;
+        if (given == given)
+            number = is_exact ? PyLong_FromDouble(given) : PyFloat_FromDouble(given);
+    } else if (PyIndex_Check(value)) {
+        number = PyObject_CallFunctionObjArgs(state->kept[WHOLE_OF], value, NULL);
+    }
+    if (number && PyFloat_Check(number))
+        digits = PyObject_Repr(number);
+    else if (number && !Py_IsNone(number))
+        digits = PyNumber_ToBase(number, 10);
+    Py_XDECREF(number);
+    return digits;
+}
+
+/* The text that a value is read as: a str, or, if whole numbers are read, the digits of one.
+ * Returns NULL if the value is neither, or with an error. */
+static PyObject *text_given(struct state *state, PyObject *value, const struct reading *reading) {
+    if (PyUnicode_CheckExact(value) || PyUnicode_Check(value))
+        return Py_NewRef(value);
+    return reading->takes_numbers ? digits_of(state, value) : NULL;
 }
 
 /* Returns which of the names from `first` to `last` this keyword of a call is, or -1 with an error.
@@ -213,7 +259,11 @@ static int unit_read(PyObject *name) {
 }
 
 /* The number of the unit that is printed or read by this name. Returns -1 with an error. */
-static int unit_of(PyObject *name, const char *keyword) {
+static int unit_of(struct state *state, PyObject *name, const char *keyword) {
+    /* A name that stands in a program is almost always the same object as the kept one. */
+    for (int unit = 0; unit <= DURATION_STR_UNIT_NANOSECOND; unit++)
+        if (name == state->kept[UNIT_NAMES + unit])
+            return unit;
     int unit = place_among(name, unit_names, DURATION_STR_UNIT_NANOSECOND + 1);
     if (unit < 0 && PyUnicode_Check(name))
         unit = unit_read(name);
@@ -222,14 +272,17 @@ static int unit_of(PyObject *name, const char *keyword) {
     return unit;
 }
 
-/* Takes the value of an option's keyword: a flag, or the default unit. Returns -1 with an error. */
+/* Takes the value of an option's keyword: a flag, or the default unit. UNNAMED stands for none.
+ * Returns -1 with an error. */
 static int take_option(struct state *state, const char *call, PyObject *keyword, PyObject *value,
     uint32_t *options, int *default_unit) {
     const int option = name_of(state, call, keyword, NO_CALC, DEFAULT_UNIT);
     if (option < 0)
         return -1;
+    if (option == DEFAULT_UNIT && value == state->kept[UNNAMED])
+        return 0;
     if (option == DEFAULT_UNIT) {
-        *default_unit = unit_of(value, "default_unit");
+        *default_unit = unit_of(state, value, "default_unit");
         return *default_unit < 0 ? -1 : 0;
     }
     const int is_on = value == Py_True ? 1 : value == Py_False ? 0 : PyObject_IsTrue(value);
@@ -241,46 +294,50 @@ static int take_option(struct state *state, const char *call, PyObject *keyword,
 
 /* Takes the options that a call is given by keywords. Returns -1 with an error. */
 static int take_options(struct state *state, const char *call, PyObject *const *values,
-    PyObject *keywords, uint32_t *options) {
+    PyObject *keywords, struct reading *reading) {
     const Py_ssize_t words = keywords ? PyTuple_Size(keywords) : 0;
-    int default_unit = DURATION_STR_UNIT_SECOND;
-    *options = 0;
+    int default_unit = -1;
+    *reading = (struct reading){0};
     for (Py_ssize_t at = 0; at < words; at++)
-        if (take_option(
-                state, call, PyTuple_GetItem(keywords, at), values[at], options, &default_unit))
+        if (take_option(state, call, PyTuple_GetItem(keywords, at), values[at], &reading->options,
+                &default_unit))
             return -1;
-    /* Seconds are the default unit anyway, and operators are read with them. */
-    if (default_unit == DURATION_STR_UNIT_SECOND)
+    if (default_unit < 0)
         return 0;
-    if (*options & DURATION_STR_OPTION_REQUIRE_UNIT) {
-        PyErr_SetString(PyExc_ValueError, "default_unit must be 's' if require_unit is on");
+    if (reading->options & DURATION_STR_OPTION_REQUIRE_UNIT) {
+        PyErr_SetString(PyExc_ValueError, "default_unit can't be named if require_unit is on");
         return -1;
     }
-    *options |= DURATION_STR_OPTION_DEFAULT_UNIT(default_unit);
+    reading->options |= DURATION_STR_OPTION_DEFAULT_UNIT((uint32_t)default_unit);
+    reading->takes_numbers = true;
     return 0;
 }
 
-/* Reads the text of a call, whose arguments METH_FASTCALL | METH_KEYWORDS gives. Returns -1 with an
- * error if the text is refused. */
+/* Reads the value of a call, whose arguments METH_FASTCALL | METH_KEYWORDS gives. Returns -1 with
+ * an error if it is refused. */
 static int read_call(struct state *state, const char *call, PyObject *const *arguments,
     Py_ssize_t count, PyObject *keywords, uint64_t *nanos) {
-    uint32_t options;
-    if (!has_one(call, count) || take_options(state, call, arguments + 1, keywords, &options))
+    struct reading reading;
+    if (!has_one(call, count) || take_options(state, call, arguments + 1, keywords, &reading))
         return -1;
-    if (PyUnicode_Check(arguments[0]))
-        return read_str(state, arguments[0], options, nanos, true, -1) == 1 ? 0 : -1;
-    raise_type_error(state, arguments[0], -1);
-    return -1;
+    PyObject *text = text_given(state, arguments[0], &reading);
+    if (!text && !PyErr_Occurred())
+        raise_type_error(state, arguments[0], &reading, -1);
+    if (!text)
+        return -1;
+    const int is_read = read_str(state, text, reading.options, nanos, true, -1);
+    Py_DECREF(text);
+    return is_read == 1 ? 0 : -1;
 }
 
-/* option_bits(*, no_calc, lowercase, cn_unit, require_unit, default_unit): returns the options in
- * the form that read_list and read_buffers take */
-static PyObject *option_bits(
+/* reading(*, no_calc, lowercase, cn_unit, require_unit, default_unit): returns how values are read,
+ * in the form that read_list and read_buffers take */
+static PyObject *reading(
     PyObject *self, PyObject *const *arguments, Py_ssize_t count, PyObject *keywords) {
-    uint32_t options;
-    if (take_options(PyModule_GetState(self), "option_bits", arguments + count, keywords, &options))
+    struct reading reading;
+    if (take_options(PyModule_GetState(self), "reading", arguments + count, keywords, &reading))
         return NULL;
-    return PyLong_FromUnsignedLong(options);
+    return Py_BuildValue("(IO)", reading.options, reading.takes_numbers ? Py_True : Py_False);
 }
 
 static PyObject *parse_ns(
@@ -357,7 +414,7 @@ static int take_style(PyObject *name, uint32_t *style) {
 }
 
 /* Takes a set of units. None stands for all units. Returns -1 with an error. */
-static int take_units(PyObject *value, uint32_t *units) {
+static int take_units(struct state *state, PyObject *value, uint32_t *units) {
     if (Py_IsNone(value))
         return 0;
     PyObject *names = PyUnicode_Check(value) ? NULL : PyObject_GetIter(value), *name;
@@ -370,7 +427,7 @@ static int take_units(PyObject *value, uint32_t *units) {
     }
     uint32_t chosen = 0;
     while ((name = PyIter_Next(names))) {
-        const int unit = unit_of(name, "each of units");
+        const int unit = unit_of(state, name, "each of units");
         Py_DECREF(name);
         if (unit < 0)
             break;
@@ -396,12 +453,12 @@ static int take_limit(struct state *state, PyObject *keyword, PyObject *value,
     case PARTS:
         return take_parts(value, &limits->parts);
     case UNITS:
-        return take_units(value, &limits->units);
+        return take_units(state, value, &limits->units);
     case LARGEST:
-        *largest = unit_of(value, "largest");
+        *largest = unit_of(state, value, "largest");
         return *largest < 0 ? -1 : 0;
     case SMALLEST:
-        *smallest = unit_of(value, "smallest");
+        *smallest = unit_of(state, value, "smallest");
         return *smallest < 0 ? -1 : 0;
     case STYLE:
         return take_style(value, &limits->style);
@@ -566,10 +623,10 @@ struct list {
     PyObject *values;
     uint64_t *nanos;
     Py_ssize_t room;
-    uint32_t options;
+    struct reading reading;
     int raises;
     Py_ssize_t first;   /* the index of the first value, or -1 for a value by itself */
-    PyObject *function; /* for timedelta64: called for values that are no texts; otherwise NULL */
+    PyObject *function; /* for timedelta64: called for values that have no text; otherwise NULL */
 };
 
 /* How many values the list still has room and items for, since a function that is called may change
@@ -579,7 +636,7 @@ static Py_ssize_t length_of(const struct list *list) {
     return length < list->room ? length : list->room;
 }
 
-/* Keeps a value that is no str, for timedelta64. `*missing` is a value for which the function has
+/* Keeps a value that has no text, for timedelta64. `*missing` is a value for which the function has
  * returned NaT, so that it is not asked about that value again. Returns -1 with an error. */
 static int keep(struct state *state, const struct list *list, Py_ssize_t at, PyObject *value,
     PyObject **missing) {
@@ -622,7 +679,8 @@ static void raise_beyond(struct state *state, PyObject *given, Py_ssize_t index)
 /* Reads a text of the list, as read_str does. */
 static int read_text(
     struct state *state, const struct list *list, Py_ssize_t at, PyObject *text, bool raises) {
-    int is_read = read_str(state, text, list->options, list->nanos + at, raises, list->first + at);
+    int is_read =
+        read_str(state, text, list->reading.options, list->nanos + at, raises, list->first + at);
     if (is_read == 1 && list->function && list->nanos[at] > INT64_MAX) {
         is_read = raises ? -1 : 0;
         if (raises)
@@ -633,41 +691,62 @@ static int read_text(
     return is_read;
 }
 
+/* Reads a value that has no text. Returns 1 if it is kept, 0 if it is refused, and -1 with an
+ * error. If there is an error already, Python has refused to print a number, which is refused too.
+ */
+static int read_other(struct state *state, const struct list *list, Py_ssize_t at, PyObject *value,
+    PyObject **missing) {
+    if (PyErr_Occurred()) {
+        if (!PyErr_ExceptionMatches(PyExc_ValueError))
+            return -1;
+        PyErr_Clear();
+        list->nanos[at] = list->function ? MISSING : 0;
+        return 0;
+    }
+    if (list->function)
+        return keep(state, list, at, value, missing) ? -1 : 1;
+    if (!list->raises)
+        return 0;
+    raise_type_error(state, value, &list->reading, list->first + at);
+    return -1;
+}
+
 /* Reads a value, and adds its position to the list if it is refused. Returns -1 with an error. */
 static int read_value(struct state *state, const struct list *list, Py_ssize_t at,
     PyObject *refused, PyObject **missing) {
     PyObject *value = Py_NewRef(PyList_GetItem(list->values, at));
-    const bool is_text = PyUnicode_CheckExact(value) || PyUnicode_Check(value);
-    int is_read = is_text ? read_text(state, list, at, value, false) : 0;
-    if (!is_text && list->function)
-        is_read = keep(state, list, at, value, missing) ? -1 : 1;
-    else if (!is_text && list->raises) {
-        raise_type_error(state, value, list->first + at);
-        is_read = -1;
-    }
+    PyObject *text = text_given(state, value, &list->reading);
+    const int is_read = text ? read_text(state, list, at, text, false)
+                             : read_other(state, list, at, value, missing);
+    Py_XDECREF(text);
     Py_DECREF(value);
     return is_read ? (is_read < 0 ? -1 : 0) : add_position(refused, at);
 }
 
-/* Raises the error of the first text that is refused. */
+/* Raises the error of the first value that is refused. */
 static int raise_first(struct state *state, const struct list *list, PyObject *refused) {
     const Py_ssize_t at =
         PyList_Size(refused) ? PyLong_AsSsize_t(PyList_GetItem(refused, 0)) : length_of(list);
-    PyObject *text = at < length_of(list) ? PyList_GetItem(list->values, at) : NULL;
-    return text && PyUnicode_Check(text) && read_text(state, list, at, text, true) < 0 ? -1 : 0;
+    if (at >= length_of(list))
+        return 0;
+    PyObject *text = text_given(state, PyList_GetItem(list->values, at), &list->reading);
+    const bool is_raised = text && read_text(state, list, at, text, true) < 0;
+    Py_XDECREF(text);
+    return is_raised || PyErr_Occurred() ? -1 : 0;
 }
 
-/* read_list(texts, nanos, options, raises, first, function): puts the values of a list's texts into
- * a buffer of zeros. Returns a list of the positions of the texts that are refused, and of the
- * values that are not a str. If `raises` is true, it raises the error of the first value that is
- * no str, or, if there is none, of the first text that is refused. The first text has the index
- * `first`. If the function is not None, the values are numbers of timedelta64, a refused text is
- * NaT, and the function returns the number for a value that is no str. */
+/* read_list(values, nanos, reading, raises, first, function): puts the values of a list's texts,
+ * and of its numbers, if numbers are read, into a buffer of zeros. Returns a list of the positions
+ * of those that are refused, and of all other values. If `raises` is true, it raises the error of
+ * the first other value, or, if there is none, of the first text that is refused. The first value
+ * has the index `first`. If the function is not None, the results are numbers of timedelta64, a
+ * refused text is NaT, and the function returns the number for another value. */
 static PyObject *read_list(PyObject *self, PyObject *arguments) {
     struct list list;
     Py_buffer nanos;
-    if (!PyArg_ParseTuple(arguments, "O!w*IpnO", &PyList_Type, &list.values, &nanos, &list.options,
-            &list.raises, &list.first, &list.function))
+    if (!PyArg_ParseTuple(arguments, "O!w*(Ip)pnO", &PyList_Type, &list.values, &nanos,
+            &list.reading.options, &list.reading.takes_numbers, &list.raises, &list.first,
+            &list.function))
         return NULL;
     struct state *state = PyModule_GetState(self);
     PyObject *refused = PyList_New(0), *missing = NULL;
@@ -782,14 +861,15 @@ static int read_column(const Py_buffer *data, const size_t *offsets, size_t text
     return -1;
 }
 
-/* read_buffers(data, offsets, nanos, options, raises): does what read_list does, for the texts
+/* read_buffers(data, offsets, nanos, reading, raises): does what read_list does, for the texts
  * between the offsets into the data */
 static PyObject *read_buffers(PyObject *self, PyObject *arguments) {
     PyObject *given, *refused = NULL;
     Py_buffer data, nanos;
     unsigned int options;
-    int raises;
-    if (!PyArg_ParseTuple(arguments, "y*Ow*Ip", &data, &given, &nanos, &options, &raises))
+    int takes_numbers, raises;
+    if (!PyArg_ParseTuple(
+            arguments, "y*Ow*(Ip)p", &data, &given, &nanos, &options, &takes_numbers, &raises))
         return NULL;
     const size_t texts = (size_t)nanos.len / 8;
     size_t *offsets = PyMem_Calloc(texts + 1, sizeof *offsets);
@@ -829,12 +909,18 @@ PyDoc_STRVAR(parse_ns_doc,
     "  cn_unit       the Chinese names of the units are read too\n"
     "  require_unit  a number without a unit is refused\n\n"
     "A number without a unit counts the `default_unit`. You can give the unit by any\n"
-    "name that is read. If it is not the second, `+` and `*` are not read, since a\n"
-    "factor would count it too.\n\n"
-    "Raises DurationError if the text is refused, and DurationTypeError if it is\n"
-    "not a str. Raises ValueError if `default_unit` names no unit, or if a unit is\n"
-    "required and `default_unit` is not the second.\n\n"
+    "name that is read. For a text, naming the second is the same as naming\n"
+    "nothing; with any other default unit `+` and `*` are not read, since a factor\n"
+    "would count it too.\n\n"
+    "If you name a default unit, even the second, a whole number that is not a text\n"
+    "is read as its digits would be. It is an int, or a float that is whole and\n"
+    "below 2**53.\n\n"
+    "Raises DurationError if the text or the number is refused, and\n"
+    "DurationTypeError for any other value. Raises ValueError if `default_unit`\n"
+    "names no unit, or if you name it and also require units.\n\n"
     ">>> duration_str.parse_ns('1500', default_unit='ms')\n"
+    "1500000000\n"
+    ">>> duration_str.parse_ns(1500, default_unit='ms')\n"
     "1500000000");
 PyDoc_STRVAR(parse_doc,
     "parse" OPTIONS_DOC
@@ -875,7 +961,7 @@ static PyMethodDef methods[] = {
     {"parse", FAST(parse), parse_doc},
     {"parse_seconds", FAST(parse_seconds), parse_seconds_doc},
     {"format", FAST(format), format_doc},
-    {"option_bits", FAST(option_bits), NULL},
+    {"reading", FAST(reading), NULL},
     {"limits", FAST(limits), NULL},
     {"format_list", format_list, METH_VARARGS, NULL},
     {"read_list", read_list, METH_VARARGS, NULL},
@@ -897,12 +983,21 @@ static int begin(PyObject *module) {
     for (int at = 0; at < ERROR; at++)
         state->kept[at] = PyUnicode_InternFromString(kept_names[at]);
     state->kept[ERROR] = member("duration_str._texts", "DurationError");
-    state->kept[TYPE_ERROR] = member("duration_str._texts", "DurationTypeError");
+    state->kept[TYPE_ERROR_OF] = member("duration_str._texts", "type_error_of");
     state->kept[NANOS_OF] = member("duration_str._texts", "nanos_of");
+    state->kept[WHOLE_OF] = member("duration_str._texts", "whole_of");
+    state->kept[UNNAMED] = member("duration_str._texts", "UNNAMED");
     state->kept[TIMEDELTA] = member("datetime", "timedelta");
     if (state->kept[TIMEDELTA])
         state->kept[A_MICROSECOND] = PyObject_GetAttrString(state->kept[TIMEDELTA], "resolution");
     state->kept[A_SECOND] = PyLong_FromLong(SECOND);
+    for (int unit = 0; unit <= DURATION_STR_UNIT_NANOSECOND; unit++) {
+        const char *name = unit_names[unit];
+        PyObject **kept = state->kept + UNIT_NAMES + unit;
+        *kept = PyUnicode_DecodeLatin1(name, (Py_ssize_t)strlen(name), NULL);
+        if (*kept)
+            PyUnicode_InternInPlace(kept);
+    }
     for (int at = 0; at < KEPT; at++)
         is_there = is_there && state->kept[at];
     return is_there ? 0 : -1;

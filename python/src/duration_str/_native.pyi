@@ -1,7 +1,7 @@
 from array import array
 from collections.abc import Callable, Iterable
 from datetime import timedelta
-from typing import Any, Protocol, type_check_only
+from typing import Any, Literal, Protocol, SupportsIndex, overload, type_check_only
 
 from ._texts import Style, Unit
 
@@ -14,6 +14,7 @@ class NumpyDuration(Protocol):
     def denominator(self) -> Any: ...
     def astype(self, dtype: str, /) -> Any: ...
 
+@overload
 def parse_ns(
     text: str,
     /,
@@ -22,8 +23,19 @@ def parse_ns(
     lowercase: bool = False,
     cn_unit: bool = False,
     require_unit: bool = False,
-    default_unit: Unit = "s",
 ) -> int: ...
+@overload
+def parse_ns(
+    text: str | SupportsIndex | float,
+    /,
+    *,
+    no_calc: bool = False,
+    lowercase: bool = False,
+    cn_unit: bool = False,
+    require_unit: Literal[False] = False,
+    default_unit: Unit,
+) -> int: ...
+@overload
 def parse(
     text: str,
     /,
@@ -32,8 +44,19 @@ def parse(
     lowercase: bool = False,
     cn_unit: bool = False,
     require_unit: bool = False,
-    default_unit: Unit = "s",
 ) -> timedelta: ...
+@overload
+def parse(
+    text: str | SupportsIndex | float,
+    /,
+    *,
+    no_calc: bool = False,
+    lowercase: bool = False,
+    cn_unit: bool = False,
+    require_unit: Literal[False] = False,
+    default_unit: Unit,
+) -> timedelta: ...
+@overload
 def parse_seconds(
     text: str,
     /,
@@ -42,7 +65,17 @@ def parse_seconds(
     lowercase: bool = False,
     cn_unit: bool = False,
     require_unit: bool = False,
-    default_unit: Unit = "s",
+) -> float: ...
+@overload
+def parse_seconds(
+    text: str | SupportsIndex | float,
+    /,
+    *,
+    no_calc: bool = False,
+    lowercase: bool = False,
+    cn_unit: bool = False,
+    require_unit: Literal[False] = False,
+    default_unit: Unit,
 ) -> float: ...
 def format(
     value: int | timedelta | NumpyDuration,
@@ -54,9 +87,14 @@ def format(
     smallest: Unit = "ns",
     style: Style = "short",
 ) -> str: ...
-def option_bits(
-    *, no_calc: bool, lowercase: bool, cn_unit: bool, require_unit: bool, default_unit: Unit
-) -> int: ...
+def reading(
+    *,
+    no_calc: bool,
+    lowercase: bool,
+    cn_unit: bool,
+    require_unit: bool,
+    default_unit: Unit = "s",
+) -> tuple[int, bool]: ...
 def limits(
     *, parts: int, units: Iterable[Unit] | None, largest: Unit, smallest: Unit, style: Style
 ) -> tuple[int, int, int]: ...
@@ -68,14 +106,14 @@ def format_list(
     /,
 ) -> None: ...
 def read_list(
-    texts: list[Any],
+    values: list[Any],
     nanos: array[int],
-    options: int,
+    reading: tuple[int, bool],
     raises: bool,
     first: int,
     function: Callable[[Any, int], int] | None,
     /,
 ) -> list[int]: ...
 def read_buffers(
-    data: Any, offsets: memoryview, nanos: array[int], options: int, raises: bool, /
+    data: Any, offsets: memoryview, nanos: array[int], reading: tuple[int, bool], raises: bool, /
 ) -> list[int]: ...

@@ -2,8 +2,10 @@
 
 from __future__ import annotations
 
-from ._native import option_bits
-from ._texts import Options, Unit
+from typing import Any
+
+from ._native import reading
+from ._texts import UNNAMED, Unit
 
 
 class WithOptions:
@@ -16,15 +18,16 @@ class WithOptions:
         lowercase: bool = False,
         cn_unit: bool = False,
         require_unit: bool = False,
-        default_unit: Unit = "s",
+        default_unit: Unit = UNNAMED,
     ) -> None:
-        self._options: Options = {
+        self._options: dict[str, Any] = {
             "no_calc": no_calc,
             "lowercase": lowercase,
             "cn_unit": cn_unit,
             "require_unit": require_unit,
-            "default_unit": default_unit,
         }
+        if default_unit is not UNNAMED:
+            self._options["default_unit"] = default_unit
         # Raises ValueError if no unit has the name of the default unit, or if units are required
-        # and there is another default unit.
-        option_bits(**self._options)
+        # and a default unit is named.
+        _, self._takes_numbers = reading(**self._options)

@@ -7,7 +7,7 @@ import datetime
 import enum
 import sys
 from importlib import import_module
-from typing import Any, Literal, TypedDict
+from typing import Any, Literal
 
 #: A unit by one of its names
 # Made by tests/repository --write.
@@ -25,14 +25,12 @@ Unit = Literal[
 Style = Literal["short", "compact", "long"]
 
 
-class Options(TypedDict):
-    """How a text is read."""
+class _Unnamed(str):
+    """The type of `UNNAMED`."""
 
-    no_calc: bool
-    lowercase: bool
-    cn_unit: bool
-    require_unit: bool
-    default_unit: Unit
+
+#: The default unit of a call that names none. It is the second, but not the object "s".
+UNNAMED: Any = _Unnamed("s")
 
 
 #: The units of timedelta64 that have a length in nanoseconds
@@ -68,8 +66,8 @@ class Expected(enum.Flag):
 
 
 class DurationTypeError(TypeError, ValueError):
-    """A value is not a text. This error is also a ValueError, since pydantic
-    takes only those for refusals."""
+    """A value is neither a text nor, if a default unit is named, a number. This
+    error is also a ValueError, since pydantic takes only those for refusals."""
 
 
 _CAUSES = {int(cause): cause for cause in Cause}
@@ -134,6 +132,31 @@ class DurationError(ValueError):
 
     def __reduce__(self) -> tuple[type[DurationError], tuple[object, ...], dict[str, object]]:
         return type(self), (str(self), self.text, self.cause), self.__dict__
+
+
+def type_error_of(value: Any, takes_numbers: bool, index: int) -> DurationTypeError:
+    """The error for a value that is neither a text nor a number that is read. The index -1 stands
+    for none."""
+    where = "" if index < 0 else f"at index {index}: "
+    what = type(value).__name__
+    if takes_numbers:
+        # NaN is the only float that is no number.
+        what = "NaN" if isinstance(value, float) else what
+        return DurationTypeError(f"{where}a duration must be a str or a whole number, not {what}")
+    is_number = isinstance(value, (int, float)) and not isinstance(value, bool) and value == value
+    help = ""
+    if is_number or whole_of(value) is not None:
+        help = ": to read numbers, name their unit, such as by default_unit='ms'"
+    return DurationTypeError(f"{where}a duration's text must be a str, not {what}{help}")
+
+
+def whole_of(value: Any) -> int | None:
+    """The int of an integer of NumPy. None for any other value, also for timedelta64, which NumPy
+    counts among its integers."""
+    numpy: Any = sys.modules.get("numpy")
+    if numpy is None or isinstance(value, numpy.timedelta64):
+        return None
+    return int(value) if isinstance(value, numpy.integer) else None
 
 
 def nanos_a_step(dtype: Any) -> int:

@@ -45,8 +45,8 @@
 //! # Ok::<(), serde_json::Error>(())
 //! ```
 //!
-//! [`human_with_units`](crate::human_with_units) refuses a number without a unit. To use another
-//! call or options, write a function of two lines for `deserialize_with`:
+//! [`human_require_unit`](crate::human_require_unit) refuses a number without a unit. To use
+//! another call or options, write a function of two lines for `deserialize_with`:
 //!
 //! ```
 //! use duration_str::{TimeUnit, parse_in};
@@ -70,7 +70,7 @@
 //! assert!(serde_json::from_str::<Settings>(r#"{ "timeout": "90s*2" }"#).is_err());
 //! # Ok::<(), serde_json::Error>(())
 //! ```
-use crate::default_unit::parse_with_default_unit;
+use crate::default_unit::{naming, parse_with_default_unit};
 use crate::human_duration::HumanDuration;
 use crate::human_format::Sealed;
 use crate::humantime;
@@ -85,7 +85,7 @@ use core::time::Duration;
 use serde::de::{self, Deserialize, Deserializer, Unexpected, Visitor};
 use serde::ser::{self, Serialize, Serializer};
 
-/// The types of fields that this module, [`human_with_units`](crate::human_with_units),
+/// The types of fields that this module, [`human_require_unit`](crate::human_require_unit),
 /// [`human_or_seconds`](crate::human_or_seconds) and [`human_or_millis`](crate::human_or_millis)
 /// write and read.
 ///
@@ -156,11 +156,11 @@ pub fn deserialize<'de, T: HumanText, D: Deserializer<'de>>(
     T::deserialize_human::<D, TEXT>(deserializer)
 }
 
-/// The ways in which a field is read and written. `TEXT` is a text. `WITH_UNITS` is a text in which
-/// each number needs its unit. `SECONDS` is a text or whole seconds. `STRICT` is a text as
+/// The ways in which a field is read and written. `TEXT` is a text. `REQUIRE_UNIT` is a text in
+/// which each number needs its unit. `SECONDS` is a text or whole seconds. `STRICT` is a text as
 /// humantime reads and prints it. `MILLIS` is a text or whole milliseconds.
 pub(crate) const TEXT: u8 = 0;
-pub(crate) const WITH_UNITS: u8 = 1;
+pub(crate) const REQUIRE_UNIT: u8 = 1;
 pub(crate) const SECONDS: u8 = 2;
 pub(crate) const STRICT: u8 = 3;
 pub(crate) const MILLIS: u8 = 4;
@@ -232,11 +232,11 @@ impl<T: Length, const HOW: u8> Visitor<'_> for Text<T, HOW> {
 
     fn visit_str<E: de::Error>(self, text: &str) -> Result<T, E> {
         let read = match HOW {
-            WITH_UNITS => parse_with_default_unit(text, ADDITIONS, None),
+            REQUIRE_UNIT => parse_with_default_unit(text, ADDITIONS, None),
             STRICT => humantime::read(text),
             MILLIS => {
-                let options = ADDITIONS.with_no_calc();
-                parse_with_default_unit(text, options, Some(TimeUnit::MilliSecond))
+                let unit = TimeUnit::MilliSecond;
+                parse_with_default_unit(text, naming(unit), Some(unit))
             }
             _ => parse_with(text, ADDITIONS),
         };

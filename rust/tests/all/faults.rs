@@ -1,8 +1,8 @@
 //! Texts that are refused, and what their faults say.
 use crate::{FEATURES, Refused, default_unit_of, options_of, vectors};
 use duration_str::{
-    Cause, DError, Expected, Fault, Options, TimeUnit, parse, parse_duration, parse_in, parse_with,
-    parse_with_default_unit, parse_with_units,
+    Cause, DError, Expected, Fault, Options, TimeUnit, parse, parse_duration, parse_in,
+    parse_require_unit, parse_with, parse_with_default_unit,
 };
 use duration_str_core as proved;
 use std::error::Error;
@@ -164,7 +164,7 @@ fn pads_errors() {
     let errors: [&dyn Display; 3] = [
         &fault,
         &fault.into_owned(),
-        &parse_with_units("").unwrap_err(),
+        &parse_require_unit("").unwrap_err(),
     ];
     for error in errors {
         assert_eq!(
@@ -184,14 +184,14 @@ fn pads_errors() {
 fn requires_units() {
     for text in ["1h 30m", "1h30m", "0s", "1m*2s", " 1 h + 30 m "] {
         assert_eq!(
-            parse_with_units(text).unwrap(),
+            parse_require_unit(text).unwrap(),
             parse_duration(text).unwrap()
         );
     }
     for Refused(text, names, ..) in &vectors().refused {
         if *names == ["require_unit"] {
             let fault = parse_with_default_unit(text, ADDITIONS, None).unwrap_err();
-            assert_eq!(parse_with_units(text), Err(fault.into_owned()));
+            assert_eq!(parse_require_unit(text), Err(fault.into_owned()));
         }
     }
     // If each number before the fault has its unit, requiring units does not change the cause.
@@ -204,7 +204,7 @@ fn requires_units() {
         "99999999999999999999h 5",
     ] {
         let (error, same) = (
-            parse_with_units(text).unwrap_err(),
+            parse_require_unit(text).unwrap_err(),
             parse_duration(text).unwrap_err(),
         );
         assert_eq!(error, same);

@@ -1,6 +1,6 @@
 //! Which calls the crate's features affect.
 use duration_str::{
-    Format, HumanDuration, Options, parse, parse_duration, parse_std, parse_with_units,
+    Format, HumanDuration, Options, parse, parse_duration, parse_require_unit, parse_std,
 };
 
 /// Texts, whether the calls of `duration-str` 0.19.0 read them, and whether all other calls do.
@@ -61,7 +61,7 @@ fn reads_whatever_another_crate_takes_away() {
         assert_eq!(parse_duration(text).is_ok(), is_read, "{text}");
         assert_eq!(text.parse::<HumanDuration>().is_ok(), is_read, "{text}");
         assert_eq!(
-            parse_with_units(text).is_ok(),
+            parse_require_unit(text).is_ok(),
             is_read && has_units(text),
             "{text}"
         );
@@ -76,7 +76,7 @@ fn has_units(text: &str) -> bool {
 #[test]
 #[cfg(feature = "serde")]
 fn reads_fields_whatever_another_crate_takes_away() {
-    use duration_str::{deserialize_duration, human, human_or_seconds, human_with_units};
+    use duration_str::{deserialize_duration, human, human_or_seconds, human_require_unit};
     use serde_json::json;
     use std::time::Duration;
     for (text, is_read_by_the_older, is_read) in TEXTS {
@@ -84,11 +84,11 @@ fn reads_fields_whatever_another_crate_takes_away() {
         let optional: Result<Option<Duration>, _> = deserialize_duration(json!(text));
         let of_human: Result<Duration, _> = human::deserialize(json!(text));
         let with_numbers: Result<Duration, _> = human_or_seconds::deserialize(json!(text));
-        let with_units: Result<Duration, _> = human_with_units::deserialize(json!(text));
+        let required: Result<Duration, _> = human_require_unit::deserialize(json!(text));
         let older = [older.is_ok(), optional.is_ok()];
         assert_eq!(older, [is_read_by_the_older; 2], "{text}");
         let others = [of_human.is_ok(), with_numbers.is_ok()];
         assert_eq!(others, [is_read; 2], "{text}");
-        assert_eq!(with_units.is_ok(), is_read && has_units(text), "{text}");
+        assert_eq!(required.is_ok(), is_read && has_units(text), "{text}");
     }
 }

@@ -1,9 +1,9 @@
 //! Durations as text, which serde writes and reads.
-use crate::STYLES;
+use crate::{STYLES, vectors};
 use duration_str::human::{self, HumanText};
 use duration_str::{
     HumanDuration, Style, TimeUnit, UnknownStyle, UnknownUnit, human_or_millis, human_or_seconds,
-    human_with_units, humantime_serde, parse_duration, parse_in,
+    human_require_unit, humantime_serde, parse_duration, parse_in,
 };
 use serde::de::value::{
     BytesDeserializer, Error, F64Deserializer, I64Deserializer, I128Deserializer, U64Deserializer,
@@ -264,41 +264,41 @@ fn writes_nothing_that_it_refuses() {
 
 /// Settings in which each number must have its unit.
 #[derive(Debug, Serialize, Deserialize, PartialEq)]
-struct WithUnits {
-    #[serde(with = "duration_str::human_with_units")]
+struct RequireUnit {
+    #[serde(with = "duration_str::human_require_unit")]
     timeout: Duration,
-    #[serde(default, with = "duration_str::human_with_units")]
+    #[serde(default, with = "duration_str::human_require_unit")]
     keep_alive: Option<Duration>,
-    #[serde(default, with = "duration_str::human_with_units")]
+    #[serde(default, with = "duration_str::human_require_unit")]
     pauses: Vec<Duration>,
 }
 
 #[test]
 fn requires_units_in_fields() {
     let minute = Duration::from_secs(60);
-    let wanted = WithUnits {
+    let wanted = RequireUnit {
         timeout: minute,
         keep_alive: Some(minute),
         pauses: vec![minute],
     };
     let written = json!({ "timeout": "1min", "keep_alive": "1min", "pauses": ["1min"] });
     assert_eq!(to_value(&wanted).unwrap(), written);
-    assert_eq!(from_value::<WithUnits>(written).unwrap(), wanted);
-    let short: WithUnits = from_value(json!({ "timeout": "1m" })).unwrap();
+    assert_eq!(from_value::<RequireUnit>(written).unwrap(), wanted);
+    let short: RequireUnit = from_value(json!({ "timeout": "1m" })).unwrap();
     assert_eq!((short.keep_alive, short.pauses), (None, vec![]));
     for refused in [
         json!({ "timeout": "90" }),
         json!({ "timeout": "1m", "keep_alive": "90" }),
         json!({ "timeout": "1m", "pauses": ["1m", "90"] }),
     ] {
-        let refusal = from_value::<WithUnits>(refused).unwrap_err().to_string();
+        let refusal = from_value::<RequireUnit>(refused).unwrap_err().to_string();
         let line = "invalid duration: expected a unit at column 3, found the end";
         assert_eq!(refusal, line);
     }
     // The format is asked for a text, so YAML's number 90 is read as a text without a unit.
-    let number: Result<Duration, _> = human_with_units::deserialize(Untyped("90"));
+    let number: Result<Duration, _> = human_require_unit::deserialize(Untyped("90"));
     assert!(number.is_err());
-    assert!(human_with_units::deserialize::<Duration, _>(json!(90)).is_err());
+    assert!(human_require_unit::deserialize::<Duration, _>(json!(90)).is_err());
 }
 
 /// Reads a value of a format as a text or as whole seconds.
@@ -380,6 +380,35 @@ fn reads_whole_milliseconds_and_texts() {
         let line = parse_in(text, TimeUnit::MilliSecond).unwrap_err();
         let refusal = in_millis(BytesDeserializer::new(text.as_bytes()));
         assert_eq!(refusal, Err(format!("invalid duration: {line}")));
+    }
+}
+
+/// Reads a value as a number of this unit, or as a text in which it is the default unit. There are
+/// modules for seconds and milliseconds.
+fn by_module(unit: &str, value: Value) -> Option<Result<Duration, serde_json::Error>> {
+    match unit {
+        "s" => Some(human_or_seconds::deserialize(value)),
+        "ms" => Some(human_or_millis::deserialize(value)),
+        _ => None,
+    }
+}
+
+#[test]
+fn reads_the_numbers_of_the_vectors() {
+    for (unit, number, secs, nanos) in vectors().numbers {
+        let wanted = Duration::new(secs, nanos);
+        for value in [json!(number), json!(number.to_string())] {
+            if let Some(read) = by_module(&unit, value) {
+                assert_eq!(read.unwrap(), wanted, "{number} {unit}");
+            }
+        }
+    }
+    for (unit, number) in vectors().refused_numbers {
+        for value in [json!(number.to_string()), number] {
+            if let Some(read) = by_module(&unit, value) {
+                assert!(read.is_err(), "{unit}");
+            }
+        }
     }
 }
 

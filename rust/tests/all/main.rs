@@ -66,6 +66,10 @@ struct Vectors {
     /// or a default unit, such as `default_unit=ms`.
     options: Vec<String>,
     values: Vec<Group>,
+    /// Numbers that are not texts: a default unit, a number, and its seconds and nanoseconds.
+    numbers: Vec<(String, u64, u64, u32)>,
+    /// Such numbers that are refused.
+    refused_numbers: Vec<(String, serde_json::Value)>,
     printed: Vec<Printed>,
     printed_in: Vec<PrintedIn>,
     /// Texts that are refused, with everything that their faults say.

@@ -1,9 +1,9 @@
-//! This module is for `#[serde(with = "duration_str::human_with_units")]`. It is like [`human`],
+//! This module is for `#[serde(with = "duration_str::human_require_unit")]`. It is like [`human`],
 //! but refuses a number without a unit, as in `"90"` and `"1h 30"`. Such a number may have been
 //! meant in milliseconds.
 //!
-//! [`parse_with_units`](crate::parse_with_units) reads the texts. The fields have the same types as
-//! those of [`human`], and are written in the same way.
+//! [`parse_require_unit`](crate::parse_require_unit) reads the texts. The fields have the same types
+//! as those of [`human`], and are written in the same way.
 //!
 //! This module needs the feature `serde`.
 //!
@@ -13,9 +13,9 @@
 //!
 //! #[derive(Debug, Serialize, Deserialize)]
 //! struct Settings {
-//!     #[serde(with = "duration_str::human_with_units")]
+//!     #[serde(with = "duration_str::human_require_unit")]
 //!     timeout: Duration,
-//!     #[serde(default, with = "duration_str::human_with_units")]
+//!     #[serde(default, with = "duration_str::human_require_unit")]
 //!     keep_alive: Option<Duration>,
 //! }
 //!
@@ -39,17 +39,17 @@ pub use human::serialize;
 /// Returns the format's error, also if a text is refused.
 ///
 /// ```
-/// use duration_str::human_with_units;
+/// use duration_str::human_require_unit;
 /// use serde_json::json;
 /// use std::time::Duration;
 ///
-/// let minute: Duration = human_with_units::deserialize(json!("1m"))?;
+/// let minute: Duration = human_require_unit::deserialize(json!("1m"))?;
 /// assert_eq!(minute, Duration::from_secs(60));
-/// assert!(human_with_units::deserialize::<Duration, _>(json!("60")).is_err());
+/// assert!(human_require_unit::deserialize::<Duration, _>(json!("60")).is_err());
 /// # Ok::<(), serde_json::Error>(())
 /// ```
 pub fn deserialize<'de, T: HumanText, D: Deserializer<'de>>(
     deserializer: D,
 ) -> Result<T, D::Error> {
-    T::deserialize_human::<D, { human::WITH_UNITS }>(deserializer)
+    T::deserialize_human::<D, { human::REQUIRE_UNIT }>(deserializer)
 }
