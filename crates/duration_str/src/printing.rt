@@ -21,6 +21,7 @@ ghost use Rattle.duration_str.specs.Internal.PrintedBytes.{name_part, part_bytes
 ghost use Rattle.duration_str.specs.declared.format.TheConstants.Units.{ALL};
 ghost use Rattle.duration_str.specs.Internal.UnitTable.{AreRight, printed_row, units_in, units_of};
 
+use crate::breakdown::Breakdown;
 use crate::format::{Format, Style, Units};
 use crate::unit::{PRINTED, Printed, TimeUnit, UNITS};
 use std::time::Duration;
@@ -289,22 +290,6 @@ fn put_part(buffer: &mut [u8], at: usize, count: u64, row: &Printed, style: Styl
     put_name_in(buffer, end, row, count == 1, style)
 }
 
-/// The row of the longest unit of a set, and the bits of the set's other units. The set is given by
-/// its bits.
-#[inline(always)]
-fn longest(bits: u32) -> Option<(&'static Printed, u32)>
-    ensures right { IfSome result (λ first. first.0.now ≡ printed_row first.0.now.unit) }
-    ensures first { IfSome result (λ first.
-        units_of bits ≡ first.0.now.unit ∷ units_of first.1) }
-    ensures none { IfNone result (units_of bits ≡ []) }
-{
-    let rank = bits.trailing_zeros();
-    if rank as usize >= PRINTED.len() {
-        return None;
-    }
-    Some((&PRINTED[rank as usize], bits & !(1 << rank)))
-}
-
 /// Writes this many nanoseconds in the units of these rows, in at most `most` parts.
 #[inline(never)]
 fn put_all(
@@ -343,8 +328,7 @@ fn put_all(
     end
 }
 
-/// Writes this many nanoseconds in the units of a set, in at most `most` parts. It goes over the
-/// set's bits, since the set may lack many units.
+/// Writes this many nanoseconds in the units of a set, in at most `most` parts.
 #[inline(never)]
 fn put_chosen(
     buffer: &mut [u8],
@@ -362,23 +346,9 @@ fn put_chosen(
     ensures end { result ≤ length buffer.old }
 {
     let mut end = at;
-    let mut left = most;
-    let mut rest = nanos;
-    let mut bits = u32::from(set.bits());
-    while let Some((first, others)) = longest(bits) {
-        bits = others;
-        if first.nanos <= rest {
-            if left == 0 {
-                return end;
-            }
-            let (count, after) = first.division(rest);
-            end = put_part(buffer, end, count, first, style);
-            left -= 1;
-            rest = after;
-            if rest == 0 {
-                return end;
-            }
-        }
+    let mut parts = Breakdown::of(u128::from(nanos), set, most);
+    while let Some((row, count)) = parts.next_part() {
+        end = put_part(buffer, end, count as u64, row, style);
     }
     end
 }
@@ -503,15 +473,12 @@ fn put_long(buffer: &mut [u8], set: Units, most: usize, nanos: u128, style: Styl
     ensures text { take result buffer.new ≡ with_parts style [] (chosen set units) most nanos }
     ensures end { result ≤ length buffer.old }
 {
-    let Some((row, _)) = longest(u32::from(set.bits())) else {
+    let mut parts = Breakdown::of(nanos, set, most);
+    let Some((row, count)) = parts.next_part() else {
         return 0;
     };
-    if most == 0 {
-        return 0;
-    }
-    let length = u128::from(row.nanos);
-    let end = put_first(buffer, nanos / length, row, style);
-    put_parts(buffer, end, set, most - 1, (nanos % length) as u64, style)
+    let end = put_first(buffer, count, row, style);
+    put_parts(buffer, end, set, most - 1, parts.rest() as u64, style)
 }
 
 #[tactic(auto, using(crate::proofs::Printer::LimitsLemmas::with_nothing))]

@@ -7,6 +7,7 @@
 //!
 //! Each function that writes begins after the first `at` bytes of the buffer, and returns where its part ends.
 
+use crate::breakdown::Breakdown;
 use crate::format::{Format, Style, Units};
 use crate::unit::{PRINTED, Printed, TimeUnit, UNITS};
 use core::time::Duration;
@@ -195,17 +196,6 @@ fn put_part(buffer: &mut [u8], at: usize, count: u64, row: &Printed, style: Styl
     put_name_in(buffer, end, row, count == 1, style)
 }
 
-/// The row of the longest unit of a set, and the bits of the set's other units. The set is given by
-/// its bits.
-#[inline(always)]
-fn longest(bits: u32) -> Option<(&'static Printed, u32)> {
-    let rank = bits.trailing_zeros();
-    if rank as usize >= PRINTED.len() {
-        return None;
-    }
-    Some((&PRINTED[rank as usize], bits & !(1 << rank)))
-}
-
 /// Writes this many nanoseconds in the units of these rows, in at most `most` parts.
 #[inline(never)]
 fn put_all(
@@ -236,8 +226,7 @@ fn put_all(
     end
 }
 
-/// Writes this many nanoseconds in the units of a set, in at most `most` parts. It goes over the
-/// set's bits, since the set may lack many units.
+/// Writes this many nanoseconds in the units of a set, in at most `most` parts.
 #[inline(never)]
 fn put_chosen(
     buffer: &mut [u8],
@@ -248,23 +237,9 @@ fn put_chosen(
     style: Style,
 ) -> usize {
     let mut end = at;
-    let mut left = most;
-    let mut rest = nanos;
-    let mut bits = u32::from(set.bits());
-    while let Some((first, others)) = longest(bits) {
-        bits = others;
-        if first.nanos <= rest {
-            if left == 0 {
-                return end;
-            }
-            let (count, after) = first.division(rest);
-            end = put_part(buffer, end, count, first, style);
-            left -= 1;
-            rest = after;
-            if rest == 0 {
-                return end;
-            }
-        }
+    let mut parts = Breakdown::of(u128::from(nanos), set, most);
+    while let Some((row, count)) = parts.next_part() {
+        end = put_part(buffer, end, count as u64, row, style);
     }
     end
 }
@@ -347,15 +322,12 @@ fn put_first(buffer: &mut [u8], count: u128, row: &Printed, style: Style) -> usi
 /// than 2^64 nanoseconds.
 #[inline(never)]
 fn put_long(buffer: &mut [u8], set: Units, most: usize, nanos: u128, style: Style) -> usize {
-    let Some((row, _)) = longest(u32::from(set.bits())) else {
+    let mut parts = Breakdown::of(nanos, set, most);
+    let Some((row, count)) = parts.next_part() else {
         return 0;
     };
-    if most == 0 {
-        return 0;
-    }
-    let length = u128::from(row.nanos);
-    let end = put_first(buffer, nanos / length, row, style);
-    put_parts(buffer, end, set, most - 1, (nanos % length) as u64, style)
+    let end = put_first(buffer, count, row, style);
+    put_parts(buffer, end, set, most - 1, parts.rest() as u64, style)
 }
 
 #[inline(always)]

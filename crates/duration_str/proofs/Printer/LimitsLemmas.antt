@@ -70,7 +70,7 @@ pub with_none : (style : Style) (us : List TimeUnit) (bytes : List ℕ) (most na
 with_none style [] bytes most nanos none = refl
 with_none style (u ∷ us) bytes most nanos none = rw none (with_none style us bytes 0 nanos refl)
 
-part_grows : (style : Style) (bytes : List ℕ) (u : TimeUnit) (n : ℕ) → length bytes ≤ length (with_part style bytes u n)
+pub part_grows : (style : Style) (bytes : List ℕ) (u : TimeUnit) (n : ℕ) → length bytes ≤ length (with_part style bytes u n)
 part_grows style bytes u n = search (rules, length-append)
 
 counts_grow : (style : Style) (us : List TimeUnit) (bytes counts : List ℕ)
