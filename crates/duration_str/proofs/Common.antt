@@ -44,7 +44,7 @@ pub use Rattle.duration_str.specs.Limits.{counts_within, IsGreatestWithin, IsPri
 pub use Rattle.duration_str.specs.declared.format.Units.{Units}
 pub use Rattle.duration_str.specs.declared.format.TheConstants.Units.{ALL}
 pub use Rattle.duration_str.specs.Place.{BeginsSentence, CanFollow, IsFront, start_after, terminals_of}
-pub use Rattle.duration_str.specs.Printing.{before_name, between, IsBefore, IsGreatestBreakdown, IsPrinted, IsPrintedIn, joined_parts, long_name, name_in, printed_counts, printed_part, printed_parts, weighted_sum}
+pub use Rattle.duration_str.specs.Printing.{before_name, between, IsBefore, IsGreatestBreakdown, IsPrinted, IsPrintedIn, joined_parts, long_name, name_in, nonzero, printed_counts, printed_part, printed_parts, weighted_sum}
 pub use Rattle.duration_str.specs.OneTerm.{fault_or, term_of, IsNumber}
 pub use Rattle.duration_str.specs.Internal.Positions.{ahead, Between, letter_number, number_in, packed_number, packed_number_after, Passes, Stands, StandsAt, Stops, TakesDigits, TakesLetters, wide_number}
 pub use Rattle.duration_str.specs.Options.{off}

@@ -6,12 +6,8 @@ use Rattle.duration_str.specs.declared.format.Format.{Format}
 use Rattle.duration_str.specs.declared.unit.TimeUnit.{TimeUnit}
 use Rattle.duration_str.specs.Units.{nanos_of}
 use Rattle.duration_str.specs.Limits.{IsGreatestWithin, counts_within, lengths_within, units_within}
+use Rattle.duration_str.specs.Printing.{nonzero}
 use Rattle.duration_str.specs.Internal.UnitTable.{units_of}
-
--- the counts that are not 0, each with its unit
-abbrev pub nonzero : List TimeUnit → List ℕ → List (TimeUnit × ℕ)
-nonzero (u ∷ us) (n ∷ counts) = if n == 0 then nonzero us counts else (u, n) ∷ nonzero us counts
-nonzero _ _ = []
 
 -- These are the parts of a duration of `nanos` nanoseconds in this format.
 abbrev pub AreParts : Format → ℕ → List (TimeUnit × ℕ) → Type 0
