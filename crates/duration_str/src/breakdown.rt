@@ -55,11 +55,7 @@ impl Breakdown {
         ensures parts { AreParts format (as_nanos d.now) (parts_left result) }
         ensures rest { nanos_left result ≡ as_nanos d.now }
     {
-        Breakdown {
-            bits: u32::from(format.units.bits()),
-            most: format.parts,
-            rest: d.as_nanos(),
-        }
+        Breakdown::of(d.as_nanos(), format.units, format.parts)
     }
 
     /// Returns the nanoseconds that the parts so far leave: the whole duration at first, and at the end what is in no
