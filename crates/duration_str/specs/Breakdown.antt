@@ -1,5 +1,5 @@
 -- The breakdown of a duration in a format: its counts, each with its unit.
-use Rattle.std.specs.Prelude.{◌≡◌, ℕ, ◌+◌, ◌*◌, ◌<◌, IfSome, List, [], ◌∷◌, if◌then◌else◌, ◌==◌, map, Option, MatchOption}
+use Rattle.std.specs.Prelude.{◌≡◌, ℕ, ◌+◌, ◌*◌, ◌<◌, IfSome, List, [], ◌∷◌, map, Option, MatchOption}
 use Rattle.std.specs.Iterator.{YieldsFirst}
 use Rattle.duration_str.specs.declared.breakdown.Breakdown.{Breakdown}
 use Rattle.duration_str.specs.declared.format.Format.{Format}

@@ -93,9 +93,11 @@ impl Breakdown {
     /// Returns the next part, with its unit's row in the table for printing.
     #[inline(always)]
     pub(crate) fn next_part(&mut self) -> Option<(&'static Printed, u128)>
-        ensures first { YieldsFirstBy (λ part. (part.0.now.unit, part.1)) parts_left self.old result self.new }
+        ensures first { YieldsFirstBy (λ part. (part.0.now.unit, part.1)) parts_left
+            self.old result self.new }
         ensures rest { MatchOption result (nanos_left self.old ≡ nanos_left self.new)
-            (λ part. nanos_left self.old ≡ part.1 * nanos_of part.0.now.unit + nanos_left self.new) }
+            (λ part. nanos_left self.old
+            ≡ part.1 * nanos_of part.0.now.unit + nanos_left self.new) }
         ensures less { IfSome result (λ part. nanos_left self.new < nanos_of part.0.now.unit) }
         ensures right { IfSome result (λ part. part.0.now ≡ printed_row part.0.now.unit) }
         ensures some { IfSome result (λ part. 0 < part.1) }

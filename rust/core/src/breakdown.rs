@@ -46,11 +46,7 @@ impl Breakdown {
     #[inline]
     #[must_use]
     pub fn new(d: &Duration, format: Format) -> Breakdown {
-        Breakdown {
-            bits: u32::from(format.units.bits()),
-            most: format.parts,
-            rest: d.as_nanos(),
-        }
+        Breakdown::of(d.as_nanos(), format.units, format.parts)
     }
 
     /// Returns the nanoseconds that the parts so far leave: the whole duration at first, and at the end what is in no

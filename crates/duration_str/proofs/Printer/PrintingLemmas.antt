@@ -1,5 +1,5 @@
 -- A printed text is spelled by a sum whose total is the duration.
-use Rattle.duration_str.proofs.Common.{AllPlus, append-nil, arith, between, Bool, common_steps, Compact, counts_of, decimal, drop, eqb-true, false, FitsDuration, flat_map, if◌then◌else◌, IsBlank, IsPrintedIn, IsSentence, joined_parts, List, Long, map, name_in, nanos_of, nonzero, number, Option, Options, printed_counts, printed_part, printed_parts, refl, row_of, rules, Second, Short, Some, Spells, Style, sum_of, Terminal, terminal_of, terms_of, TimeUnit, true, unit_lengths, units, weighted_sum, word, Year, [], ℕ, ⊤, ◌%◌, ◌++◌, ◌<◌, ◌==◌, ◌^◌, ◌∷◌, ◌≡◌}
+use Rattle.duration_str.proofs.Common.{AllPlus, append-nil, arith, between, Bool, common_steps, Compact, counts_of, decimal, drop, eqb-true, false, FitsDuration, flat_map, IsBlank, IsPrintedIn, IsSentence, joined_parts, List, Long, map, name_in, nanos_of, nonzero, number, Option, Options, printed_counts, printed_part, refl, row_of, rules, Second, Short, Some, Spells, Style, sum_of, Terminal, terminal_of, terms_of, TimeUnit, true, unit_lengths, units, weighted_sum, word, Year, [], ℕ, ⊤, ◌%◌, ◌++◌, ◌<◌, ◌==◌, ◌^◌, ◌∷◌, ◌≡◌}
 use Rattle.duration_str.proofs.Characters.NumberLemmas.{decimal_terminal}
 use Rattle.duration_str.proofs.LawProofs.GreatestBreakdown.{greatest_breakdown_holds, one_greatest}
 use Rattle.duration_str.proofs.Sentences.AnswerLemmas.{IsSumOf, terms_of_lexemes}
