@@ -285,15 +285,5 @@ name_spaced at k bytes u inside =
     (take_part at k (width + 1) bytes (printed_row u).letters inside (omega (arith, letters_len u, name_short u))
     ∙ rw (name_space u, append_assoc))
 
--- If the first unit is no longer than the duration, its part comes first, and the other parts print the remainder.
-pub first_taken : (style : Style) (u : TimeUnit) (us : List TimeUnit) (bytes : List ℕ) (most nanos : ℕ) → 1 ≤ most
-    → nanos_of u ≤ nanos
-    → with_parts style (with_part style bytes u (nanos / nanos_of u)) (u ∷ us) (most - 1) (nanos % nanos_of u)
-    ≡ with_parts style bytes (u ∷ us) most nanos
-first_taken style u us bytes most nanos left h =
-    sym (unit_skipped style u us (with_part style bytes u (nanos / nanos_of u)) (most - 1) (nanos % nanos_of u)
-    (omega (arith, some_length u)))
-    ∙ search rules
-
 pub each_short : (u : TimeUnit) → nanos_of u < 2 ^ 64
 each_short u = ltb-true (nanos_of u) (2 ^ 64) (all_units (λ v. ltb (nanos_of v) (2 ^ 64)) refl u)
