@@ -56,7 +56,7 @@ pub use Rattle.duration_str.specs.Iteration.{cut_place, KeepsInput, options_of, 
 pub use Rattle.duration_str.specs.Tokens.{are_of_one_run, goes_on, lexemes_of, Token, tokens_from, tokens_of, with_first_character}
 pub use Rattle.duration_str.specs.Units.{comparison_form, is_named, nanos_of, rank_of, row_of, unit_lengths, unit_of_word, UnitRow, units}
 pub use Rattle.duration_str.specs.Internal.Numbers.{checked_term, u64_from}
-pub use Rattle.duration_str.specs.Internal.UnitTable.{all_names, packs_to, unit_of_packed, printed_row, units_in, units_of}
+pub use Rattle.duration_str.specs.Internal.UnitTable.{all_names, packs_to, unit_of_packed, printed_row, units_of}
 pub use Rattle.duration_str.specs.Internal.PrintedBytes.{name_part, part_bytes, with_counts, with_gap, with_part, with_parts}
 pub use Rattle.duration_str.specs.Internal.Rest.{answer_left, by_operator, checked_combination, end_at, IsPlaceless, leaving, number_fault, operator_read, ReadItem, Rest, rest_from, rest_of, start_left, terminal_at, terminals_in, total_with, unit_read, with_term}
 pub use Rattle.duration_str.specs.Internal.Steps.{is_number, IsAhead, IsSign, LooksAhead, sign_sort, sort_at, sort_of, TakesNumber, TakesSign, TakesToken, TakesTokenWith}

@@ -1,5 +1,5 @@
 use Rattle.duration_str.proofs.Common.{length, take, units, with_parts, ◌<◌, ◌^◌, ◌≡◌, ◌≤◌}
-use Rattle.duration_str.proofs.printing.put_chosen.Given as goal
+use Rattle.duration_str.proofs.printing.put_parts.Given as goal
 use Rattle.duration_str.specs.Breakdown.{nanos_left, parts_left}
 use Rattle.duration_str.specs.Internal.PrintedBytes.{with_each}
 use Rattle.duration_str.specs.Limits.{chosen}
