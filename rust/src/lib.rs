@@ -211,8 +211,8 @@ pub use default_unit::{parse_in, parse_require_unit, parse_with_default_unit};
 pub use derror::{DError, DResult};
 #[doc(inline)]
 pub use duration_str_core::{
-    Cause, CondUnit, Expected, FORMAT_BUFFER_SIZE, Format, Options, STYLED_BUFFER_SIZE, Style,
-    TimeUnit, Units, UnknownStyle, UnknownUnit, write_human, write_within,
+    Breakdown, Cause, CondUnit, Expected, FORMAT_BUFFER_SIZE, Format, Options, STYLED_BUFFER_SIZE,
+    Style, TimeUnit, Units, UnknownStyle, UnknownUnit, write_human, write_within,
 };
 // `MAX_LONG_LEN`, `MAX_PRINTED_LEN` and `UNITS`, below, are hidden, since they are only for the
 // core's examples. Users of this crate have the buffers' sizes and `TimeUnit::ALL`.

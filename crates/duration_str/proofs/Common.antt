@@ -34,7 +34,7 @@ pub use Rattle.duration_str.specs.Answer.{allows, answer, answer_at, answer_with
 pub use Rattle.duration_str.specs.Messages.{byte_text, caret_text, EndsInsideLine, has_line_feed, line_of, message_of, placed_text}
 pub use Rattle.duration_str.specs.Faults.{found_token, IsMissingAtEnd, IsSliceOf, place_of, token_at}
 pub use Rattle.duration_str.specs.Grammar.{BeginsWith, IsSentence, IsSentenceOf, IsSentenceWith, number, operator, operator_or_other, other, sign_terminal, Spells, Terminal, terminal_by, terminal_of, word}
-pub use Rattle.duration_str.specs.Laws.{AllParts, AnswerIsReading, BlanksFree, EqualTexts, GreatestBreakdown, HasNoCapital, HasNoChinese, HasNoOperator, HasNoStar, is_operator, IsIdle, IsMostWithin, KeepsWithin, NearWords, NeverMore, NoCalcAgrees, OlderTexts, OneCut, OneReading, OneSentence, OptionsIdle, PlaceAndKinds, ReadsBack, Reorder, SumOfTexts, times_in, TwoFactors, counts_of, AllPlus, AreTokens, EndsRun, IsLexeme}
+pub use Rattle.duration_str.specs.Laws.{AllParts, AnswerIsReading, BlanksFree, EqualTexts, GreatestBreakdown, HasNoCapital, HasNoChinese, HasNoOperator, HasNoStar, is_operator, IsIdle, IsMostWithin, KeepsWithin, NearWords, NeverMore, NoCalcAgrees, OlderTexts, OneCut, OneReading, OneSentence, OptionsIdle, PartsAndRest, PlaceAndKinds, ReadsBack, Reorder, SumOfTexts, times_in, TwoFactors, counts_of, AllPlus, AreTokens, EndsRun, IsLexeme}
 pub use Rattle.duration_str.specs.Older.{older_nanos_of, older_row_of, older_terminals, older_terms, older_unit_of_word, sentence_fault, was_named, WasRead, WasRefused, WasSentenceOf}
 pub use Rattle.duration_str.specs.declared.format.Format.{Format}
 pub use Rattle.duration_str.specs.declared.format.Style.{Style}
@@ -44,7 +44,7 @@ pub use Rattle.duration_str.specs.Limits.{counts_within, IsGreatestWithin, IsPri
 pub use Rattle.duration_str.specs.declared.format.Units.{Units}
 pub use Rattle.duration_str.specs.declared.format.TheConstants.Units.{ALL}
 pub use Rattle.duration_str.specs.Place.{BeginsSentence, CanFollow, IsFront, start_after, terminals_of}
-pub use Rattle.duration_str.specs.Printing.{before_name, between, IsBefore, IsGreatestBreakdown, IsPrinted, IsPrintedIn, joined_parts, long_name, name_in, printed_counts, printed_part, printed_parts, weighted_sum}
+pub use Rattle.duration_str.specs.Printing.{before_name, between, IsBefore, IsGreatestBreakdown, IsPrinted, IsPrintedIn, joined_parts, long_name, name_in, nonzero, printed_counts, printed_part, printed_parts, weighted_sum}
 pub use Rattle.duration_str.specs.OneTerm.{fault_or, term_of, IsNumber}
 pub use Rattle.duration_str.specs.Internal.Positions.{ahead, Between, letter_number, number_in, packed_number, packed_number_after, Passes, Stands, StandsAt, Stops, TakesDigits, TakesLetters, wide_number}
 pub use Rattle.duration_str.specs.Options.{off}
@@ -56,7 +56,7 @@ pub use Rattle.duration_str.specs.Iteration.{cut_place, KeepsInput, options_of, 
 pub use Rattle.duration_str.specs.Tokens.{are_of_one_run, goes_on, lexemes_of, Token, tokens_from, tokens_of, with_first_character}
 pub use Rattle.duration_str.specs.Units.{comparison_form, is_named, nanos_of, rank_of, row_of, unit_lengths, unit_of_word, UnitRow, units}
 pub use Rattle.duration_str.specs.Internal.Numbers.{checked_term, u64_from}
-pub use Rattle.duration_str.specs.Internal.UnitTable.{all_names, packs_to, unit_of_packed, printed_row, units_in, units_of}
+pub use Rattle.duration_str.specs.Internal.UnitTable.{all_names, packs_to, unit_of_packed, printed_row, units_of}
 pub use Rattle.duration_str.specs.Internal.PrintedBytes.{name_part, part_bytes, with_counts, with_gap, with_part, with_parts}
 pub use Rattle.duration_str.specs.Internal.Rest.{answer_left, by_operator, checked_combination, end_at, IsPlaceless, leaving, number_fault, operator_read, ReadItem, Rest, rest_from, rest_of, start_left, terminal_at, terminals_in, total_with, unit_read, with_term}
 pub use Rattle.duration_str.specs.Internal.Steps.{is_number, IsAhead, IsSign, LooksAhead, sign_sort, sort_at, sort_of, TakesNumber, TakesSign, TakesToken, TakesTokenWith}

@@ -15,3 +15,4 @@ pub mod OlderTexts
 pub mod AllParts
 pub mod NearWords
 pub mod NeverMore
+pub mod PartsAndRest

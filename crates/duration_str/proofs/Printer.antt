@@ -6,6 +6,7 @@ pub mod PrintingLemmas
 pub mod DigitLemmas
 pub mod PrintedBytesLemmas
 pub mod LimitsLemmas
+pub mod BreakdownLemmas
 pub mod SetLemmas
 pub mod SpacedLemmas
 pub mod NearLemmas

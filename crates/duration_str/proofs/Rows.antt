@@ -1,8 +1,9 @@
 -- Examples that were worked out by hand, and are computed here: the values of texts, the causes for which others are
 -- refused, and the texts of durations.
-use Rattle.duration_str.proofs.Common.{ALL, answer, answer_with, Bool, Cause, codes, Compact, counts_of, Empty, encode_utf8_all, Err, Expected, false, flat_map, if◌then◌else◌, length, List, Long, map, MAX_LONG_LEN, MAX_PRINTED_LEN, message_of, Mixed, nanos_of, nat_lt, None, NumberTooLarge, off, Ok, older_row_of, older_unit_of_word, Options, OutOfRange, Overflow, Plus, printed_counts, Quarter, refl, replicate, Result, row_of, Short, Some, Star, Style, Syntax, TimeUnit, true, unit_lengths, unit_of_word, units, [], ℕ, ◌++◌, ◌∷◌, ◌≡◌}
+use Rattle.duration_str.proofs.Common.{ALL, answer, answer_with, Bool, Cause, codes, Compact, counts_of, Empty, encode_utf8_all, Err, Expected, false, flat_map, if◌then◌else◌, length, List, Long, map, MAX_LONG_LEN, MAX_PRINTED_LEN, message_of, Mixed, nanos_of, nat_lt, None, nonzero, NumberTooLarge, off, Ok, older_row_of, older_unit_of_word, Options, OutOfRange, Overflow, Plus, printed_counts, Quarter, refl, replicate, Result, row_of, Short, Some, Star, Style, Syntax, TimeUnit, true, unit_lengths, unit_of_word, units, units_within, [], ℕ, ◌++◌, ◌∷◌, ◌≡◌}
 use Rattle.duration_str.specs.declared.format.Format.{Format}
 use Rattle.duration_str.specs.declared.unit.TimeUnit.TheVariants.{Day, Hour, MicroSecond, MilliSecond, Minute, Month, NanoSecond, Second, Week, Year}
+use Rattle.duration_str.specs.Breakdown.{sum_of_parts}
 use Rattle.duration_str.specs.Limits.{chosen, intersection, counts_within, down_to, is_in, lengths_within, set_of, shorter_units, text_within, up_to, whole_format, without_unit}
 use Rattle.duration_str.specs.OneLine.{is_letter, is_plain, one_line_of}
 use Rattle.duration_str.specs.Report.{report_of}
@@ -308,6 +309,32 @@ pub record LimitedTexts : Type 0 where
 pub limited_texts : LimitedTexts
 unfolding chars digits encode chosen is_in
 limited_texts = assumption
+
+-- ---- The parts as numbers
+
+-- the parts of this many nanoseconds in a format
+abbrev parts_of : Format → ℕ → List (TimeUnit × ℕ)
+parts_of format nanos = nonzero (units_within format) (counts_within (lengths_within format) format.parts nanos)
+
+pub record PartsAsNumbers : Type 0 where
+  pub whole : parts_of whole_format 193_029_000_000 ≡ (Minute, 3) ∷ (Second, 13) ∷ (MilliSecond, 29) ∷ []
+  pub two : parts_of (record whole_format { parts = 2 }) 193_029_000_000 ≡ (Minute, 3) ∷ (Second, 13) ∷ []
+  pub style : parts_of (record whole_format { parts = 1; style = Long }) 193_029_000_000 ≡ (Minute, 3) ∷ []
+  pub between : parts_of whole_format 3_600_000_000_005 ≡ (Hour, 1) ∷ (NanoSecond, 5) ∷ []
+  pub one-119_days : parts_of (record whole_format { parts = 1 }) 10_281_600_000_000_000 ≡ (Quarter, 1) ∷ []
+  pub years_and_days-400_days : parts_of (only (Day ∷ Year ∷ [])) 34_560_000_000_000_000 ≡ (Year, 1) ∷ (Day, 35) ∷ []
+  pub zero : parts_of whole_format 0 ≡ []
+  pub zero_hours : parts_of (only (Hour ∷ [])) 3_599_999_999_999 ≡ []
+  pub no_parts : parts_of (record whole_format { parts = 0 }) 193_029_000_000 ≡ []
+  pub no_units : parts_of (only []) 193_029_000_000 ≡ []
+  pub longest : parts_of (only (NanoSecond ∷ [])) 18_446_744_073_709_551_615_999_999_999
+      ≡ (NanoSecond, 18_446_744_073_709_551_615_999_999_999) ∷ []
+  pub sum : sum_of_parts ((Minute, 3) ∷ (Second, 13) ∷ []) ≡ 193_000_000_000
+  pub no_sum : sum_of_parts [] ≡ 0
+
+pub parts_as_numbers : PartsAsNumbers
+unfolding chosen is_in
+parts_as_numbers = assumption
 
 -- these units, from the first one that is not longer than the largest
 abbrev units_from : TimeUnit → List TimeUnit → List TimeUnit

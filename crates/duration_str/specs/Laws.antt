@@ -3,6 +3,7 @@ use Rattle.std.specs.Prelude.{◌≡◌, ℕ, ◌+◌, ◌*◌, ◌/◌, ◌^◌
 use Rattle.std.specs.Char.{is_ascii_uppercase, to_ascii_lowercase}
 use Rattle.std.specs.List.{list_all}
 use Rattle.std.specs.Duration.{FitsDuration}
+use Rattle.std.specs.Iterator.{Yields}
 use Rattle.duration_str.specs.declared.options.Options.{Options}
 use Rattle.duration_str.specs.declared.operator.CondUnit.{CondUnit}
 use Rattle.duration_str.specs.declared.operator.CondUnit.TheVariants.{Plus, Star}
@@ -23,6 +24,8 @@ use Rattle.duration_str.specs.Messages.{EndsInsideLine, message_of, line_of}
 use Rattle.duration_str.specs.Answer.{answer_with, expected_after, last_of, front_of}
 use Rattle.duration_str.specs.Older.{older_row_of, older_terminals, older_unit_of_word, WasSentenceOf, WasRead, WasRefused}
 use Rattle.duration_str.specs.Printing.{IsPrintedIn, IsGreatestBreakdown, long_name, weighted_sum}
+use Rattle.duration_str.specs.Breakdown.{YieldsPart, nanos_left, parts_left, sum_of_parts}
+use Rattle.duration_str.specs.declared.breakdown.Breakdown.{Breakdown}
 use Rattle.duration_str.specs.declared.format.Format.{Format}
 use Rattle.duration_str.specs.declared.format.Style.{Style}
 use Rattle.duration_str.specs.Limits.{whole_format, lengths_within, part_count, shorter_units, units_within, IsPrintedWithin}
@@ -286,6 +289,14 @@ pub record IsMostWithin (format : Format) (nanos : ℕ) (text : Characters) (mos
 abbrev pub NeverMore : Type 0
 NeverMore = (format : Format) (nanos : ℕ) (text : Characters) → IsPrintedWithin format nanos text
     → (most : ℕ) × IsMostWithin format nanos text most
+
+-- The parts that calls of `next` return one after another are the first of those that were left. They and the
+-- nanoseconds that they leave add up to the nanoseconds that were left before.
+pub record PartsAndRest : Type 0 where
+  pub first : (old new : Breakdown) (parts : List (TimeUnit × ℕ)) → Yields YieldsPart old parts new
+      → parts_left old ≡ parts ++ parts_left new
+  pub rest : (old new : Breakdown) (parts : List (TimeUnit × ℕ)) → Yields YieldsPart old parts new
+      → nanos_left old ≡ sum_of_parts parts + nanos_left new
 
 -- Under these options the word is near the unit's names but names no unit, and the advised name names the unit.
 pub record IsAdvised (o : Options) (word name : Characters) : Type 0 where

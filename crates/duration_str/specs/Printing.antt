@@ -1,5 +1,5 @@
 -- The breakdown of a duration, and its printed text.
-use Rattle.std.specs.Prelude.{◌≡◌, ℕ, Bool, ◌+◌, ◌*◌, ◌<◌, List, [], ◌∷◌, ◌++◌, if◌then◌else◌, length, ◌⊎◌, ◌==◌, codes, decimal, flat_map}
+use Rattle.std.specs.Prelude.{◌≡◌, ℕ, Bool, ◌+◌, ◌*◌, ◌<◌, List, [], ◌∷◌, ◌++◌, if◌then◌else◌, length, ◌⊎◌, ◌==◌, codes, decimal, flat_map, map}
 use Rattle.duration_str.specs.declared.unit.TimeUnit.{TimeUnit}
 use Rattle.duration_str.specs.declared.unit.TimeUnit.TheVariants.{Second}
 use Rattle.duration_str.specs.declared.format.Style.{Style}
@@ -56,11 +56,14 @@ between style = codes " "
 abbrev pub printed_part : Style → ℕ → TimeUnit → Characters
 printed_part style n u = decimal n ++ (before_name style ++ name_in style (n == 1) u)
 
+-- the counts that are not 0, each with its unit
+abbrev pub nonzero : List TimeUnit → List ℕ → List (TimeUnit × ℕ)
+nonzero (u ∷ us) (n ∷ counts) = if n == 0 then nonzero us counts else (u, n) ∷ nonzero us counts
+nonzero _ _ = []
+
 -- the parts of the counts that are not 0
 abbrev pub printed_parts : Style → List TimeUnit → List ℕ → List Characters
-printed_parts style (u ∷ us) (n ∷ counts) =
-    if n == 0 then printed_parts style us counts else printed_part style n u ∷ printed_parts style us counts
-printed_parts style _ _ = []
+printed_parts style us counts = map (λ part. printed_part style part.1 part.0) (nonzero us counts)
 
 -- the parts, one after another, or a part with the count 0 and this unit if there are none
 abbrev pub joined_parts : Style → TimeUnit → List Characters → Characters

@@ -1,6 +1,6 @@
 //! Laws about the definitions. Each function does nothing, and its contract states a law, which is
 //! proved.
-ghost use Rattle.duration_str.specs.Laws.{OneSentence, OneCut, OneReading, AnswerIsReading, PlaceAndKinds, NoCalcAgrees, OptionsIdle, BlanksFree, SumOfTexts, Reorder, TwoFactors, GreatestBreakdown, EqualTexts, ReadsBack, LastLine, OlderTexts, AllParts, NeverMore, NearWords};
+ghost use Rattle.duration_str.specs.Laws.{OneSentence, OneCut, OneReading, AnswerIsReading, PlaceAndKinds, NoCalcAgrees, OptionsIdle, BlanksFree, SumOfTexts, Reorder, TwoFactors, GreatestBreakdown, EqualTexts, ReadsBack, LastLine, OlderTexts, AllParts, NeverMore, PartsAndRest, NearWords};
 
 /// At most one sentence spells a text, and the lexemes of that sentence are those of the text's tokens. Each text is
 /// either read as one value or refused for one cause, and the computed answer says which. So `3m31s` is spelled by `3`,
@@ -120,6 +120,13 @@ pub fn all_parts()
 #[tactic(auto, using(crate::proofs::LawProofs::NeverMore::never_more_holds))]
 pub fn never_more()
     ensures { NeverMore }
+{}
+
+/// The parts that `Breakdown` has returned so far, and the nanoseconds that they leave (`rest`), are together the whole
+/// duration. So two parts of 193,029 milliseconds are 3 minutes and 13 seconds, and leave 29,000,000 nanoseconds.
+#[tactic(auto, using(crate::proofs::LawProofs::PartsAndRest::parts_and_rest_hold))]
+pub fn parts_and_rest()
+    ensures { PartsAndRest }
 {}
 
 /// Under all options, the name that a fault's line advises for a word names the unit that people mean by the word, and

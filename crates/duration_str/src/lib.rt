@@ -1,6 +1,7 @@
 //! Duration expressions such as `3m + 13s + 29ms`, read and printed.
 #![tactic(auto)]
 
+mod breakdown;
 mod cause;
 mod config;
 mod dates;
@@ -24,6 +25,7 @@ pub mod token;
 pub mod top;
 pub mod unit;
 
+pub use breakdown::Breakdown;
 pub use error::{DError, DResult};
 pub use ext::HumanFormat;
 pub use format::{Format, Style, Units};

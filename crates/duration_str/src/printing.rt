@@ -5,7 +5,7 @@
 //! out, and so is what remains at the end. A duration of 0 is `0s`.
 //!
 //! Each function that writes begins after the first `at` bytes of the buffer, and returns where its part ends.
-ghost use Rattle.std.specs.Prelude.{ℕ, IfNone, IfSome, List, ◌≡◌, ◌+◌, ◌-◌, ◌<◌, ◌≤◌, ◌++◌, ◌^◌, ◌∷◌, [], take, length, decimal, encode_utf8_all, chars, IsUtf8, map, true, unwrap_or};
+ghost use Rattle.std.specs.Prelude.{ℕ, List, ◌≡◌, ◌+◌, ◌-◌, ◌<◌, ◌≤◌, ◌++◌, ◌^◌, ◌∷◌, [], take, length, decimal, encode_utf8_all, chars, IsUtf8};
 ghost use Rattle.std.specs.Duration.{as_nanos};
 ghost use Rattle.duration_str.specs.declared.format.Style.{Style};
 ghost use Rattle.duration_str.specs.declared.format.Units.{Units};
@@ -16,13 +16,13 @@ ghost use Rattle.duration_str.specs.declared.printing.TheConstants.{MAX_PRINTED_
 ghost use Rattle.duration_str.specs.Units.{nanos_of, row_of, unit_lengths, units};
 ghost use Rattle.duration_str.specs.Printing.{IsPrinted};
 ghost use Rattle.duration_str.specs.Laws.{counts_of};
-ghost use Rattle.duration_str.specs.Limits.{IsPrintedWithin, chosen, is_in, counts_within, lengths_within, most_len, text_within, units_within};
+ghost use Rattle.duration_str.specs.Limits.{IsPrintedWithin, chosen, counts_within, lengths_within, most_len, text_within, units_within};
 ghost use Rattle.duration_str.specs.Internal.PrintedBytes.{name_part, part_bytes, with_counts, with_gap, with_part, with_parts};
-ghost use Rattle.duration_str.specs.declared.format.TheConstants.Units.{ALL};
-ghost use Rattle.duration_str.specs.Internal.UnitTable.{AreRight, printed_row, units_in, units_of};
+ghost use Rattle.duration_str.specs.Internal.UnitTable.{printed_row};
 
+use crate::breakdown::Breakdown;
 use crate::format::{Format, Style, Units};
-use crate::unit::{PRINTED, Printed, TimeUnit, UNITS};
+use crate::unit::{Printed, TimeUnit, UNITS};
 use std::time::Duration;
 
 /// The length in bytes of the longest printed duration, except in the long style:
@@ -289,115 +289,6 @@ fn put_part(buffer: &mut [u8], at: usize, count: u64, row: &Printed, style: Styl
     put_name_in(buffer, end, row, count == 1, style)
 }
 
-/// The row of the longest unit of a set, and the bits of the set's other units. The set is given by
-/// its bits.
-#[inline(always)]
-fn longest(bits: u32) -> Option<(&'static Printed, u32)>
-    ensures right { IfSome result (λ first. first.0.now ≡ printed_row first.0.now.unit) }
-    ensures first { IfSome result (λ first.
-        units_of bits ≡ first.0.now.unit ∷ units_of first.1) }
-    ensures none { IfNone result (units_of bits ≡ []) }
-{
-    let rank = bits.trailing_zeros();
-    if rank as usize >= PRINTED.len() {
-        return None;
-    }
-    Some((&PRINTED[rank as usize], bits & !(1 << rank)))
-}
-
-/// Writes this many nanoseconds in the units of these rows, in at most `most` parts.
-#[inline(never)]
-fn put_all(
-    buffer: &mut [u8],
-    at: usize,
-    rows: &[Printed],
-    most: usize,
-    nanos: u64,
-    style: Style,
-) -> usize
-    requires right { AreRight rows.now }
-    requires start { at ≤ length buffer.old }
-    requires room { length (with_parts style (take at buffer.old) (units_in rows.now) most nanos)
-        + 4 ≤ length buffer.old }
-    ensures text { take result buffer.new
-        ≡ with_parts style (take at buffer.old) (units_in rows.now) most nanos }
-    ensures end { result ≤ length buffer.old }
-{
-    let mut end = at;
-    let mut left = most;
-    let mut rest = nanos;
-    for row in rows {
-        if row.nanos <= rest {
-            if left == 0 {
-                return end;
-            }
-            let (count, after) = row.division(rest);
-            end = put_part(buffer, end, count, row, style);
-            left -= 1;
-            rest = after;
-            if rest == 0 {
-                return end;
-            }
-        }
-    }
-    end
-}
-
-/// Writes this many nanoseconds in the units of a set, in at most `most` parts. It goes over the
-/// set's bits, since the set may lack many units.
-#[inline(never)]
-fn put_chosen(
-    buffer: &mut [u8],
-    at: usize,
-    set: Units,
-    most: usize,
-    nanos: u64,
-    style: Style,
-) -> usize
-    requires start { at ≤ length buffer.old }
-    requires room { length (with_parts style (take at buffer.old) (chosen set units) most nanos) + 4
-        ≤ length buffer.old }
-    ensures text { take result buffer.new
-        ≡ with_parts style (take at buffer.old) (chosen set units) most nanos }
-    ensures end { result ≤ length buffer.old }
-{
-    let mut end = at;
-    let mut left = most;
-    let mut rest = nanos;
-    let mut bits = u32::from(set.bits());
-    while let Some((first, others)) = longest(bits) {
-        bits = others;
-        if first.nanos <= rest {
-            if left == 0 {
-                return end;
-            }
-            let (count, after) = first.division(rest);
-            end = put_part(buffer, end, count, first, style);
-            left -= 1;
-            rest = after;
-            if rest == 0 {
-                return end;
-            }
-        }
-    }
-    end
-}
-
-/// The rows of the units that this many nanoseconds can be printed in. Most durations are below a day, so that the
-/// longer units need not be tried.
-#[inline(always)]
-fn rows_for(nanos: u64) -> &'static [Printed]
-    ensures right { AreRight result.now }
-    ensures same { (style : Style) (bytes : List ℕ) (most : ℕ)
-        → with_parts style bytes (units_in result.now) most nanos
-        ≡ with_parts style bytes units most nanos }
-{
-    if nanos < TimeUnit::Day.nanos() {
-        return &PRINTED[TimeUnit::Hour.rank()..];
-    }
-    &PRINTED
-}
-
 /// The set, without the units longer than an hour if the duration is below a day.
 #[inline(always)]
 fn set_for(nanos: u64, set: Units) -> Units
@@ -411,9 +302,8 @@ fn set_for(nanos: u64, set: Units) -> Units
     set
 }
 
-/// Writes this many nanoseconds in the units of a set, in at most `most` parts. The set of all
-/// units takes less time than others.
-#[inline(always)]
+/// Writes this many nanoseconds in the units of a set, in at most `most` parts.
+#[inline(never)]
 fn put_parts(
     buffer: &mut [u8],
     at: usize,
@@ -429,10 +319,12 @@ fn put_parts(
         ≡ with_parts style (take at buffer.old) (chosen set units) most nanos }
     ensures end { result ≤ length buffer.old }
 {
-    if set == Units::ALL {
-        return put_all(buffer, at, rows_for(nanos), most, nanos, style);
+    let mut end = at;
+    let mut parts = Breakdown::of(u128::from(nanos), set_for(nanos, set), most);
+    while let Some((row, count)) = parts.next_part() {
+        end = put_part(buffer, end, count as u64, row, style);
     }
-    put_chosen(buffer, at, set_for(nanos, set), most, nanos, style)
+    end
 }
 
 /// Writes a part and a space after it. If the count is 0, it returns `at`, so that the next part is written over this
@@ -503,15 +395,12 @@ fn put_long(buffer: &mut [u8], set: Units, most: usize, nanos: u128, style: Styl
     ensures text { take result buffer.new ≡ with_parts style [] (chosen set units) most nanos }
     ensures end { result ≤ length buffer.old }
 {
-    let Some((row, _)) = longest(u32::from(set.bits())) else {
+    let mut parts = Breakdown::of(nanos, set, most);
+    let Some((row, count)) = parts.next_part() else {
         return 0;
     };
-    if most == 0 {
-        return 0;
-    }
-    let length = u128::from(row.nanos);
-    let end = put_first(buffer, nanos / length, row, style);
-    put_parts(buffer, end, set, most - 1, (nanos % length) as u64, style)
+    let end = put_first(buffer, count, row, style);
+    put_parts(buffer, end, set, most - 1, parts.rest() as u64, style)
 }
 
 #[tactic(auto, using(crate::proofs::Printer::LimitsLemmas::with_nothing))]

@@ -235,6 +235,21 @@ impl Printed {
             (count + 1, rest - self.nanos)
         }
     }
+
+    /// Divides as `division` does, also if there are 2^64 nanoseconds or more.
+    #[inline(always)]
+    pub(crate) fn wide_division(&self, nanos: u128) -> (u128, u128)
+        requires right { self.now ≡ printed_row self.now.unit }
+        ensures count { result.0 ≡ nanos / nanos_of self.now.unit }
+        ensures rest { result.1 ≡ nanos % nanos_of self.now.unit }
+    {
+        if let Ok(small) = u64::try_from(nanos) {
+            let (count, rest) = self.division(small);
+            return (u128::from(count), u128::from(rest));
+        }
+        let length = u128::from(self.nanos);
+        (nanos / length, nanos % length)
+    }
 }
 
 /// The names and lengths that printing uses, the longest unit first. The names that are read are in another table, so

@@ -1,12 +1,14 @@
 //! Shows the time that is left.
 #![tactic(auto)]
 
-ghost use Rattle.std.specs.Prelude.{◌≤◌, ℕ, chars};
+ghost use Rattle.std.specs.Prelude.{◌≡◌, ◌+◌, ◌≤◌, ℕ, List, chars};
+ghost use Rattle.duration_str.specs.Breakdown.{AreParts, sum_of_parts};
+ghost use Rattle.duration_str.specs.declared.unit.TimeUnit.{TimeUnit};
 ghost use Rattle.uses.specs.Common.{as_nanos, IsPrintedIn};
-ghost use Rattle.uses.specs.Countdown.{IsShown};
+ghost use Rattle.uses.specs.Countdown.{coarse, IsShown};
 
-use duration_str::laws::{all_parts, never_more};
-use duration_str::{Format, STYLED_BUFFER_SIZE, Style, TimeUnit, write_within};
+use duration_str::laws::{all_parts, never_more, parts_and_rest};
+use duration_str::{Breakdown, Format, STYLED_BUFFER_SIZE, Style, TimeUnit, write_within};
 use std::time::Duration;
 
 /// Writes the time that is left to the caller's buffer, and returns the text. It has at most two parts, and no unit
@@ -25,6 +27,21 @@ pub fn time_left<'b>(left: &Duration, buffer: &'b mut [u8; STYLED_BUFFER_SIZE]) 
         Format::whole().smallest(TimeUnit::Second).parts(2),
         buffer,
     )
+}
+
+/// Returns the nanoseconds that `time_left` does not show. The parts that it shows have the others.
+///
+/// ```text
+/// not_shown(&Duration::new(5_400, 999_999_999)) // 999_999_999
+/// ```
+pub fn not_shown(left: &Duration) -> u128
+    ensures { (parts : List (TimeUnit × ℕ)) × AreParts coarse (as_nanos left.now) parts
+        × (as_nanos left.now ≡ sum_of_parts parts + result) }
+{
+    parts_and_rest();
+    let mut parts = Breakdown::new(left, Format::whole().smallest(TimeUnit::Second).parts(2));
+    while let Some(_) = parts.next() {}
+    parts.rest()
 }
 
 /// Writes the duration to the caller's buffer, in at most `parts` parts and in a style, and returns the text. With

@@ -20,7 +20,7 @@ pub use cache::{canonical, key, read_back, share_entry};
 pub use completion::{Completion, complete, is_unfinished};
 pub use configuration::configured;
 pub use cost::price;
-pub use countdown::{in_parts, time_left};
+pub use countdown::{in_parts, not_shown, time_left};
 pub use dates::{cut_off, due};
 pub use help::{Example, examples};
 pub use line::{without_line_feed, write_line};

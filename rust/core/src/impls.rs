@@ -1,5 +1,6 @@
 //! Traits and methods that the types have in addition to the proved source. They are in this crate,
 //! since only the crate of a type can implement them.
+use super::breakdown::Breakdown;
 use super::cause::Cause;
 use super::fault::Fault;
 use super::format::{Format, Style};
@@ -9,6 +10,7 @@ use super::unit::{TimeUnit, UNITS};
 use core::cmp::Ordering;
 use core::error::Error;
 use core::fmt;
+use core::iter::FusedIterator;
 use core::str::FromStr;
 
 impl Options {
@@ -62,6 +64,9 @@ impl Default for Options {
         Options::off()
     }
 }
+
+/// Its contract says that after a `None` no part is left.
+impl FusedIterator for Breakdown {}
 
 /// [`Format::whole`].
 impl Default for Format {

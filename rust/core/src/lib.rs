@@ -8,6 +8,8 @@ mod impls; // Written by hand.
 pub use self::impls::{UnknownStyle, UnknownUnit};
 
 #[forbid(unsafe_code)]
+mod breakdown;
+#[forbid(unsafe_code)]
 mod cause;
 #[forbid(unsafe_code)]
 mod eye;
@@ -38,6 +40,7 @@ mod token;
 #[forbid(unsafe_code)]
 mod unit;
 
+pub use self::breakdown::Breakdown;
 pub use self::format::{Format, Style, Units};
 pub use self::one_line::{MAX_ONE_LINE_LEN, ONE_LINE_BUFFER_SIZE};
 pub use self::parser::{

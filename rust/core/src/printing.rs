@@ -7,8 +7,9 @@
 //!
 //! Each function that writes begins after the first `at` bytes of the buffer, and returns where its part ends.
 
+use crate::breakdown::Breakdown;
 use crate::format::{Format, Style, Units};
-use crate::unit::{PRINTED, Printed, TimeUnit, UNITS};
+use crate::unit::{Printed, TimeUnit, UNITS};
 use core::time::Duration;
 
 /// The length in bytes of the longest printed duration, except in the long style:
@@ -195,90 +196,6 @@ fn put_part(buffer: &mut [u8], at: usize, count: u64, row: &Printed, style: Styl
     put_name_in(buffer, end, row, count == 1, style)
 }
 
-/// The row of the longest unit of a set, and the bits of the set's other units. The set is given by
-/// its bits.
-#[inline(always)]
-fn longest(bits: u32) -> Option<(&'static Printed, u32)> {
-    let rank = bits.trailing_zeros();
-    if rank as usize >= PRINTED.len() {
-        return None;
-    }
-    Some((&PRINTED[rank as usize], bits & !(1 << rank)))
-}
-
-/// Writes this many nanoseconds in the units of these rows, in at most `most` parts.
-#[inline(never)]
-fn put_all(
-    buffer: &mut [u8],
-    at: usize,
-    rows: &[Printed],
-    most: usize,
-    nanos: u64,
-    style: Style,
-) -> usize {
-    let mut end = at;
-    let mut left = most;
-    let mut rest = nanos;
-    for row in rows {
-        if row.nanos <= rest {
-            if left == 0 {
-                return end;
-            }
-            let (count, after) = row.division(rest);
-            end = put_part(buffer, end, count, row, style);
-            left -= 1;
-            rest = after;
-            if rest == 0 {
-                return end;
-            }
-        }
-    }
-    end
-}
-
-/// Writes this many nanoseconds in the units of a set, in at most `most` parts. It goes over the
-/// set's bits, since the set may lack many units.
-#[inline(never)]
-fn put_chosen(
-    buffer: &mut [u8],
-    at: usize,
-    set: Units,
-    most: usize,
-    nanos: u64,
-    style: Style,
-) -> usize {
-    let mut end = at;
-    let mut left = most;
-    let mut rest = nanos;
-    let mut bits = u32::from(set.bits());
-    while let Some((first, others)) = longest(bits) {
-        bits = others;
-        if first.nanos <= rest {
-            if left == 0 {
-                return end;
-            }
-            let (count, after) = first.division(rest);
-            end = put_part(buffer, end, count, first, style);
-            left -= 1;
-            rest = after;
-            if rest == 0 {
-                return end;
-            }
-        }
-    }
-    end
-}
-
-/// The rows of the units that this many nanoseconds can be printed in. Most durations are below a day, so that the
-/// longer units need not be tried.
-#[inline(always)]
-fn rows_for(nanos: u64) -> &'static [Printed] {
-    if nanos < TimeUnit::Day.nanos() {
-        return &PRINTED[TimeUnit::Hour.rank()..];
-    }
-    &PRINTED
-}
-
 /// The set, without the units longer than an hour if the duration is below a day.
 #[inline(always)]
 fn set_for(nanos: u64, set: Units) -> Units {
@@ -288,9 +205,8 @@ fn set_for(nanos: u64, set: Units) -> Units {
     set
 }
 
-/// Writes this many nanoseconds in the units of a set, in at most `most` parts. The set of all
-/// units takes less time than others.
-#[inline(always)]
+/// Writes this many nanoseconds in the units of a set, in at most `most` parts.
+#[inline(never)]
 fn put_parts(
     buffer: &mut [u8],
     at: usize,
@@ -299,10 +215,12 @@ fn put_parts(
     nanos: u64,
     style: Style,
 ) -> usize {
-    if set == Units::ALL {
-        return put_all(buffer, at, rows_for(nanos), most, nanos, style);
+    let mut end = at;
+    let mut parts = Breakdown::of(u128::from(nanos), set_for(nanos, set), most);
+    while let Some((row, count)) = parts.next_part() {
+        end = put_part(buffer, end, count as u64, row, style);
     }
-    put_chosen(buffer, at, set_for(nanos, set), most, nanos, style)
+    end
 }
 
 /// Writes a part and a space after it. If the count is 0, it returns `at`, so that the next part is written over this
@@ -347,15 +265,12 @@ fn put_first(buffer: &mut [u8], count: u128, row: &Printed, style: Style) -> usi
 /// than 2^64 nanoseconds.
 #[inline(never)]
 fn put_long(buffer: &mut [u8], set: Units, most: usize, nanos: u128, style: Style) -> usize {
-    let Some((row, _)) = longest(u32::from(set.bits())) else {
+    let mut parts = Breakdown::of(nanos, set, most);
+    let Some((row, count)) = parts.next_part() else {
         return 0;
     };
-    if most == 0 {
-        return 0;
-    }
-    let length = u128::from(row.nanos);
-    let end = put_first(buffer, nanos / length, row, style);
-    put_parts(buffer, end, set, most - 1, (nanos % length) as u64, style)
+    let end = put_first(buffer, count, row, style);
+    put_parts(buffer, end, set, most - 1, parts.rest() as u64, style)
 }
 
 #[inline(always)]

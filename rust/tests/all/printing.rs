@@ -1,12 +1,12 @@
 //! Printed durations.
 use crate::{Printed, PrintedIn, in_styles, vectors};
 use duration_str::{
-    Format, FormattedDuration, HumanDuration, HumanFormat, Options, TimeUnit, format_duration,
-    parse_with, write_human, write_within,
+    Format, FormattedDuration, HumanDuration, HumanFormat, Options, Style, TimeUnit,
+    format_duration, parse_with, write_human, write_within,
 };
-use std::time::Duration;
 #[cfg(any(feature = "chrono", feature = "time"))]
-use {duration_str::Style, proptest::prelude::*};
+use proptest::prelude::*;
+use std::time::Duration;
 
 /// The duration that this text stands for, also if it is too long to be read by the crate.
 fn length_of(text: &str) -> Duration {
@@ -45,6 +45,81 @@ fn prints_the_vectors_in_chosen_units() {
             ] {
                 assert_eq!(other.to_string(), *printed, "{text} in {names:?}");
             }
+        }
+    }
+}
+
+/// The rows were worked out by hand. Counts of 0 are left out, the style does not matter, and the
+/// rest is what the parts leave.
+#[test]
+fn breaks_durations_down() {
+    use TimeUnit::{Day, Hour, MilliSecond, Minute, NanoSecond, Second, Week, Year};
+    let build = format_duration(Duration::from_millis(193_029));
+    let hours = format_duration(Duration::new(3_600, 5));
+    let year = format_duration(Duration::new(400 * 86_400, 7)).only(&[Day, Year]);
+    let most = format_duration(Duration::MAX);
+    for (printed, parts, rest) in [
+        (
+            build,
+            &[(Minute, 3), (Second, 13), (MilliSecond, 29)][..],
+            0,
+        ),
+        (build.parts(2), &[(Minute, 3), (Second, 13)], 29_000_000),
+        (
+            build.parts(1).style(Style::Long),
+            &[(Minute, 3)],
+            13_029_000_000,
+        ),
+        (build.parts(0), &[], 193_029_000_000),
+        (build.only(&[]), &[], 193_029_000_000),
+        (build.smallest(Hour), &[], 193_029_000_000),
+        (
+            build.largest(Second).smallest(Second),
+            &[(Second, 193)],
+            29_000_000,
+        ),
+        (hours, &[(Hour, 1), (NanoSecond, 5)], 0),
+        (hours.parts(1), &[(Hour, 1)], 5),
+        (year, &[(Year, 1), (Day, 35)], 7),
+        (format_duration(Duration::ZERO), &[], 0),
+        (
+            most.only(&[Week]),
+            &[(Week, 30_500_568_904_943)],
+            25_215_999_999_999,
+        ),
+        (
+            most.only(&[NanoSecond]),
+            &[(NanoSecond, 18_446_744_073_709_551_615_999_999_999)],
+            0,
+        ),
+        (
+            most.only(&[Year, NanoSecond]),
+            &[(Year, 584_942_417_355), (NanoSecond, 2_271_615_999_999_999)],
+            0,
+        ),
+    ] {
+        let mut breakdown = printed.breakdown();
+        assert_eq!(breakdown.rest(), printed.get_ref().as_nanos());
+        assert_eq!(breakdown.by_ref().collect::<Vec<_>>(), parts, "{printed}");
+        assert_eq!(breakdown.rest(), rest, "{printed}");
+        assert_eq!(breakdown.next(), None, "{printed}");
+    }
+}
+
+/// A text is its parts, joined. So the numbers of the vectors' short texts are the counts.
+#[test]
+fn breaks_the_vectors_down_as_they_are_printed() {
+    for PrintedIn(text, names, parts, short, _) in vectors().printed_in {
+        let units: Vec<TimeUnit> = names.iter().map(|name| unit(name)).collect();
+        let printed = format_duration(length_of(&text)).only(&units).parts(parts);
+        let joined: Vec<String> = printed
+            .breakdown()
+            .map(|(unit, count)| format!("{count}{unit}"))
+            .collect();
+        if joined.is_empty() {
+            assert!(short.starts_with('0'), "{text} in {names:?}");
+        } else {
+            assert_eq!(joined.join(" "), short, "{text} in {names:?}");
         }
     }
 }

@@ -1,9 +1,9 @@
 -- A text printed in a format stands for the greatest duration that fits into the format.
-use Rattle.duration_str.proofs.Common.{Format, IsGreatestBreakdown, IsReadWith, List, NeverMore, Option, Options, TimeUnit, Year, [], ap, arith, counts_of, counts_within, div-eq_of_lt-le, le-div_iff_mul-le, le-mul_of_pos_right, length, lengths_within, map, map-append, nanos_of, nat_lt, part_count, refl, rules, subst, sym, terminal_of, text_within, units, units_within, weighted_sum, zero-div, zero_unit, ℕ, ◌%◌, ◌*◌, ◌++◌, ◌+◌, ◌/◌, ◌<◌, ◌^◌, ◌∙◌, ◌∷◌, ◌≡◌, ◌≤◌, last_unit, shorter_units}
+use Rattle.duration_str.proofs.Common.{Format, IsGreatestBreakdown, IsReadWith, List, NeverMore, Option, Options, TimeUnit, Year, [], ap, arith, counts_of, counts_within, div-eq_of_lt-le, le-div_iff_mul-le, le-mul_of_pos_right, length, lengths_within, map, map-append, nanos_of, nat_lt, nonzero, part_count, refl, rules, subst, sym, terminal_of, text_within, units, units_within, weighted_sum, zero-div, zero_unit, ℕ, ◌%◌, ◌*◌, ◌++◌, ◌+◌, ◌/◌, ◌<◌, ◌^◌, ◌∙◌, ◌∷◌, ◌≡◌, ◌≤◌, last_unit, shorter_units}
 use Rattle.std.specs.Prelude.{filter}
 use Rattle.duration_str.proofs.LawProofs.GreatestBreakdown.{breakdown_of, EndInOne, one_greatest}
 use Rattle.duration_str.proofs.LawProofs.GreatestWithin.{ArePositive, greatest_within, left_whole, lengths_positive, one_greatest_within, some_length, within_each, within_few, within_sum}
-use Rattle.duration_str.proofs.Printer.PrintingLemmas.{all_spelled, EachBelow, kept, lexemes, or_zero, parts_kept, sum_kept, sum_or_zero, terminals, terminals_kept, terminals_or_zero, units_plus, units_sentence}
+use Rattle.duration_str.proofs.Printer.PrintingLemmas.{all_spelled, EachBelow, lexemes, or_zero, sum_kept, sum_or_zero, terminals, terminals_kept, terminals_or_zero, units_plus, units_sentence}
 use Rattle.duration_str.proofs.Sentences.AnswerLemmas.{sum_read}
 
 -- ---- The duration that is printed
@@ -94,14 +94,14 @@ reads : (default_unit : Option TimeUnit) (o : Options) (format : Format) (counts
 reads default_unit o format counts text each small same =
     let us = units_within format in
     let zero = zero_unit us in
-    let ps = kept us counts in
+    let ps = nonzero us counts in
     let below = each_below (lengths_within format) counts (lengths_positive us) each small in
     let are : map (terminal_of o) (lexemes format.style (or_zero zero ps)) ≡ terminals (or_zero zero ps) =
     terminals_or_zero o format.style zero ps (terminals_kept o format.style us counts below) in
     sum_read {lexemes = lexemes format.style (or_zero zero ps)} (record {
       sentence = (
         rw are (units_sentence default_unit o.no_calc zero ps),
-        rw (same, parts_kept format.style us counts) (all_spelled format.style zero ps),
+        rw same (all_spelled format.style zero ps),
       );
       plus = rw are (units_plus (or_zero zero ps));
     }) (rw (are, sum_or_zero default_unit zero ps, sum_kept default_unit us counts)) small

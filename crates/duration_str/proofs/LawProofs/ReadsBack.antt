@@ -1,14 +1,14 @@
 -- The text of a duration below 2^64 nanoseconds is read back as that duration, and the text of any other overflows.
-use Rattle.duration_str.proofs.Common.{Bool, FitsDuration, IsPrintedIn, IsReadWith, IsRefusedWith, List, None, Option, Options, Overflow, ReadsBack, Some, Style, Terminal, TimeUnit, Year, [], arith, counts_of, drop, early, early_fault, le-ltb, lt-ltb, map, nanos_of, number, rules, sum_of, sym, terminal_of, terms_of, unit_lengths, units, word, ℕ, ◌*◌, ◌+◌, ◌/◌, ◌<◌, ◌^◌, ◌∷◌, ◌≡◌, ◌≤◌}
+use Rattle.duration_str.proofs.Common.{Bool, FitsDuration, IsPrintedIn, IsReadWith, IsRefusedWith, List, None, Option, Options, Overflow, ReadsBack, Some, Style, Terminal, TimeUnit, Year, [], arith, counts_of, drop, early, early_fault, le-ltb, lt-ltb, map, nanos_of, nonzero, number, rules, sum_of, sym, terminal_of, terms_of, unit_lengths, units, word, ℕ, ◌*◌, ◌+◌, ◌/◌, ◌<◌, ◌^◌, ◌∷◌, ◌≡◌, ◌≤◌}
 use Rattle.duration_str.proofs.Sentences.AnswerLemmas.{EachFits, sentence_refused, sum_fits_each, sum_overflows, sum_read, terms_of_lexemes}
-use Rattle.duration_str.proofs.Printer.PrintingLemmas.{duration_lexemes, duration_sum, kept, printed_is_sum, terminals, terminals_of_duration}
+use Rattle.duration_str.proofs.Printer.PrintingLemmas.{duration_lexemes, duration_sum, printed_is_sum, terminals, terminals_of_duration}
 
 abbrev years : ℕ → ℕ
 years nanos = nanos / nanos_of Year
 
 -- the terminals that follow the years in a printed text
 abbrev after_years : ℕ → List Terminal
-after_years nanos = terminals (kept (drop 1 units) (drop 1 (counts_of unit_lengths nanos)))
+after_years nanos = terminals (nonzero (drop 1 units) (drop 1 (counts_of unit_lengths nanos)))
 
 years_first : (o : Options) (style : Style) (nanos : ℕ) → FitsDuration nanos → nanos_of Year ≤ nanos
     → map (terminal_of o) (duration_lexemes style nanos) ≡ number (years nanos) ∷ word (Some Year) ∷ after_years nanos

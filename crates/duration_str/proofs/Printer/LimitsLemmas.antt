@@ -1,5 +1,5 @@
 -- Lemmas about the steps of printing within limits, and about the most bytes that a text has.
-use Rattle.duration_str.proofs.Common.{add_assoc, All, append_assoc, ap, arith, between, byte_len, cases_Bool, chars, chars_from_encodes, counts_within, decimal, div-le_self, drop, drop_more, encode_utf8_all, Format, inl, inr, IsPrintedWithin, IsUtf8, le-div_iff_mul-le, leb, leb-true, length, length-append, lengths_within, List, ltb, ltb-true, map, most_len, nanos_of, nat_tests, part_bytes, Printed, printed_row, rank_of, refl, row_of, rules, slice_index_or, Style, sym, take, take-append-add, text_within, TimeUnit, units, units_in, units_within, with_counts, with_gap, with_part, Year, zero-div, zero_unit, [], ℕ, ◌%◌, ◌*◌, ◌++◌, ◌+◌, ◌-◌, ◌∙◌, ◌/◌, ◌<◌, ◌==◌, ◌^◌, ◌∷◌, ◌≡◌, ◌≤◌, Bool, Day, Hour, list_all, true, and_parts, with_parts, Units}
+use Rattle.duration_str.proofs.Common.{add_assoc, append_assoc, ap, arith, between, byte_len, cases_Bool, chars, chars_from_encodes, counts_within, decimal, div-le_self, drop, encode_utf8_all, Format, inl, inr, IsPrintedWithin, IsUtf8, le-div_iff_mul-le, leb, leb-true, length, length-append, lengths_within, List, ltb, ltb-true, map, most_len, nanos_of, nat_tests, part_bytes, Printed, printed_row, rank_of, refl, row_of, rules, slice_index_or, Style, sym, take, take-append-add, text_within, TimeUnit, units, units_within, with_counts, with_gap, with_part, Year, zero-div, zero_unit, [], ℕ, ◌%◌, ◌*◌, ◌++◌, ◌+◌, ◌-◌, ◌∙◌, ◌/◌, ◌<◌, ◌==◌, ◌^◌, ◌∷◌, ◌≡◌, ◌≤◌, Bool, Day, Hour, list_all, true, and_parts, with_parts, Units}
 use Rattle.duration_str.proofs.Printer.SetLemmas.{chosen_in, chosen_none, chosen_out, hours_chosen}
 use Rattle.duration_str.specs.Limits.{chosen, is_in, up_to}
 use Rattle.std.specs.Prelude.{max}
@@ -8,9 +8,8 @@ use Rattle.duration_str.proofs.Printer.DigitLemmas.{length_smaller}
 use Rattle.duration_str.proofs.Printer.PrintedBytesLemmas.{AreShort, ended, ended_parts, IsUtf8-joined, no_gap}
 use Rattle.duration_str.proofs.LawProofs.GreatestWithin.{below_length, greatest_within, some_length}
 use Rattle.duration_str.specs.Internal.PrintedBytes.{digits}
-use borrow.Rule.Slice.PartMut.{mid_of, put_mid}
-use Rattle.std.proofs.lemmas.List.{drop-map, take-append-le, take-map}
-use Rattle.std.proofs.lemmas.List.Elements.{All-cons, All-drop, All-nil, All-take}
+use borrow.Rule.Slice.PartMut.{put_mid}
+use Rattle.std.proofs.lemmas.List.{take-append-le}
 
 -- ---- Units of a day or longer
 
@@ -31,10 +30,6 @@ without_days style (u ∷ longer) shorter bytes most nanos long h =
     let more : nanos < nanos_of u = omega (arith, leb-true (nanos_of Day) (nanos_of u) parts.0) in
     without_days style longer shorter bytes most nanos parts.1 h
     ∙ unit_skipped style u (longer ++ shorter) bytes most nanos more
-
-pub below_day : (style : Style) (bytes : List ℕ) (most nanos : ℕ) → nanos < nanos_of Day
-    → with_parts style bytes (drop 5 units) most nanos ≡ with_parts style bytes units most nanos
-below_day style bytes most nanos h = without_days style (take 5 units) (drop 5 units) bytes most nanos refl h
 
 -- If all of these units are a day or longer, so are those among them that are in the set.
 days_chosen : (set : Units) (us : List TimeUnit) → list_all is_days us ≡ true
@@ -70,7 +65,7 @@ pub with_none : (style : Style) (us : List TimeUnit) (bytes : List ℕ) (most na
 with_none style [] bytes most nanos none = refl
 with_none style (u ∷ us) bytes most nanos none = rw none (with_none style us bytes 0 nanos refl)
 
-part_grows : (style : Style) (bytes : List ℕ) (u : TimeUnit) (n : ℕ) → length bytes ≤ length (with_part style bytes u n)
+pub part_grows : (style : Style) (bytes : List ℕ) (u : TimeUnit) (n : ℕ) → length bytes ≤ length (with_part style bytes u n)
 part_grows style bytes u n = search (rules, length-append)
 
 counts_grow : (style : Style) (us : List TimeUnit) (bytes counts : List ℕ)
@@ -85,20 +80,6 @@ pub with_nothing : (style : Style) (us : List TimeUnit) (bytes : List ℕ) (most
 with_nothing style [] bytes most nanos none = refl
 with_nothing style (u ∷ us) bytes most nanos none =
     search (rules, zero-div, with_nothing style us bytes most nanos none)
-
--- If all parts fit into the room, the first one does.
-pub first_room : (style : Style) (u : TimeUnit) (us : List TimeUnit) (bytes : List ℕ) (most nanos room : ℕ)
-    → 1 ≤ most → nanos_of u ≤ nanos
-    → length (with_counts style bytes (u ∷ us) (counts_within (map nanos_of (u ∷ us)) most nanos)) ≤ room
-    → length (with_part style bytes u (nanos / nanos_of u)) ≤ room
-first_room style u us bytes most nanos room left h fits = search (rules, counts_grow)
-
--- If the first part leaves nothing, it is the only part.
-pub only_part : (style : Style) (u : TimeUnit) (us : List TimeUnit) (bytes : List ℕ) (most nanos : ℕ)
-    → 1 ≤ most → nanos_of u ≤ nanos → nanos % nanos_of u ≡ 0
-    → with_part style bytes u (nanos / nanos_of u)
-    ≡ with_counts style bytes (u ∷ us) (counts_within (map nanos_of (u ∷ us)) most nanos)
-only_part style u us bytes most nanos left h nothing = search (rules, with_nothing)
 
 -- ---- The most bytes
 
@@ -220,28 +201,6 @@ printed_within format nanos bytes utf8 same =
 abbrev pub beyond : Printed
 beyond = record { unit = Year; nanos = 0; reciprocal = 0; letters = []; width = 0 }
 
-abbrev IsRight : Printed → Type 0
-IsRight row = row ≡ printed_row row.unit
-
-pub rows_right : (us : List TimeUnit) → All IsRight (map printed_row us)
-rows_right [] = All-nil IsRight
-rows_right (u ∷ us) = All-cons IsRight (printed_row u) (map printed_row us) refl (rows_right us)
-
-pub part_right : (a k : ℕ) → All IsRight (mid_of a k (map printed_row units))
-part_right a k = All-take IsRight k _ (All-drop IsRight a _ (rows_right units))
-
-pub part_units : (a k : ℕ) (rows : List Printed) → units_in (mid_of a k rows) ≡ mid_of a k (units_in rows)
-part_units a k rows = search (rules, drop-map, take-map)
-
-pub later_right : (a : ℕ) → All IsRight (drop a (map printed_row units))
-later_right a = All-drop IsRight a _ (rows_right units)
-
--- The rows from a position on are the row there and the rows after it, and that row has its unit's length.
-pub row_from : (rows : List Printed) (at : ℕ) → at < length rows → All IsRight rows
-    → (drop at rows ≡ slice_index_or rows at beyond ∷ drop (at + 1) rows)
-    × ((slice_index_or rows at beyond).nanos ≡ nanos_of (slice_index_or rows at beyond).unit)
-row_from rows at inside right = search (rules, drop_more)
-
 pub row_at : (u : TimeUnit) → slice_index_or (map printed_row units) (rank_of u) beyond ≡ printed_row u
 row_at = each_unit (λ u. slice_index_or (map printed_row units) (rank_of u) beyond ≡ printed_row u) assumption
 
@@ -284,16 +243,6 @@ name_spaced at k bytes u inside =
     rw add_assoc
     (take_part at k (width + 1) bytes (printed_row u).letters inside (omega (arith, letters_len u, name_short u))
     ∙ rw (name_space u, append_assoc))
-
--- If the first unit is no longer than the duration, its part comes first, and the other parts print the remainder.
-pub first_taken : (style : Style) (u : TimeUnit) (us : List TimeUnit) (bytes : List ℕ) (most nanos : ℕ) → 1 ≤ most
-    → nanos_of u ≤ nanos
-    → with_parts style (with_part style bytes u (nanos / nanos_of u)) (u ∷ us) (most - 1) (nanos % nanos_of u)
-    ≡ with_parts style bytes (u ∷ us) most nanos
-first_taken style u us bytes most nanos left h =
-    sym (unit_skipped style u us (with_part style bytes u (nanos / nanos_of u)) (most - 1) (nanos % nanos_of u)
-    (omega (arith, some_length u)))
-    ∙ search rules
 
 pub each_short : (u : TimeUnit) → nanos_of u < 2 ^ 64
 each_short u = ltb-true (nanos_of u) (2 ^ 64) (all_units (λ v. ltb (nanos_of v) (2 ^ 64)) refl u)

@@ -1,58 +1,48 @@
 -- A printed text is spelled by a sum whose total is the duration.
-use Rattle.duration_str.proofs.Common.{AllPlus, append-nil, arith, between, Bool, common_steps, Compact, counts_of, decimal, drop, eqb-true, false, FitsDuration, flat_map, if◌then◌else◌, IsBlank, IsPrintedIn, IsSentence, joined_parts, List, Long, map, name_in, nanos_of, number, Option, Options, printed_counts, printed_part, printed_parts, refl, row_of, rules, Second, Short, Some, Spells, Style, sum_of, Terminal, terminal_of, terms_of, TimeUnit, true, unit_lengths, units, weighted_sum, word, Year, [], ℕ, ⊤, ◌%◌, ◌++◌, ◌<◌, ◌==◌, ◌^◌, ◌∷◌, ◌≡◌}
+use Rattle.duration_str.proofs.Common.{AllPlus, append-nil, arith, between, Bool, common_steps, Compact, counts_of, decimal, drop, eqb-true, false, FitsDuration, flat_map, IsBlank, IsPrintedIn, IsSentence, joined_parts, List, Long, map, name_in, nanos_of, nonzero, number, Option, Options, printed_counts, printed_part, refl, row_of, rules, Second, Short, Some, Spells, Style, sum_of, Terminal, terminal_of, terms_of, TimeUnit, true, unit_lengths, units, weighted_sum, word, Year, [], ℕ, ⊤, ◌%◌, ◌++◌, ◌<◌, ◌==◌, ◌^◌, ◌∷◌, ◌≡◌}
 use Rattle.duration_str.proofs.Characters.NumberLemmas.{decimal_terminal}
 use Rattle.duration_str.proofs.LawProofs.GreatestBreakdown.{greatest_breakdown_holds, one_greatest}
 use Rattle.duration_str.proofs.Sentences.AnswerLemmas.{IsSumOf, terms_of_lexemes}
 
--- the nonzero counts, each with its unit
-abbrev pub kept : List TimeUnit → List ℕ → List (ℕ × TimeUnit)
-kept (u ∷ us) (n ∷ counts) = if n == 0 then kept us counts else (n, u) ∷ kept us counts
-kept _ _ = []
-
 -- the counts, or a count of 0 of this unit if there are none
-abbrev pub or_zero : TimeUnit → List (ℕ × TimeUnit) → List (ℕ × TimeUnit)
-or_zero u [] = (0, u) ∷ []
+abbrev pub or_zero : TimeUnit → List (TimeUnit × ℕ) → List (TimeUnit × ℕ)
+or_zero u [] = (u, 0) ∷ []
 or_zero u (p ∷ ps) = p ∷ ps
 
 -- the lexemes of counts with their units
-abbrev pub lexemes : Style → List (ℕ × TimeUnit) → List (List ℕ)
+abbrev pub lexemes : Style → List (TimeUnit × ℕ) → List (List ℕ)
 lexemes style [] = []
-lexemes style (p ∷ ps) = decimal p.0 ∷ name_in style (p.0 == 1) p.1 ∷ lexemes style ps
+lexemes style (p ∷ ps) = decimal p.1 ∷ name_in style (p.1 == 1) p.0 ∷ lexemes style ps
 
-abbrev pub terminals : List (ℕ × TimeUnit) → List Terminal
+abbrev pub terminals : List (TimeUnit × ℕ) → List Terminal
 terminals [] = []
-terminals (p ∷ ps) = number p.0 ∷ word (Some p.1) ∷ terminals ps
+terminals (p ∷ ps) = number p.1 ∷ word (Some p.0) ∷ terminals ps
 
 -- the counts, with their units, in the printed text of a duration
-abbrev pub printed : ℕ → List (ℕ × TimeUnit)
-printed nanos = or_zero Second (kept units (counts_of unit_lengths nanos))
+abbrev pub printed : ℕ → List (TimeUnit × ℕ)
+printed nanos = or_zero Second (nonzero units (counts_of unit_lengths nanos))
 
 abbrev pub duration_lexemes : Style → ℕ → List (List ℕ)
 duration_lexemes style nanos = lexemes style (printed nanos)
 
 -- ---- The lexemes spell the text
 
-abbrev pub part : Style → ℕ × TimeUnit → List ℕ
-part style p = printed_part style p.0 p.1
-
-pub parts_kept : (style : Style) (us : List TimeUnit) (counts : List ℕ)
-    → printed_parts style us counts ≡ map (part style) (kept us counts)
-parts_kept style (u ∷ us) (n ∷ counts) = search (rules, parts_kept style us counts)
-parts_kept style _ _ = refl
+abbrev pub part : Style → TimeUnit × ℕ → List ℕ
+part style p = printed_part style p.1 p.0
 
 -- Lexemes that spell the rest, with the two lexemes of a part before them, spell the part and the rest.
-part_spelled : (style : Style) (blanks rest : List ℕ) (p : ℕ × TimeUnit) (ps : List (ℕ × TimeUnit)) → IsBlank blanks
+part_spelled : (style : Style) (blanks rest : List ℕ) (p : TimeUnit × ℕ) (ps : List (TimeUnit × ℕ)) → IsBlank blanks
     → Spells (lexemes style ps) rest → Spells (lexemes style (p ∷ ps)) (blanks ++ (part style p ++ rest))
 part_spelled style blanks rest p ps blank more = grind (arith, common_steps)
 
-later_spelled : (style : Style) (ps : List (ℕ × TimeUnit))
+later_spelled : (style : Style) (ps : List (TimeUnit × ℕ))
     → Spells (lexemes style ps) (flat_map (λ part. between style ++ part) (map (part style) ps))
 later_spelled style [] = refl
 later_spelled style (p ∷ ps) = grind (arith, common_steps, later_spelled style ps)
 
-pub all_spelled : (style : Style) (u : TimeUnit) (ps : List (ℕ × TimeUnit))
+pub all_spelled : (style : Style) (u : TimeUnit) (ps : List (TimeUnit × ℕ))
     → Spells (lexemes style (or_zero u ps)) (joined_parts style u (map (part style) ps))
-all_spelled style u [] = rw append-nil at (part_spelled style [] [] (0, u) [] refl refl)
+all_spelled style u [] = rw append-nil at (part_spelled style [] [] (u, 0) [] refl refl)
 all_spelled style u (p ∷ ps) = part_spelled style [] _ p ps refl (later_spelled style ps)
 
 -- ---- The lexemes have these terminals
@@ -82,12 +72,12 @@ EachBelow [] = ⊤
 EachBelow (n ∷ counts) = (n < 2 ^ 64) × EachBelow counts
 
 pub terminals_kept : (o : Options) (style : Style) (us : List TimeUnit) (counts : List ℕ) → EachBelow counts
-    → map (terminal_of o) (lexemes style (kept us counts)) ≡ terminals (kept us counts)
+    → map (terminal_of o) (lexemes style (nonzero us counts)) ≡ terminals (nonzero us counts)
 terminals_kept o style (u ∷ us) (n ∷ counts) small =
     search (rules, decimal_terminal, printed_terminal, terminals_kept o style us counts)
 terminals_kept o style _ _ small = refl
 
-pub terminals_or_zero : (o : Options) (style : Style) (u : TimeUnit) (ps : List (ℕ × TimeUnit))
+pub terminals_or_zero : (o : Options) (style : Style) (u : TimeUnit) (ps : List (TimeUnit × ℕ))
     → map (terminal_of o) (lexemes style ps) ≡ terminals ps
     → map (terminal_of o) (lexemes style (or_zero u ps)) ≡ terminals (or_zero u ps)
 terminals_or_zero o style u ps h = search (rules, decimal_terminal, printed_terminal)
@@ -104,13 +94,13 @@ terminals_of_duration o style nanos h =
 
 -- ---- The terminals are a sentence without operators
 
-pub units_sentence : (default_unit : Option TimeUnit) (no_calc : Bool) (u : TimeUnit) (ps : List (ℕ × TimeUnit))
+pub units_sentence : (default_unit : Option TimeUnit) (no_calc : Bool) (u : TimeUnit) (ps : List (TimeUnit × ℕ))
     → IsSentence default_unit no_calc (terminals (or_zero u ps))
 units_sentence default_unit no_calc u [] = tt
 units_sentence default_unit no_calc u (p ∷ []) = tt
 units_sentence default_unit no_calc u (p ∷ q ∷ ps) = units_sentence default_unit no_calc u (q ∷ ps)
 
-pub units_plus : (ps : List (ℕ × TimeUnit)) → AllPlus (terminals ps)
+pub units_plus : (ps : List (TimeUnit × ℕ)) → AllPlus (terminals ps)
 units_plus [] = tt
 units_plus (p ∷ ps) = units_plus ps
 
@@ -127,9 +117,9 @@ printed_is_sum default_unit o style nanos text h p =
     let counts : List ℕ = counts_of unit_lengths nanos in
     record {
       sentence = (
-        rw (terminals_of_duration o style nanos h) (units_sentence default_unit o.no_calc Second (kept units counts)),
-        rw (counts_are style nanos text p, parts_kept style units counts)
-            (all_spelled style Second (kept units counts)),
+        rw (terminals_of_duration o style nanos h) (units_sentence default_unit o.no_calc Second (nonzero units counts)),
+        rw (counts_are style nanos text p)
+            (all_spelled style Second (nonzero units counts)),
       );
       plus = rw (terminals_of_duration o style nanos h) (units_plus (printed nanos));
     }
@@ -137,11 +127,11 @@ printed_is_sum default_unit o style nanos text h p =
 -- ---- The total is the duration
 
 pub sum_kept : (default_unit : Option TimeUnit) (us : List TimeUnit) (counts : List ℕ)
-    → sum_of (terms_of default_unit (terminals (kept us counts))) ≡ weighted_sum (map nanos_of us) counts
+    → sum_of (terms_of default_unit (terminals (nonzero us counts))) ≡ weighted_sum (map nanos_of us) counts
 sum_kept default_unit (u ∷ us) (n ∷ counts) = search (rules, eqb-true, sum_kept default_unit us counts)
 sum_kept default_unit _ _ = refl
 
-pub sum_or_zero : (default_unit : Option TimeUnit) (u : TimeUnit) (ps : List (ℕ × TimeUnit))
+pub sum_or_zero : (default_unit : Option TimeUnit) (u : TimeUnit) (ps : List (TimeUnit × ℕ))
     → sum_of (terms_of default_unit (terminals (or_zero u ps))) ≡ sum_of (terms_of default_unit (terminals ps))
 sum_or_zero default_unit u ps = search rules
 
@@ -149,5 +139,5 @@ pub duration_sum : (default_unit : Option TimeUnit) (o : Options) (style : Style
     → sum_of (terms_of_lexemes default_unit o (duration_lexemes style nanos)) ≡ nanos
 duration_sum default_unit o style nanos h =
     let counts : List ℕ = counts_of unit_lengths nanos in
-    rw (terminals_of_duration o style nanos h, sum_or_zero default_unit Second (kept units counts), sum_kept default_unit units counts)
+    rw (terminals_of_duration o style nanos h, sum_or_zero default_unit Second (nonzero units counts), sum_kept default_unit units counts)
     (greatest_breakdown_holds nanos).breakdown.whole

@@ -35,3 +35,8 @@ with_counts style bytes _ _ = bytes
 -- the bytes, followed by a duration in these units, in at most `most` parts
 abbrev pub with_parts : Style → Bytes → List TimeUnit → ℕ → ℕ → Bytes
 with_parts style bytes us most nanos = with_counts style bytes us (counts_within (map nanos_of us) most nanos)
+
+-- the bytes, followed by these parts
+abbrev pub with_each : Style → Bytes → List (TimeUnit × ℕ) → Bytes
+with_each style bytes [] = bytes
+with_each style bytes ((u, n) ∷ parts) = with_each style (with_part style bytes u n) parts

@@ -1,5 +1,5 @@
 -- The tables in the code: of units, of names by their packed numbers, and of near words.
-use Rattle.std.specs.Prelude.{All, Bool, List, Option, bytes_eq, encode_utf8_all, length, map, not, take, [], ℕ, ◌&&◌, ◌++◌, ◌-◌, ◌/◌, ◌==◌, ◌^◌, ◌∷◌, ◌≡◌}
+use Rattle.std.specs.Prelude.{Bool, List, Option, bytes_eq, encode_utf8_all, length, map, not, take, [], ℕ, ◌&&◌, ◌++◌, ◌-◌, ◌/◌, ◌==◌, ◌^◌, ◌∷◌}
 use Rattle.std.specs.Char.{is_ascii_whitespace, to_ascii_lowercase}
 use Rattle.std.specs.List.{find, list_any, suffix_len}
 use Rattle.duration_str.specs.declared.unit.Printed.{Printed}
@@ -21,17 +21,9 @@ printed_row u = record {
   width = length (encode_utf8_all (row_of u).printed);
 }
 
--- the units of these rows
-abbrev pub units_in : List Printed → List TimeUnit
-units_in rows = map (λ row. row.unit) rows
-
 -- the units of a set that is given by its bits
 abbrev pub units_of : ℕ → List TimeUnit
 units_of bits = chosen (record { bits = bits }) units
-
--- Each row is the right one for its unit.
-abbrev pub AreRight : List Printed → Type 0
-AreRight rows = All (λ row. row ≡ printed_row row.unit) rows
 
 -- all names of a unit
 abbrev pub all_names : TimeUnit → List Characters

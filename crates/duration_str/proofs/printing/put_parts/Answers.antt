@@ -1,16 +1,25 @@
-use Rattle.duration_str.proofs.Common.{ALL, rules, take, ◌∙◌, ◌≡◌}
-use Rattle.duration_str.proofs.Printer.SetLemmas.{chosen_whole}
+use Rattle.duration_str.proofs.Common.{ap, arith, counts_within, length, map, nanos_of, sym, take, units, with_part, ◌∙◌}
+use Rattle.duration_str.proofs.Printer.BreakdownLemmas.{each_grows, each_printed}
 use Rattle.duration_str.proofs.printing.put_parts.Goals as goal
+use Rattle.duration_str.specs.Breakdown.{parts_left}
+use Rattle.duration_str.specs.Internal.PrintedBytes.{with_each}
+use Rattle.duration_str.specs.Limits.{chosen}
 
-pub put_all-requires-clause-room : goal.put_all-requires-clause-room
-put_all-requires-clause-room c =
-    let all : c.args.set ≡ ALL = search rules in
-    rw (c.rows_for.ensures.same c.args.style (take c.args.at c.args.buffer.now) c.args.most)
-    (rw (all, chosen_whole) at c.requires.room)
+pub loop-row-init : goal.loop-row-init
+loop-row-init c =
+    let us = chosen c.set_for.result units in
+    let bytes = take c.args.at c.args.buffer.now in
+    record {
+      inside = c.requires.start;
+      short = rw (c.of-parts.ensures, c.from.ensures) (omega arith);
+      same = rw (c.of-parts.ensures, c.from.ensures)
+          (sym (each_printed c.args.style us bytes (counts_within (map nanos_of us) c.args.most c.args.nanos))
+          ∙ c.set_for.ensures c.args.style bytes c.args.most);
+    }
 
-pub returns-then-eq-clause-text : goal.returns-then-eq-clause-text
-returns-then-eq-clause-text c =
-    let all : c.args.set ≡ ALL = search rules in
-    c.put_all.ensures.text
-    ∙ rw (all, chosen_whole)
-    (c.rows_for.ensures.same c.args.style (take c.args.at c.args.buffer.now) c.args.most)
+pub put_part-end-requires-clause-room : goal.put_part-end-requires-clause-room
+put_part-end-requires-clause-room c =
+    let bytes = take c.loop-row.end c.loop-row.buffer in
+    let first = with_part c.args.style bytes c.in-Some.row.now.unit c.in-Some.count in
+    let same = sym (ap (with_each c.args.style bytes) c.in-Some.ensures.first) ∙ c.loop-row.invariant.same in
+    omega (arith, each_grows c.args.style first (parts_left c.next_part.new.self), ap length same, c.requires.room)

@@ -1,6 +1,6 @@
 use Rattle.duration_str.proofs.Common.{arith}
 use Rattle.duration_str.proofs.Printer.SetLemmas.{longest_first, longest_none, lowest_bit, row_at_place}
-use Rattle.duration_str.proofs.printing.longest.Goals as goal
+use Rattle.duration_str.proofs.breakdown.longest.Goals as goal
 use Rattle.std.specs.Int.{trailing_zeros, w32}
 
 pub returns-then-rank-ge11-clause-none : goal.returns-then-rank-ge11-clause-none

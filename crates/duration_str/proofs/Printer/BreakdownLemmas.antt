@@ -1,0 +1,81 @@
+-- Lemmas about the parts of a duration.
+use Rattle.duration_str.proofs.Common.{ap, arith, cases_Bool, common_steps, counts_within, div-add-mod', drop, eqb-true, inl, inr, length, List, map, nanos_of, nat_tests, nonzero, refl, rules, slice_index_or, Style, sym, TimeUnit, with_counts, with_part, with_parts, zero-div, [], ℕ, ◌%◌, ◌*◌, ◌+◌, ◌-◌, ◌∙◌, ◌/◌, ◌<◌, ◌==◌, ◌^◌, ◌∷◌, ◌≡◌, ◌≤◌}
+use Rattle.duration_str.proofs.Printer.LimitsLemmas.{each_short, part_grows}
+use Rattle.duration_str.proofs.LawProofs.GreatestWithin.{some_length}
+use Rattle.duration_str.specs.Breakdown.{parts_in}
+use Rattle.duration_str.specs.Internal.PrintedBytes.{with_each}
+
+-- If no more parts are allowed, there are none.
+pub parts_none : (us : List TimeUnit) (most nanos : ℕ) → most ≡ 0 → parts_in us most nanos ≡ []
+parts_none [] most nanos none = refl
+parts_none (u ∷ us) most nanos none = search (rules, parts_none us most nanos none)
+
+-- If no nanoseconds are left, there are no parts.
+pub parts_nothing : (us : List TimeUnit) (most nanos : ℕ) → nanos ≡ 0 → parts_in us most nanos ≡ []
+parts_nothing [] most nanos none = refl
+parts_nothing (u ∷ us) most nanos none = search (rules, zero-div, parts_nothing us most nanos none)
+
+-- A unit that is longer than the duration has no part.
+pub part_skipped : (u : TimeUnit) (us : List TimeUnit) (most nanos : ℕ) → nanos < nanos_of u
+    → parts_in us most nanos ≡ parts_in (u ∷ us) most nanos
+part_skipped u us most nanos long = search rules
+
+-- Otherwise its part comes first, and the other parts are those of the remainder.
+pub part_taken : (u : TimeUnit) (us : List TimeUnit) (most nanos : ℕ) → 1 ≤ most → nanos_of u ≤ nanos
+    → parts_in (u ∷ us) most nanos ≡ (u, nanos / nanos_of u) ∷ parts_in us (most - 1) (nanos % nanos_of u)
+part_taken u us most nanos left h = search rules
+
+-- The parts are printed one after another.
+pub each_printed : (style : Style) (us : List TimeUnit) (bytes counts : List ℕ)
+    → with_counts style bytes us counts ≡ with_each style bytes (nonzero us counts)
+each_printed style (u ∷ us) bytes (n ∷ counts) = search (rules, each_printed style us)
+each_printed style _ bytes _ = refl
+
+pub each_grows : (style : Style) (bytes : List ℕ) (parts : List (TimeUnit × ℕ))
+    → length bytes ≤ length (with_each style bytes parts)
+each_grows style bytes [] = omega arith
+each_grows style bytes ((u, n) ∷ parts) = omega (
+  arith,
+  part_grows style bytes u n,
+  each_grows style (with_part style bytes u n) parts,
+)
+
+-- After the first part of a duration of 2^64 nanoseconds or more, the parts of the rest are left.
+pub long_rest : (us : List TimeUnit) (most nanos : ℕ) (u : TimeUnit) (n rest : ℕ) (parts : List (TimeUnit × ℕ))
+    → 2 ^ 64 ≤ nanos → parts_in us most nanos ≡ (u, n) ∷ parts → nanos ≡ n * nanos_of u + rest → rest < nanos_of u
+    → (1 ≤ most) × (rest < 2 ^ 64) × (parts ≡ parts_in us (most - 1) rest)
+long_rest [] most nanos u n rest parts long first whole less = grind (arith, common_steps)
+long_rest (v ∷ us) most nanos u n rest parts long first whole less = elim (cases_Bool (most == 0)) [
+  | inl none ↦ let no = parts_none (v ∷ us) most nanos (eqb-true most 0 none) in grind (arith, common_steps)
+  | inr some ↦
+      let left : 1 ≤ most = grind (arith, nat_tests) in
+      let taken = sym first ∙ part_taken v us most nanos left (omega (arith, each_short v)) in
+      let same = ap (λ (ps : List (TimeUnit × ℕ)). slice_index_or ps 0 (v, 0)) taken in
+      let unit = ap (λ (p : TimeUnit × ℕ). p.0) same in
+      let count = ap (λ (p : TimeUnit × ℕ). p.1) same in
+      let others = ap (drop 1) taken in
+      let remainder : rest ≡ nanos % nanos_of v =
+      omega (arith, rw (unit, count) at whole, div-add-mod' nanos (nanos_of v)) in (
+        left,
+        omega (arith, each_short u, less),
+        rw remainder (others ∙ part_skipped v us (most - 1) (nanos % nanos_of v) (omega (arith, some_length v))),
+      )
+]
+
+-- If these are the parts, printing them prints the duration.
+pub parts_printed : (style : Style) (us : List TimeUnit) (bytes : List ℕ) (most nanos : ℕ)
+    (parts : List (TimeUnit × ℕ)) → parts_in us most nanos ≡ parts
+    → with_each style bytes parts ≡ with_parts style bytes us most nanos
+parts_printed style us bytes most nanos parts same =
+    sym (each_printed style us bytes (counts_within (map nanos_of us) most nanos) ∙ ap (with_each style bytes) same)
+
+-- After the first part of a duration of 2^64 nanoseconds or more, printing the rest in the same units prints the
+-- other parts.
+pub long_printed : (style : Style) (us : List TimeUnit) (bytes : List ℕ) (most nanos : ℕ) (u : TimeUnit) (n rest : ℕ)
+    (parts : List (TimeUnit × ℕ))
+    → 2 ^ 64 ≤ nanos → parts_in us most nanos ≡ (u, n) ∷ parts → nanos ≡ n * nanos_of u + rest → rest < nanos_of u
+    → with_parts style (with_part style bytes u n) us (most - 1) rest ≡ with_parts style bytes us most nanos
+long_printed style us bytes most nanos u n rest parts long first whole less =
+    let left = long_rest us most nanos u n rest parts long first whole less in
+    sym (parts_printed style us (with_part style bytes u n) (most - 1) rest parts (sym left.2))
+    ∙ parts_printed style us bytes most nanos ((u, n) ∷ parts) first

@@ -1,0 +1,41 @@
+-- The breakdown of a duration in a format: its counts, each with its unit.
+use Rattle.std.specs.Prelude.{◌≡◌, ℕ, ◌+◌, ◌*◌, ◌<◌, IfSome, List, [], ◌∷◌, map, Option, MatchOption}
+use Rattle.std.specs.Iterator.{YieldsFirst}
+use Rattle.duration_str.specs.declared.breakdown.Breakdown.{Breakdown}
+use Rattle.duration_str.specs.declared.format.Format.{Format}
+use Rattle.duration_str.specs.declared.unit.TimeUnit.{TimeUnit}
+use Rattle.duration_str.specs.Units.{nanos_of}
+use Rattle.duration_str.specs.Limits.{IsGreatestWithin, counts_within, lengths_within, units_within}
+use Rattle.duration_str.specs.Printing.{nonzero}
+use Rattle.duration_str.specs.Internal.UnitTable.{units_of}
+
+-- These are the parts of a duration of `nanos` nanoseconds in this format.
+abbrev pub AreParts : Format → ℕ → List (TimeUnit × ℕ) → Type 0
+AreParts format nanos parts =
+    (counts : List ℕ)
+    × IsGreatestWithin (lengths_within format) format.parts nanos counts × (parts ≡ nonzero (units_within format) counts)
+
+-- the nanoseconds of these parts together
+abbrev pub sum_of_parts : List (TimeUnit × ℕ) → ℕ
+sum_of_parts [] = 0
+sum_of_parts ((u, n) ∷ parts) = n * nanos_of u + sum_of_parts parts
+
+-- the parts of a duration in these units, at most `most` of them, by quotients and remainders
+abbrev pub parts_in : List TimeUnit → ℕ → ℕ → List (TimeUnit × ℕ)
+parts_in us most nanos = nonzero us (counts_within (map nanos_of us) most nanos)
+
+-- the parts that are still to come
+abbrev pub parts_left : Breakdown → List (TimeUnit × ℕ)
+parts_left b = parts_in (units_of b.bits) b.most b.rest
+
+-- the nanoseconds that the parts so far leave
+abbrev pub nanos_left : Breakdown → ℕ
+nanos_left b = b.rest
+
+-- The call returns the first part that is left, and takes it from the nanoseconds that are left, so that less than its
+-- unit is left.
+pub record YieldsPart (old : Breakdown) (result : Option (TimeUnit × ℕ)) (new : Breakdown) : Type 0 where
+  pub first : YieldsFirst parts_left old result new
+  pub rest : MatchOption result (nanos_left old ≡ nanos_left new)
+      (λ part. nanos_left old ≡ part.1 * nanos_of part.0 + nanos_left new)
+  pub less : IfSome result (λ part. nanos_left new < nanos_of part.0)

@@ -1,0 +1,118 @@
+// Made by tools/erase of crates/duration_str/src/breakdown.rt.
+//! The breakdown of a duration: how many of each unit of a format it has.
+
+use crate::format::{Format, Units};
+use crate::unit::{PRINTED, Printed, TimeUnit};
+use core::time::Duration;
+
+/// The breakdown of a duration in a format: an iterator over its parts, which are units with their counts, the longest
+/// unit first.
+///
+/// These are the parts that [`write_within`](crate::write_within) prints, without counts of 0. So a duration of 0 has
+/// none. The format's style does not matter.
+///
+/// ```
+/// use duration_str::{Breakdown, Format, TimeUnit};
+/// use std::time::Duration;
+///
+/// let build = Duration::new(193, 29_000_000);
+/// let mut parts = Breakdown::new(&build, Format::whole().parts(2));
+/// assert_eq!(parts.next(), Some((TimeUnit::Minute, 3)));
+/// assert_eq!(parts.next(), Some((TimeUnit::Second, 13)));
+/// assert_eq!(parts.next(), None);
+/// assert_eq!(parts.rest(), 29_000_000);
+/// ```
+#[derive(Clone, Debug, PartialEq, Eq, Hash)]
+pub struct Breakdown {
+    /// The bits of the units that are left.
+    bits: u32,
+    /// How many parts there may still be.
+    most: usize,
+    /// The nanoseconds that the parts so far leave.
+    rest: u128,
+}
+
+impl Breakdown {
+    /// Returns the breakdown of a duration in this format.
+    ///
+    /// ```
+    /// use duration_str::{Breakdown, Format, TimeUnit};
+    /// use std::time::Duration;
+    ///
+    /// let days = Format::whole().only(&[TimeUnit::Day, TimeUnit::Hour]);
+    /// let mut parts = Breakdown::new(&Duration::new(90_000, 0), days);
+    /// assert!(parts.eq([(TimeUnit::Day, 1), (TimeUnit::Hour, 1)]));
+    /// ```
+    #[inline]
+    #[must_use]
+    pub fn new(d: &Duration, format: Format) -> Breakdown {
+        Breakdown::of(d.as_nanos(), format.units, format.parts)
+    }
+
+    /// Returns the nanoseconds that the parts so far leave: the whole duration at first, and at the end what is in no
+    /// part.
+    ///
+    /// ```
+    /// use duration_str::{Breakdown, Format, TimeUnit};
+    /// use std::time::Duration;
+    ///
+    /// let seconds = Format::whole().only(&[TimeUnit::Second]);
+    /// let mut parts = Breakdown::new(&Duration::new(1, 500_000_000), seconds);
+    /// assert_eq!(parts.next(), Some((TimeUnit::Second, 1)));
+    /// assert_eq!(parts.rest(), 500_000_000);
+    /// ```
+    #[inline]
+    #[must_use]
+    pub fn rest(&self) -> u128 {
+        self.rest
+    }
+
+    /// The breakdown of this many nanoseconds into the units of a set, in at most `most` parts.
+    #[inline(always)]
+    pub(crate) fn of(nanos: u128, set: Units, most: usize) -> Breakdown {
+        Breakdown {
+            bits: u32::from(set.bits()),
+            most,
+            rest: nanos,
+        }
+    }
+
+    /// Returns the next part, with its unit's row in the table for printing.
+    #[inline(always)]
+    pub(crate) fn next_part(&mut self) -> Option<(&'static Printed, u128)> {
+        if self.most == 0 || self.rest == 0 {
+            return None;
+        }
+        while let Some((row, others)) = longest(self.bits) {
+            self.bits = others;
+            if u128::from(row.nanos) <= self.rest {
+                let (count, rest) = row.wide_division(self.rest);
+                self.most -= 1;
+                self.rest = rest;
+                return Some((row, count));
+            }
+        }
+        None
+    }
+}
+
+impl Iterator for Breakdown {
+    type Item = (TimeUnit, u128);
+
+    #[inline]
+    fn next(&mut self) -> Option<(TimeUnit, u128)> {
+        let (row, count) = self.next_part()?;
+        Some((row.unit, count))
+    }
+}
+
+/// The row of the longest unit of a set, and the bits of the set's other units. The set is given by
+/// its bits.
+#[inline(always)]
+fn longest(bits: u32) -> Option<(&'static Printed, u32)> {
+    let rank = bits.trailing_zeros();
+    if rank as usize >= PRINTED.len() {
+        return None;
+    }
+    Some((&PRINTED[rank as usize], bits & !(1 << rank)))
+}
