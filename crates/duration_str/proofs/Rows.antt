@@ -214,8 +214,8 @@ printed_texts = assumption
 abbrev in_milliseconds : List ℕ → Result ℕ Cause
 in_milliseconds = answer_with (Some MilliSecond) off
 
-abbrev with_units : List ℕ → Result ℕ Cause
-with_units = answer_with None off
+abbrev requiring_units : List ℕ → Result ℕ Cause
+requiring_units = answer_with None off
 
 pub record DefaultUnits : Type 0 where
   -- ---- Another default unit
@@ -232,20 +232,20 @@ pub record DefaultUnits : Type 0 where
   pub milliseconds-later_fits : in_milliseconds (codes "1+18446744074") ≡ Ok 18_446_744_075_000_000
   pub years : answer_with (Some Year) off (codes "2") ≡ Ok 63_072_000_000_000_000
   -- ---- No default unit: each number must have its unit
-  pub required-each : with_units (codes "1h30m 2 s") ≡ Ok 5_402_000_000_000
-  pub required-end : with_units (codes "1h 30") ≡ Err (Syntax 5 unit_alone)
-  pub required-first_end : with_units (codes "1") ≡ Err (Syntax 1 unit_alone)
-  pub required-before_minus : with_units (codes "90 -") ≡ Err (Syntax 3 unit_alone)
-  pub required-before_later_plus : with_units (codes "1h 30 + 5x") ≡ Err (Syntax 6 unit_alone)
-  pub required-before_plus : with_units (codes "1 + 2x") ≡ Err (Syntax 2 unit_alone)
-  pub required-before_star : with_units (codes "1s+2*3") ≡ Err (Syntax 4 unit_alone)
-  pub required-before_word : with_units (codes "5x") ≡ Err (Syntax 1 unit_alone)
-  pub required-after_unit : with_units (codes "5s x") ≡ Err (Syntax 3 after_unit)
-  pub required-large_number_stands_not : with_units (codes "99999999999999999999") ≡ Err (Syntax 20 unit_alone)
-  pub required-first_term_before_end : with_units (codes "99999999999999999999h 5")
+  pub required-each : requiring_units (codes "1h30m 2 s") ≡ Ok 5_402_000_000_000
+  pub required-end : requiring_units (codes "1h 30") ≡ Err (Syntax 5 unit_alone)
+  pub required-first_end : requiring_units (codes "1") ≡ Err (Syntax 1 unit_alone)
+  pub required-before_minus : requiring_units (codes "90 -") ≡ Err (Syntax 3 unit_alone)
+  pub required-before_later_plus : requiring_units (codes "1h 30 + 5x") ≡ Err (Syntax 6 unit_alone)
+  pub required-before_plus : requiring_units (codes "1 + 2x") ≡ Err (Syntax 2 unit_alone)
+  pub required-before_star : requiring_units (codes "1s+2*3") ≡ Err (Syntax 4 unit_alone)
+  pub required-before_word : requiring_units (codes "5x") ≡ Err (Syntax 1 unit_alone)
+  pub required-after_unit : requiring_units (codes "5s x") ≡ Err (Syntax 3 after_unit)
+  pub required-large_number_stands_not : requiring_units (codes "99999999999999999999") ≡ Err (Syntax 20 unit_alone)
+  pub required-first_term_before_end : requiring_units (codes "99999999999999999999h 5")
       ≡ Err (NumberTooLarge (Some 0))
-  pub required-overflow_before_end : with_units (codes "600y 30") ≡ Err (Overflow (Some 0))
-  pub required-sum_after_end : with_units (codes "580y 580y 5") ≡ Err (Syntax 11 unit_alone)
+  pub required-overflow_before_end : requiring_units (codes "600y 30") ≡ Err (Overflow (Some 0))
+  pub required-sum_after_end : requiring_units (codes "580y 580y 5") ≡ Err (Syntax 11 unit_alone)
   pub required-no_calc : answer_with None with_no_calc (codes "580y 580y 5") ≡ Err (Overflow None)
   pub required-no_calc_plus : answer_with None with_no_calc (codes "1+2s") ≡ Err (Syntax 1 unit_alone)
 

@@ -32,7 +32,7 @@ pub use format::{Format, Style, Units};
 pub use one_line::{MAX_ONE_LINE_LEN, ONE_LINE_BUFFER_SIZE};
 pub use parser::{
     Cause, Expected, Fault, parse, parse_looked, parse_nanos, parse_nanos_inlined, parse_std,
-    parse_with, parse_with_default_unit, parse_with_units,
+    parse_with, parse_with_default_unit,
 };
 pub use printing::{
     FORMAT_BUFFER_SIZE, MAX_LONG_LEN, MAX_PRINTED_LEN, STYLED_BUFFER_SIZE, write_human,

@@ -4,7 +4,7 @@ use crate::assertions::{holds, holds_in_memory, is_human_format, is_value};
 use crate::vectors::{CN_UNIT, LOWERCASE, NO_CALC, OFF};
 use duration_str::{
     Cause, Fault, HumanFormat, Options, TimeUnit, parse, parse_chrono, parse_looked, parse_std,
-    parse_time, parse_with, parse_with_default_unit, parse_with_units, write_human,
+    parse_time, parse_with, parse_with_default_unit, write_human,
 };
 use jiff::SignedDuration;
 use std::alloc::{AllocError, Global};
@@ -130,7 +130,7 @@ fn reads_values(rt: HostRuntime) {
 /// Whether the text is refused at this place, since units are required and the number before the
 /// place has none.
 fn lacks_a_unit(text: &str, at: usize) -> bool {
-    let Err(fault) = parse_with_units(text, OFF) else {
+    let Err(fault) = parse_with_default_unit(text, OFF, None) else {
         return false;
     };
     let Cause::Syntax { place, expected } = fault.cause() else {
@@ -159,7 +159,7 @@ fn requires_units(rt: HostRuntime) {
         holds(
             &rt,
             text,
-            parse_with_units(text, OFF) == parse_with(text, OFF),
+            parse_with_default_unit(text, OFF, None) == parse_with(text, OFF),
         );
     }
 }

@@ -106,24 +106,6 @@ pub fn parse_with_default_unit(
     parse_nanos(input, o, default_unit).map(Duration::from_nanos)
 }
 
-/// Reads a text in which each number must have its unit, under these options, and returns the
-/// duration that it means.
-///
-/// It returns what `parse_with_default_unit` returns for `None`. The call allocates nothing.
-///
-/// # Errors
-///
-/// It returns a [`Fault`] if the text means no duration, or lacks a unit.
-///
-/// ```text
-/// parse_with_units("1h 30m", Options::off()) // Ok(Duration::from_secs(5_400))
-/// parse_with_units("1h 30", Options::off()).unwrap_err().cause().place() // Some(5)
-/// ```
-#[inline]
-pub fn parse_with_units(input: &str, o: Options) -> Result<Duration, Fault<'_>> {
-    parse_with_default_unit(input, o, None)
-}
-
 /// Reads a text as `parse_with_default_unit` does, and returns the duration in nanoseconds.
 ///
 /// If all options are off and the default unit is the second, it calls a copy of the reader that is compiled for this

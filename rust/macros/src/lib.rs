@@ -1,7 +1,7 @@
 //! The macro `duration!`, which `duration-str` exports under the feature `macros`.
 #![forbid(unsafe_code)]
 
-use duration_str_core::{ONE_LINE_BUFFER_SIZE, Options, parse_with, parse_with_units};
+use duration_str_core::{ONE_LINE_BUFFER_SIZE, Options, TimeUnit, parse_with_default_unit};
 use proc_macro::{Delimiter, Span, TokenStream, TokenTree};
 
 /// Reads a duration when the program is compiled, and gives a constant of type
@@ -51,13 +51,9 @@ fn value(input: TokenStream) -> Result<TokenStream, Refusal> {
         )
     })?;
     let (options, require_unit) = options(tokens)?;
-    let parse = if require_unit {
-        parse_with_units
-    } else {
-        parse_with
-    };
+    let default_unit = (!require_unit).then_some(TimeUnit::Second);
     let mut buffer = [0; ONE_LINE_BUFFER_SIZE];
-    let value = parse(text, options)
+    let value = parse_with_default_unit(text, options, default_unit)
         .map_err(|fault| (fault.write_one_line(&mut buffer).to_string(), span))?;
     let (secs, nanos) = (value.as_secs(), value.subsec_nanos());
     Ok(code(&format!(
