@@ -98,7 +98,7 @@ fn read_with(text: &str, no_calc: bool) -> Result<u64, proved::Fault<'_>> {
         no_calc,
         ..CASE_SENSITIVE
     };
-    proved::parse_nanos_inlined(text, options, None)
+    proved::parse_nanos_specialized(text, options, None)
 }
 
 /// By how many nanoseconds a sum without operators is longer here than in the rest of this crate,

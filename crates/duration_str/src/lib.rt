@@ -31,7 +31,7 @@ pub use ext::HumanFormat;
 pub use format::{Format, Style, Units};
 pub use one_line::{MAX_ONE_LINE_LEN, ONE_LINE_BUFFER_SIZE};
 pub use parser::{
-    Cause, Expected, Fault, parse, parse_looked, parse_nanos, parse_nanos_inlined, parse_std,
+    Cause, Expected, Fault, parse, parse_looked, parse_nanos, parse_nanos_specialized, parse_std,
     parse_with, parse_with_default_unit,
 };
 pub use printing::{

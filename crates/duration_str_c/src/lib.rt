@@ -20,7 +20,7 @@ pub mod message;
 use crate::answer::Answer;
 use crate::message::refusal_of;
 use duration_str::{
-    FORMAT_BUFFER_SIZE, Fault, Options, TimeUnit, UNITS, parse_nanos, parse_nanos_inlined,
+    FORMAT_BUFFER_SIZE, Fault, Options, TimeUnit, UNITS, parse_nanos, parse_nanos_specialized,
     write_human,
 };
 use std::time::Duration;
@@ -87,7 +87,7 @@ pub fn duration_str_parse(text: &[u8], nanos: &mut u64) -> bool
     let Some(text) = text_of(text) else {
         return false;
     };
-    match parse_nanos_inlined(text, Options::off(), Some(TimeUnit::Second)) {
+    match parse_nanos_specialized(text, Options::off(), Some(TimeUnit::Second)) {
         Ok(value) => {
             *nanos = value;
             true

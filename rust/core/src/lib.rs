@@ -44,7 +44,7 @@ pub use self::breakdown::Breakdown;
 pub use self::format::{Format, Style, Units};
 pub use self::one_line::{MAX_ONE_LINE_LEN, ONE_LINE_BUFFER_SIZE};
 pub use self::parser::{
-    Cause, Expected, Fault, parse, parse_looked, parse_nanos, parse_nanos_inlined, parse_std,
+    Cause, Expected, Fault, parse, parse_looked, parse_nanos, parse_nanos_specialized, parse_std,
     parse_with, parse_with_default_unit,
 };
 pub use self::printing::{

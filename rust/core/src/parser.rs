@@ -132,27 +132,28 @@ pub fn parse_nanos(
 
 #[inline(never)]
 fn nanos_off(input: &str) -> Result<u64, Fault<'_>> {
-    parse_nanos_inlined(input, Options::off(), Some(TimeUnit::Second))
+    parse_nanos_specialized(input, Options::off(), Some(TimeUnit::Second))
 }
 
 #[inline(never)]
 fn nanos_chosen(input: &str, o: Options, default_unit: Option<TimeUnit>) -> Result<u64, Fault<'_>> {
-    parse_nanos_inlined(input, o, default_unit)
+    parse_nanos_specialized(input, o, default_unit)
 }
 
-/// Returns what `parse_nanos` returns. A copy of the reader is compiled into the place of each call.
+/// Returns what `parse_nanos` returns. For each call in the source, the compiler makes a copy of the reader.
 ///
-/// If the compiler knows the options there, the copy is faster. Each copy adds 3 to 6 kB to the program.
+/// If the compiler knows the options of a call, it makes that copy for these options alone, which is faster. Each copy
+/// adds 3 to 6 kB to the program.
 ///
 /// # Errors
 ///
 /// It refuses the same texts as [`parse_nanos`], for the same causes.
 ///
 /// ```text
-/// parse_nanos_inlined("1ms 5ns", Options::off(), None) // Ok(1_000_005)
+/// parse_nanos_specialized("1ms 5ns", Options::off(), None) // Ok(1_000_005)
 /// ```
 #[inline(always)]
-pub fn parse_nanos_inlined(
+pub fn parse_nanos_specialized(
     input: &str,
     o: Options,
     default_unit: Option<TimeUnit>,
