@@ -6,8 +6,8 @@
 //! - `bench times`: prints the nanoseconds of a call over the expressions, in a line with WHAT,
 //!   OURS and THEIRS for reading and for each way to print. In all such lines a tab is between the
 //!   words.
-//! - `bench styles`: prints the nanoseconds that printing takes in styles and limits, in a line
-//!   with WHAT, the figure for values below a day, and the figure for all values.
+//! - `bench styles`: prints the nanoseconds that printing takes in formats, in a line with WHAT, the
+//!   figure for values below a day, and the figure for all values.
 //! - `bench peer human_format` or `to_string`: prints the figures that `bench/peers` needs, for the
 //!   texts of the standard input.
 //! - `bench calls WORDS COUNT`: makes humantime's calls. The words are those of `calls.rs` after
@@ -17,7 +17,7 @@ mod texts;
 
 use duration_str::{
     Format, HumanFormat, STYLED_BUFFER_SIZE, Style, TimeUnit, format_duration, parse,
-    parse_duration, write_within,
+    parse_duration, write_format,
 };
 use ours::{Crate, Library, ROOM, calls};
 use std::hint::black_box;
@@ -143,7 +143,7 @@ fn styles() {
         ("compact", whole.style(Style::Compact)),
         ("long", whole.style(Style::Long)),
     ] {
-        let print = |length| write_within(&length, format, &mut [0; STYLED_BUFFER_SIZE]).len();
+        let print = |length| write_format(&length, format, &mut [0; STYLED_BUFFER_SIZE]).len();
         let [below_day, all] = nanos_a_call(
             lengths.len(),
             [&|| all(&short, print), &|| all(&lengths, print)],

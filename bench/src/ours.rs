@@ -4,7 +4,7 @@ use duration_str::{
     DurationError, FORMAT_BUFFER_SIZE, Fault, Format, HumanFormat, Options, STYLED_BUFFER_SIZE,
 };
 use duration_str::{
-    parse, parse_duration, parse_require_unit, parse_with, write_human, write_within,
+    parse, parse_duration, parse_require_unit, parse_with, write_format, write_human,
 };
 use std::hint::black_box;
 use std::time::Duration;
@@ -91,7 +91,7 @@ impl Library for Crate {
 
     fn printing_parts(length: Duration, parts: u32) -> usize {
         let format = Format::whole().parts(parts as usize);
-        black_box(write_within(&length, format, &mut [0; STYLED_BUFFER_SIZE])).len()
+        black_box(write_format(&length, format, &mut [0; STYLED_BUFFER_SIZE])).len()
     }
 
     fn printing_string(length: Duration) -> String {

@@ -2,7 +2,7 @@
 //! Durations printed within limits and in a style.
 
 use crate::put;
-use duration_str_core::{Format, STYLED_BUFFER_SIZE, Style, Units, write_within};
+use duration_str_core::{Format, STYLED_BUFFER_SIZE, Style, Units, write_format};
 use core::time::Duration;
 
 /// Prints a duration in the units of a set, in at most `parts` parts and in a style, to the start of the buffer, with a
@@ -22,7 +22,7 @@ pub fn duration_str_format_styled(
     match format_of(units, parts, style) {
         Some(format) if nanos < 1_000_000_000 => {
             let mut printed = [0; STYLED_BUFFER_SIZE];
-            let text = write_within(&Duration::new(secs, nanos), format, &mut printed);
+            let text = write_format(&Duration::new(secs, nanos), format, &mut printed);
             put(text, buffer)
         }
         _ => put("", buffer),

@@ -3,7 +3,7 @@ use crate::human_duration::HumanDuration;
 use alloc::string::String;
 use core::fmt::{self, Write};
 use core::time::Duration;
-use duration_str_core::{Breakdown, Format, STYLED_BUFFER_SIZE, Style, TimeUnit, write_within};
+use duration_str_core::{Breakdown, Format, STYLED_BUFFER_SIZE, Style, TimeUnit, write_format};
 
 /// A duration that its `Display` prints for people, without allocating. You choose the units, the
 /// number of parts and the style.
@@ -173,7 +173,7 @@ impl FormattedDuration {
         &self,
         buffer: &'b mut [u8; STYLED_BUFFER_SIZE],
     ) -> (&'static str, &'b str) {
-        let magnitude = write_within(&self.magnitude, self.format, buffer);
+        let magnitude = write_format(&self.magnitude, self.format, buffer);
         // Only a zero begins with `0`.
         let has_minus = self.is_negative && !magnitude.starts_with('0');
         (if has_minus { "-" } else { "" }, magnitude)

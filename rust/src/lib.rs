@@ -94,7 +94,7 @@
 //! assert_eq!(uptime.only(&[TimeUnit::Day, TimeUnit::Minute]).to_string(), "11d 826min");
 //! ```
 //!
-//! For durations of `chrono` and `time`, [`HumanFormat::formatted`] does the same. [`write_within`]
+//! For durations of `chrono` and `time`, [`HumanFormat::formatted`] does the same. [`write_format`]
 //! writes into a buffer, and allocates nothing.
 //!
 //! # Why and where a text is refused
@@ -212,7 +212,7 @@ pub use derror::{DError, DResult};
 #[doc(inline)]
 pub use duration_str_core::{
     Breakdown, Cause, CondUnit, Expected, FORMAT_BUFFER_SIZE, Format, Options, STYLED_BUFFER_SIZE,
-    Style, TimeUnit, Units, UnknownStyle, UnknownUnit, write_human, write_within,
+    Style, TimeUnit, Units, UnknownStyle, UnknownUnit, write_format, write_human,
 };
 // `MAX_LONG_LEN`, `MAX_PRINTED_LEN` and `UNITS`, below, are hidden, since they are only for the
 // core's examples. Users of this crate have the buffers' sizes and `TimeUnit::ALL`.

@@ -4,7 +4,7 @@ use clap::error::ErrorKind;
 use clap::{Command, CommandFactory, Parser, ValueEnum, value_parser};
 use clap_complete::Shell;
 use duration_str::{
-    Format, STYLED_BUFFER_SIZE, Style, TimeUnit, Units, UnknownUnit, parse_duration, write_within,
+    Format, STYLED_BUFFER_SIZE, Style, TimeUnit, Units, UnknownUnit, parse_duration, write_format,
 };
 use std::ffi::{OsStr, OsString};
 use std::os::unix::ffi::OsStrExt;
@@ -148,7 +148,7 @@ impl Choices {
             return in_unit(nanos, unit, self.decimals, self.round);
         }
         let mut buffer = [0; STYLED_BUFFER_SIZE];
-        write_within(&Duration::from_nanos(nanos), self.format(), &mut buffer).to_string()
+        write_format(&Duration::from_nanos(nanos), self.format(), &mut buffer).to_string()
     }
 }
 

@@ -40,7 +40,7 @@ pub use Rattle.duration_str.specs.declared.format.Format.{Format}
 pub use Rattle.duration_str.specs.declared.format.Style.{Style}
 pub use Rattle.duration_str.specs.declared.format.Style.TheVariants.{Compact, Long, Short}
 pub use Rattle.duration_str.specs.declared.printing.TheConstants.{MAX_LONG_LEN, MAX_PRINTED_LEN}
-pub use Rattle.duration_str.specs.Limits.{counts_within, IsGreatestWithin, IsPrintedWithin, IsWithin, lengths_within, most_len, part_count, last_unit, shorter_units, text_within, units_within, whole_format, zero_unit}
+pub use Rattle.duration_str.specs.Format.{counts_within, IsGreatestWithin, IsPrintedWithin, IsWithin, lengths_within, most_len, part_count, last_unit, shorter_units, text_within, units_within, whole_format, zero_unit}
 pub use Rattle.duration_str.specs.declared.format.Units.{Units}
 pub use Rattle.duration_str.specs.declared.format.TheConstants.Units.{ALL}
 pub use Rattle.duration_str.specs.Place.{BeginsSentence, CanFollow, IsFront, start_after, terminals_of}

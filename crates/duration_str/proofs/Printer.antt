@@ -5,7 +5,7 @@ pub mod ReportLemmas
 pub mod PrintingLemmas
 pub mod DigitLemmas
 pub mod PrintedBytesLemmas
-pub mod LimitsLemmas
+pub mod FormatLemmas
 pub mod BreakdownLemmas
 pub mod SetLemmas
 pub mod SpacedLemmas

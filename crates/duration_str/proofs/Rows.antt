@@ -4,7 +4,7 @@ use Rattle.duration_str.proofs.Common.{ALL, answer, answer_with, Bool, Cause, co
 use Rattle.duration_str.specs.declared.format.Format.{Format}
 use Rattle.duration_str.specs.declared.unit.TimeUnit.TheVariants.{Day, Hour, MicroSecond, MilliSecond, Minute, Month, NanoSecond, Second, Week, Year}
 use Rattle.duration_str.specs.Breakdown.{sum_of_parts}
-use Rattle.duration_str.specs.Limits.{chosen, intersection, counts_within, down_to, is_in, lengths_within, set_of, shorter_units, text_within, up_to, whole_format, without_unit}
+use Rattle.duration_str.specs.Format.{chosen, intersection, counts_within, down_to, is_in, lengths_within, set_of, shorter_units, text_within, up_to, whole_format, without_unit}
 use Rattle.duration_str.specs.OneLine.{is_letter, is_plain, one_line_of}
 use Rattle.duration_str.specs.Report.{report_of}
 use Rattle.duration_str.proofs.Characters.UnitLemmas.{Each, each_unit}
@@ -252,7 +252,7 @@ pub record DefaultUnits : Type 0 where
 pub default_units : DefaultUnits
 default_units = assumption
 
--- ---- Within limits
+-- ---- In a format
 
 -- the text of this many nanoseconds in a format
 abbrev limited : Format → ℕ → List ℕ

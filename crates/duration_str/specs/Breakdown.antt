@@ -5,7 +5,7 @@ use Rattle.duration_str.specs.declared.breakdown.Breakdown.{Breakdown}
 use Rattle.duration_str.specs.declared.format.Format.{Format}
 use Rattle.duration_str.specs.declared.unit.TimeUnit.{TimeUnit}
 use Rattle.duration_str.specs.Units.{nanos_of}
-use Rattle.duration_str.specs.Limits.{IsGreatestWithin, counts_within, lengths_within, units_within}
+use Rattle.duration_str.specs.Format.{IsGreatestWithin, counts_within, lengths_within, units_within}
 use Rattle.duration_str.specs.Printing.{nonzero}
 use Rattle.duration_str.specs.Internal.UnitTable.{units_of}
 

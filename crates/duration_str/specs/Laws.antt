@@ -28,7 +28,7 @@ use Rattle.duration_str.specs.Breakdown.{YieldsPart, nanos_left, parts_left, sum
 use Rattle.duration_str.specs.declared.breakdown.Breakdown.{Breakdown}
 use Rattle.duration_str.specs.declared.format.Format.{Format}
 use Rattle.duration_str.specs.declared.format.Style.{Style}
-use Rattle.duration_str.specs.Limits.{whole_format, lengths_within, part_count, shorter_units, units_within, IsPrintedWithin}
+use Rattle.duration_str.specs.Format.{whole_format, lengths_within, part_count, shorter_units, units_within, IsPrintedWithin}
 
 -- whether a character is `+` or `*`
 abbrev pub is_operator : ℕ → Bool
@@ -285,7 +285,7 @@ pub record IsMostWithin (format : Format) (nanos : ℕ) (text : Characters) (mos
   pub greatest : (between : ℕ) (counts : List ℕ) → most < between → between ≤ nanos
       → KeepsWithin format between counts → ⊥
 
--- For each text that is printed within limits there is such a duration `most`.
+-- For each text that is printed in a format there is such a duration `most`.
 abbrev pub NeverMore : Type 0
 NeverMore = (format : Format) (nanos : ℕ) (text : Characters) → IsPrintedWithin format nanos text
     → (most : ℕ) × IsMostWithin format nanos text most

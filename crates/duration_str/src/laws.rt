@@ -105,14 +105,14 @@ pub fn older_texts()
     ensures { OlderTexts }
 {}
 
-/// With all units and at least as many parts as there are units, `write_within` prints the whole duration in the
+/// With all units and at least as many parts as there are units, `write_format` prints the whole duration in the
 /// format's style. In the short style it prints what `write_human` prints. So eleven parts of 193,029 milliseconds are
 /// `3min 13s 29ms`.
 pub fn all_parts()
     ensures { AllParts }
 {}
 
-/// A text printed within limits stands for the greatest duration that fits into the format and is not above the given
+/// A text printed in a format stands for the greatest duration that fits into the format and is not above the given
 /// one. A duration fits into a format if its own greatest breakdown, into the format's units and all shorter ones, has
 /// no more parts than the format allows, and has parts only in the format's units. That greatest duration prints as the
 /// same text, and the text is read as that duration if the duration is below 2^64 nanoseconds. So a countdown never

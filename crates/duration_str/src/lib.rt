@@ -35,8 +35,8 @@ pub use parser::{
     parse_with, parse_with_default_unit,
 };
 pub use printing::{
-    FORMAT_BUFFER_SIZE, MAX_LONG_LEN, MAX_PRINTED_LEN, STYLED_BUFFER_SIZE, write_human,
-    write_within,
+    FORMAT_BUFFER_SIZE, MAX_LONG_LEN, MAX_PRINTED_LEN, STYLED_BUFFER_SIZE, write_format,
+    write_human,
 };
 pub use report::REPORT_BUFFER_SIZE;
 pub use token::{Token, Tokens, What};

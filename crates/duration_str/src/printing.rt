@@ -1,4 +1,4 @@
-//! Durations printed for people, such as `3min 13s 29ms`: whole, or within limits and in a style.
+//! Durations printed for people, such as `3min 13s 29ms`: whole, or in a format.
 //!
 //! The text has the greatest possible count of the largest unit, then the greatest count of the next unit in what is
 //! left, and so on down to the smallest unit, or until there are as many parts as were asked for. Counts of 0 are left
@@ -16,7 +16,7 @@ ghost use Rattle.duration_str.specs.declared.printing.TheConstants.{MAX_PRINTED_
 ghost use Rattle.duration_str.specs.Units.{nanos_of, row_of, unit_lengths, units};
 ghost use Rattle.duration_str.specs.Printing.{IsPrinted};
 ghost use Rattle.duration_str.specs.Laws.{counts_of};
-ghost use Rattle.duration_str.specs.Limits.{IsPrintedWithin, chosen, counts_within, lengths_within, most_len, text_within, units_within};
+ghost use Rattle.duration_str.specs.Format.{IsPrintedWithin, chosen, counts_within, lengths_within, most_len, text_within, units_within};
 ghost use Rattle.duration_str.specs.Internal.PrintedBytes.{name_part, part_bytes, with_counts, with_gap, with_part, with_parts};
 ghost use Rattle.duration_str.specs.Internal.UnitTable.{printed_row};
 
@@ -68,7 +68,7 @@ pub fn write_human<'b>(d: &Duration, buffer: &'b mut [u8; FORMAT_BUFFER_SIZE]) -
 /// 999 microseconds 999 nanoseconds`.
 pub const MAX_LONG_LEN: usize = 134;
 
-/// The size of the buffer for `write_within`. It is the same for all styles.
+/// The size of the buffer for `write_format`. It is the same for all styles.
 pub const STYLED_BUFFER_SIZE: usize = 144;
 
 /// Prints a duration in this format to the start of a buffer, and returns the text. The buffer's
@@ -85,23 +85,23 @@ pub const STYLED_BUFFER_SIZE: usize = 144;
 /// it may change too. The call allocates nothing and cannot fail.
 ///
 /// ```
-/// use duration_str::{Format, STYLED_BUFFER_SIZE, Style, TimeUnit, write_within};
+/// use duration_str::{Format, STYLED_BUFFER_SIZE, Style, TimeUnit, write_format};
 /// use std::time::Duration;
 ///
 /// let build = Duration::new(193, 29_000_000);
 /// let mut buffer = [0; STYLED_BUFFER_SIZE];
 /// let two_parts = Format::whole().parts(2);
-/// assert_eq!(write_within(&build, two_parts, &mut buffer), "3min 13s");
+/// assert_eq!(write_format(&build, two_parts, &mut buffer), "3min 13s");
 /// let hours = Format::whole().smallest(TimeUnit::Hour);
-/// assert_eq!(write_within(&build, hours, &mut buffer), "0h");
-/// assert_eq!(write_within(&build, hours.largest(TimeUnit::Minute), &mut buffer), "0s");
+/// assert_eq!(write_format(&build, hours, &mut buffer), "0h");
+/// assert_eq!(write_format(&build, hours.largest(TimeUnit::Minute), &mut buffer), "0s");
 /// let long = two_parts.style(Style::Long);
-/// assert_eq!(write_within(&build, long, &mut buffer), "3 minutes 13 seconds");
+/// assert_eq!(write_format(&build, long, &mut buffer), "3 minutes 13 seconds");
 /// ```
-#[tactic(auto, using(crate::proofs::Printer::LimitsLemmas::printed_within))]
+#[tactic(auto, using(crate::proofs::Printer::FormatLemmas::printed_within))]
 #[inline(always)]
 #[must_use]
-pub fn write_within<'b>(
+pub fn write_format<'b>(
     d: &Duration,
     format: Format,
     buffer: &'b mut [u8; STYLED_BUFFER_SIZE],
@@ -228,7 +228,7 @@ fn put_wide(buffer: &mut [u8], at: usize, n: u128) -> usize
 
 /// Writes a unit's printed name. It copies four bytes (the name, and the spaces after it in the row), which takes no
 /// call and no branch.
-#[tactic(auto, using(crate::proofs::Printer::LimitsLemmas::name_copied, crate::proofs::Printer::LimitsLemmas::name_spaced))]
+#[tactic(auto, using(crate::proofs::Printer::FormatLemmas::name_copied, crate::proofs::Printer::FormatLemmas::name_spaced))]
 #[inline(always)]
 fn put_name(buffer: &mut [u8], at: usize, row: &Printed) -> usize
     requires right { row.now ≡ printed_row row.now.unit }
@@ -403,7 +403,7 @@ fn put_long(buffer: &mut [u8], set: Units, most: usize, nanos: u128, style: Styl
     put_parts(buffer, end, set, most - 1, parts.rest() as u64, style)
 }
 
-#[tactic(auto, using(crate::proofs::Printer::LimitsLemmas::with_nothing))]
+#[tactic(auto, using(crate::proofs::Printer::FormatLemmas::with_nothing))]
 #[inline(always)]
 fn put_within(buffer: &mut [u8], format: Format, d: Duration) -> usize
     requires room { most_len format.style + 4 ≤ length buffer.old }

@@ -1,11 +1,11 @@
 //! Durations printed within limits and in a style.
 ghost use Rattle.std.specs.Prelude.{◌≡◌, ◌+◌, ◌*◌, ◌<◌, ◌≤◌, ◌∷◌, ◌⊎◌, IfSome, IfNone, IsUtf8, take, drop};
 ghost use Rattle.std.specs.Str.{chars};
-ghost use Rattle.duration_str.specs.Limits.{IsPrintedWithin, most_len};
+ghost use Rattle.duration_str.specs.Format.{IsPrintedWithin, most_len};
 ghost use Rattle.duration_str_c.specs.Limits.{format_of, style_numbered, units_of};
 
 use crate::put;
-use duration_str::{Format, STYLED_BUFFER_SIZE, Style, Units, write_within};
+use duration_str::{Format, STYLED_BUFFER_SIZE, Style, Units, write_format};
 use std::time::Duration;
 
 /// Prints a duration in the units of a set, in at most `parts` parts and in a style, to the start of the buffer, with a
@@ -33,7 +33,7 @@ pub fn duration_str_format_styled(
     match format_of(units, parts, style) {
         Some(format) if nanos < 1_000_000_000 => {
             let mut printed = [0; STYLED_BUFFER_SIZE];
-            let text = write_within(&Duration::new(secs, nanos), format, &mut printed);
+            let text = write_format(&Duration::new(secs, nanos), format, &mut printed);
             put(text, buffer)
         }
         _ => put("", buffer),

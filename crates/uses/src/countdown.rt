@@ -8,7 +8,7 @@ ghost use Rattle.uses.specs.Common.{as_nanos, IsPrintedIn};
 ghost use Rattle.uses.specs.Countdown.{coarse, IsShown};
 
 use duration_str::laws::{all_parts, never_more, parts_and_rest};
-use duration_str::{Breakdown, Format, STYLED_BUFFER_SIZE, Style, TimeUnit, write_within};
+use duration_str::{Breakdown, Format, STYLED_BUFFER_SIZE, Style, TimeUnit, write_format};
 use std::time::Duration;
 
 /// Writes the time that is left to the caller's buffer, and returns the text. It has at most two parts, and no unit
@@ -22,7 +22,7 @@ pub fn time_left<'b>(left: &Duration, buffer: &'b mut [u8; STYLED_BUFFER_SIZE]) 
     ensures { (shown : ℕ) × IsShown (as_nanos left.now) (chars result.now) shown }
 {
     never_more();
-    write_within(
+    write_format(
         left,
         Format::whole().smallest(TimeUnit::Second).parts(2),
         buffer,
@@ -55,5 +55,5 @@ pub fn in_parts<'b>(
     ensures { 11 ≤ parts → IsPrintedIn style (as_nanos length.now) (chars result.now) }
 {
     all_parts();
-    write_within(length, Format::whole().parts(parts).style(style), buffer)
+    write_format(length, Format::whole().parts(parts).style(style), buffer)
 }

@@ -8,7 +8,7 @@ use core::time::Duration;
 /// The breakdown of a duration in a format: an iterator over its parts, which are units with their counts, the longest
 /// unit first.
 ///
-/// These are the parts that [`write_within`](crate::write_within) prints, without counts of 0. So a duration of 0 has
+/// These are the parts that [`write_format`](crate::write_format) prints, without counts of 0. So a duration of 0 has
 /// none. The format's style does not matter.
 ///
 /// ```

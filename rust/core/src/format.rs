@@ -10,12 +10,12 @@ use crate::unit::{TimeUnit, UNITS};
 /// `without` each take units out of the set. So their order does not matter, and none of them brings a unit back.
 ///
 /// ```
-/// use duration_str::{Format, STYLED_BUFFER_SIZE, TimeUnit, write_within};
+/// use duration_str::{Format, STYLED_BUFFER_SIZE, TimeUnit, write_format};
 /// use std::time::Duration;
 ///
 /// let days = Format::whole().largest(TimeUnit::Day);
 /// let mut buffer = [0; STYLED_BUFFER_SIZE];
-/// assert_eq!(write_within(&Duration::new(120 * 86_400, 5), days, &mut buffer), "120d 5ns");
+/// assert_eq!(write_format(&Duration::new(120 * 86_400, 5), days, &mut buffer), "120d 5ns");
 /// ```
 #[derive(Clone, Copy, Debug, PartialEq, Eq, Hash)]
 #[non_exhaustive]
@@ -32,14 +32,14 @@ pub struct Format {
 /// A set of units.
 ///
 /// ```
-/// use duration_str::{Format, STYLED_BUFFER_SIZE, TimeUnit, Units, write_within};
+/// use duration_str::{Format, STYLED_BUFFER_SIZE, TimeUnit, Units, write_format};
 /// use std::time::Duration;
 ///
 /// let half_a_year = Duration::new(180 * 86_400, 0);
 /// let mut buffer = [0; STYLED_BUFFER_SIZE];
 /// let mut usual = Format::whole();
 /// usual.units = Units::ALL.without(TimeUnit::Quarter).without(TimeUnit::Week);
-/// assert_eq!(write_within(&half_a_year, usual, &mut buffer), "6mon");
+/// assert_eq!(write_format(&half_a_year, usual, &mut buffer), "6mon");
 /// ```
 #[derive(Clone, Copy, Debug, PartialEq, Eq, Hash)]
 pub struct Units {
@@ -207,12 +207,12 @@ impl Format {
     /// Returns the same format without the units that are not in this list.
     ///
     /// ```
-    /// use duration_str::{Format, STYLED_BUFFER_SIZE, TimeUnit, write_within};
+    /// use duration_str::{Format, STYLED_BUFFER_SIZE, TimeUnit, write_format};
     /// use std::time::Duration;
     ///
     /// let days = Format::whole().only(&[TimeUnit::Year, TimeUnit::Day]);
     /// let mut buffer = [0; STYLED_BUFFER_SIZE];
-    /// assert_eq!(write_within(&Duration::new(400 * 86_400, 0), days, &mut buffer), "1y 35d");
+    /// assert_eq!(write_format(&Duration::new(400 * 86_400, 0), days, &mut buffer), "1y 35d");
     /// ```
     #[inline]
     #[must_use]
@@ -226,12 +226,12 @@ impl Format {
     /// Returns the same format without this unit.
     ///
     /// ```
-    /// use duration_str::{Format, STYLED_BUFFER_SIZE, TimeUnit, write_within};
+    /// use duration_str::{Format, STYLED_BUFFER_SIZE, TimeUnit, write_format};
     /// use std::time::Duration;
     ///
     /// let usual = Format::whole().without(TimeUnit::Quarter).without(TimeUnit::Week);
     /// let mut buffer = [0; STYLED_BUFFER_SIZE];
-    /// assert_eq!(write_within(&Duration::new(180 * 86_400, 0), usual, &mut buffer), "6mon");
+    /// assert_eq!(write_format(&Duration::new(180 * 86_400, 0), usual, &mut buffer), "6mon");
     /// ```
     #[inline]
     #[must_use]
@@ -245,11 +245,11 @@ impl Format {
     /// Returns the same format without the units that are longer than this one.
     ///
     /// ```
-    /// use duration_str::{Format, STYLED_BUFFER_SIZE, TimeUnit, write_within};
+    /// use duration_str::{Format, STYLED_BUFFER_SIZE, TimeUnit, write_format};
     /// use std::time::Duration;
     ///
     /// let minutes = Format::whole().largest(TimeUnit::Minute);
-    /// assert_eq!(write_within(&Duration::new(5_430, 0), minutes, &mut [0; STYLED_BUFFER_SIZE]), "90min 30s");
+    /// assert_eq!(write_format(&Duration::new(5_430, 0), minutes, &mut [0; STYLED_BUFFER_SIZE]), "90min 30s");
     /// ```
     #[inline]
     #[must_use]
@@ -263,13 +263,13 @@ impl Format {
     /// Returns the same format without the units that are shorter than this one.
     ///
     /// ```
-    /// use duration_str::{Format, STYLED_BUFFER_SIZE, TimeUnit, write_within};
+    /// use duration_str::{Format, STYLED_BUFFER_SIZE, TimeUnit, write_format};
     /// use std::time::Duration;
     ///
     /// let mut buffer = [0; STYLED_BUFFER_SIZE];
     /// let minutes = Format::whole().smallest(TimeUnit::Minute);
-    /// assert_eq!(write_within(&Duration::new(5_430, 0), minutes, &mut buffer), "1h 30min");
-    /// assert_eq!(write_within(&Duration::new(30, 0), minutes, &mut buffer), "0min");
+    /// assert_eq!(write_format(&Duration::new(5_430, 0), minutes, &mut buffer), "1h 30min");
+    /// assert_eq!(write_format(&Duration::new(30, 0), minutes, &mut buffer), "0min");
     /// ```
     #[inline]
     #[must_use]
@@ -283,11 +283,11 @@ impl Format {
     /// Returns the same format with at most `parts` parts.
     ///
     /// ```
-    /// use duration_str::{Format, STYLED_BUFFER_SIZE, write_within};
+    /// use duration_str::{Format, STYLED_BUFFER_SIZE, write_format};
     /// use std::time::Duration;
     ///
     /// let one_part = Format::whole().parts(1);
-    /// assert_eq!(write_within(&Duration::new(5_430, 0), one_part, &mut [0; STYLED_BUFFER_SIZE]), "1h");
+    /// assert_eq!(write_format(&Duration::new(5_430, 0), one_part, &mut [0; STYLED_BUFFER_SIZE]), "1h");
     /// ```
     #[inline]
     #[must_use]
@@ -298,11 +298,11 @@ impl Format {
     /// Returns the same format in this style.
     ///
     /// ```
-    /// use duration_str::{Format, STYLED_BUFFER_SIZE, Style, write_within};
+    /// use duration_str::{Format, STYLED_BUFFER_SIZE, Style, write_format};
     /// use std::time::Duration;
     ///
     /// let long = Format::whole().style(Style::Long);
-    /// assert_eq!(write_within(&Duration::new(5_400, 0), long, &mut [0; STYLED_BUFFER_SIZE]), "1 hour 30 minutes");
+    /// assert_eq!(write_format(&Duration::new(5_400, 0), long, &mut [0; STYLED_BUFFER_SIZE]), "1 hour 30 minutes");
     /// ```
     #[inline]
     #[must_use]

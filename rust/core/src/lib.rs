@@ -48,8 +48,8 @@ pub use self::parser::{
     parse_with, parse_with_default_unit,
 };
 pub use self::printing::{
-    FORMAT_BUFFER_SIZE, MAX_LONG_LEN, MAX_PRINTED_LEN, STYLED_BUFFER_SIZE, write_human,
-    write_within,
+    FORMAT_BUFFER_SIZE, MAX_LONG_LEN, MAX_PRINTED_LEN, STYLED_BUFFER_SIZE, write_format,
+    write_human,
 };
 pub use self::report::REPORT_BUFFER_SIZE;
 pub use self::token::{Token, Tokens, What};

@@ -1,5 +1,5 @@
 // Made by tools/erase of crates/duration_str/src/printing.rt.
-//! Durations printed for people, such as `3min 13s 29ms`: whole, or within limits and in a style.
+//! Durations printed for people, such as `3min 13s 29ms`: whole, or in a format.
 //!
 //! The text has the greatest possible count of the largest unit, then the greatest count of the next unit in what is
 //! left, and so on down to the smallest unit, or until there are as many parts as were asked for. Counts of 0 are left
@@ -51,7 +51,7 @@ pub fn write_human<'b>(d: &Duration, buffer: &'b mut [u8; FORMAT_BUFFER_SIZE]) -
 /// 999 microseconds 999 nanoseconds`.
 pub const MAX_LONG_LEN: usize = 134;
 
-/// The size of the buffer for `write_within`. It is the same for all styles.
+/// The size of the buffer for `write_format`. It is the same for all styles.
 pub const STYLED_BUFFER_SIZE: usize = 144;
 
 /// Prints a duration in this format to the start of a buffer, and returns the text. The buffer's
@@ -68,22 +68,22 @@ pub const STYLED_BUFFER_SIZE: usize = 144;
 /// it may change too. The call allocates nothing and cannot fail.
 ///
 /// ```
-/// use duration_str::{Format, STYLED_BUFFER_SIZE, Style, TimeUnit, write_within};
+/// use duration_str::{Format, STYLED_BUFFER_SIZE, Style, TimeUnit, write_format};
 /// use std::time::Duration;
 ///
 /// let build = Duration::new(193, 29_000_000);
 /// let mut buffer = [0; STYLED_BUFFER_SIZE];
 /// let two_parts = Format::whole().parts(2);
-/// assert_eq!(write_within(&build, two_parts, &mut buffer), "3min 13s");
+/// assert_eq!(write_format(&build, two_parts, &mut buffer), "3min 13s");
 /// let hours = Format::whole().smallest(TimeUnit::Hour);
-/// assert_eq!(write_within(&build, hours, &mut buffer), "0h");
-/// assert_eq!(write_within(&build, hours.largest(TimeUnit::Minute), &mut buffer), "0s");
+/// assert_eq!(write_format(&build, hours, &mut buffer), "0h");
+/// assert_eq!(write_format(&build, hours.largest(TimeUnit::Minute), &mut buffer), "0s");
 /// let long = two_parts.style(Style::Long);
-/// assert_eq!(write_within(&build, long, &mut buffer), "3 minutes 13 seconds");
+/// assert_eq!(write_format(&build, long, &mut buffer), "3 minutes 13 seconds");
 /// ```
 #[inline(always)]
 #[must_use]
-pub fn write_within<'b>(
+pub fn write_format<'b>(
     d: &Duration,
     format: Format,
     buffer: &'b mut [u8; STYLED_BUFFER_SIZE],

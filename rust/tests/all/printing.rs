@@ -2,7 +2,7 @@
 use crate::{Printed, PrintedIn, in_styles, vectors};
 use duration_str::{
     Format, FormattedDuration, HumanDuration, HumanFormat, Options, Style, TimeUnit,
-    format_duration, parse_with, write_human, write_within,
+    format_duration, parse_with, write_format, write_human,
 };
 #[cfg(any(feature = "chrono", feature = "time"))]
 use proptest::prelude::*;
@@ -30,7 +30,7 @@ fn prints_the_vectors_in_chosen_units() {
         let units: Vec<TimeUnit> = names.iter().map(|name| unit(name)).collect();
         for (style, printed) in in_styles(&short, &long) {
             let format = Format::whole().style(style).only(&units).parts(parts);
-            let written = write_within(&length, format, &mut [0xff; 144]).to_string();
+            let written = write_format(&length, format, &mut [0xff; 144]).to_string();
             assert_eq!(written, *printed, "{text} in {names:?}");
             let human = HumanDuration(length);
             let others = TimeUnit::ALL.iter().filter(|unit| !units.contains(unit));
@@ -166,7 +166,7 @@ fn prints_the_vectors() {
                 .parts(parts)
                 .style(style);
             assert_eq!(
-                write_within(&length, format, &mut [0xff; 144]),
+                write_format(&length, format, &mut [0xff; 144]),
                 printed,
                 "{text}"
             );

@@ -1,6 +1,6 @@
 -- Lemmas about the parts of a duration.
 use Rattle.duration_str.proofs.Common.{ap, arith, cases_Bool, common_steps, counts_within, div-add-mod', drop, eqb-true, inl, inr, length, List, map, nanos_of, nat_tests, nonzero, refl, rules, slice_index_or, Style, sym, TimeUnit, with_counts, with_part, with_parts, zero-div, [], ℕ, ◌%◌, ◌*◌, ◌+◌, ◌-◌, ◌∙◌, ◌/◌, ◌<◌, ◌==◌, ◌^◌, ◌∷◌, ◌≡◌, ◌≤◌}
-use Rattle.duration_str.proofs.Printer.LimitsLemmas.{each_short, part_grows}
+use Rattle.duration_str.proofs.Printer.FormatLemmas.{each_short, part_grows}
 use Rattle.duration_str.proofs.LawProofs.GreatestWithin.{some_length}
 use Rattle.duration_str.specs.Breakdown.{parts_in}
 use Rattle.duration_str.specs.Internal.PrintedBytes.{with_each}

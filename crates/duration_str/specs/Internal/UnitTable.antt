@@ -5,7 +5,7 @@ use Rattle.std.specs.List.{find, list_any, suffix_len}
 use Rattle.duration_str.specs.declared.unit.Printed.{Printed}
 use Rattle.duration_str.specs.declared.unit.TimeUnit.{TimeUnit}
 use Rattle.duration_str.specs.Text.{Bytes, Characters}
-use Rattle.duration_str.specs.Limits.{chosen}
+use Rattle.duration_str.specs.Format.{chosen}
 use Rattle.duration_str.specs.Units.{nanos_of, row_of, units}
 use Rattle.duration_str.specs.Options.{off}
 use Rattle.duration_str.specs.OneLine.{is_among, small_words}

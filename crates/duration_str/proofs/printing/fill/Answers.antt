@@ -1,6 +1,6 @@
 use Rattle.duration_str.proofs.Common.{ap, arith, as_nanos, common_steps, length, length-take-le}
 use Rattle.duration_str.proofs.Printer.PrintedBytesLemmas.{ended_take}
-use Rattle.duration_str.proofs.Printer.LimitsLemmas.{within_ended, within_fits, within_utf8}
+use Rattle.duration_str.proofs.Printer.FormatLemmas.{within_ended, within_fits, within_utf8}
 use Rattle.duration_str.proofs.printing.fill.Goals as goal
 
 pub returns-then-end-eq0-clause-text : goal.returns-then-end-eq0-clause-text

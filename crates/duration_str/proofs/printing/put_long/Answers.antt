@@ -2,7 +2,7 @@ use Rattle.duration_str.proofs.Common.{ap, arith, length, TimeUnit, units, with_
 use Rattle.duration_str.proofs.Printer.BreakdownLemmas.{each_grows, long_printed, long_rest, parts_printed}
 use Rattle.duration_str.proofs.printing.put_long.Goals as goal
 use Rattle.duration_str.specs.Breakdown.{nanos_left, parts_in, parts_left}
-use Rattle.duration_str.specs.Limits.{chosen}
+use Rattle.duration_str.specs.Format.{chosen}
 
 pub returns-in_default-clause-text : goal.returns-in_default-clause-text
 returns-in_default-clause-text c =

@@ -3,7 +3,7 @@ use Rattle.duration_str.proofs.Printer.BreakdownLemmas.{each_grows, each_printed
 use Rattle.duration_str.proofs.printing.put_parts.Goals as goal
 use Rattle.duration_str.specs.Breakdown.{parts_left}
 use Rattle.duration_str.specs.Internal.PrintedBytes.{with_each}
-use Rattle.duration_str.specs.Limits.{chosen}
+use Rattle.duration_str.specs.Format.{chosen}
 
 pub loop-row-init : goal.loop-row-init
 loop-row-init c =

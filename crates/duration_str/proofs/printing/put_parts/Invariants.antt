@@ -2,7 +2,7 @@ use Rattle.duration_str.proofs.Common.{length, take, units, with_parts, ◌<◌,
 use Rattle.duration_str.proofs.printing.put_parts.Given as goal
 use Rattle.duration_str.specs.Breakdown.{nanos_left, parts_left}
 use Rattle.duration_str.specs.Internal.PrintedBytes.{with_each}
-use Rattle.duration_str.specs.Limits.{chosen}
+use Rattle.duration_str.specs.Format.{chosen}
 
 abbrev pub invariant-loop-row : goal.invariant-loop-row
 invariant-loop-row l = record {

@@ -1,5 +1,5 @@
 use Rattle.duration_str.proofs.Common.{ap, arith, common_steps, decimal, encode_utf8_all, row_of, Short, sym, take, with_gap, with_part, [], ◌++◌, ◌+◌, ◌-◌, ◌∙◌, ◌∷◌, ◌≡◌, ◌≤◌}
-use Rattle.duration_str.proofs.Printer.LimitsLemmas.{name_short, take_part}
+use Rattle.duration_str.proofs.Printer.FormatLemmas.{name_short, take_part}
 use Rattle.duration_str.proofs.Printer.SpacedLemmas.{last_space, spaced_part, three_digits}
 use Rattle.duration_str.proofs.printing.put_spaced.Goals as goal
 use borrow.Rule.Slice.PartMut.{put_mid}

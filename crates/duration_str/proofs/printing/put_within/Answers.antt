@@ -1,6 +1,6 @@
 use Rattle.duration_str.proofs.Common.{arith, as_nanos, rules, unit_lengths, whole_format, ◌≡◌}
 use Rattle.duration_str.proofs.LawProofs.AllParts.{all_counts}
-use Rattle.duration_str.proofs.Printer.LimitsLemmas.{within_fits}
+use Rattle.duration_str.proofs.Printer.FormatLemmas.{within_fits}
 use Rattle.duration_str.proofs.Printer.SetLemmas.{chosen_whole}
 use Rattle.duration_str.proofs.printing.put_within.Goals as goal
 

@@ -1,5 +1,5 @@
 use Rattle.duration_str.proofs.Common.{arith}
-use Rattle.duration_str.proofs.Printer.LimitsLemmas.{chosen_below_day}
+use Rattle.duration_str.proofs.Printer.FormatLemmas.{chosen_below_day}
 use Rattle.duration_str.proofs.printing.set_for.Goals as goal
 
 pub returns-then-nanos : goal.returns-then-nanos

@@ -1,6 +1,6 @@
 use Rattle.duration_str.proofs.Common.{arith, as_nanos, chars, IsPrintedWithin, Short, ◌∙◌}
 use Rattle.duration_str.proofs.LawProofs.AllParts.{all_parts_holds}
-use Rattle.duration_str.proofs.Printer.LimitsLemmas.{printed_within}
+use Rattle.duration_str.proofs.Printer.FormatLemmas.{printed_within}
 use Rattle.duration_str.proofs.printing.write_human.Goals as goal
 
 pub returns-clause-text : goal.returns-clause-text

@@ -1,6 +1,6 @@
 use Rattle.duration_str.proofs.Common.{map, nanos_of, refl, shorter_units, unit_lengths, units_within, ◌++◌, ◌≡◌, arith, as_nanos, cases_lt, chars, inl, inr, IsMostWithin, IsPrintedWithin, List, off, ℕ}
 use Rattle.uses.specs.Countdown.{coarse}
-use Rattle.duration_str.specs.Limits.{chosen, is_in}
+use Rattle.duration_str.specs.Format.{chosen, is_in}
 use Rattle.uses.proofs.countdown.time_left.Goals as goal
 use Rattle.duration_str.specs.declared.unit.TimeUnit.TheVariants.{Second}
 use Rattle.std.proofs.Common.{Some}
@@ -13,9 +13,9 @@ all_lengths = refl
 pub returns : goal.returns
 returns c =
     let left : ℕ = as_nanos c.args.left.now in
-    let text : List ℕ = chars c.write_within.result.now in
+    let text : List ℕ = chars c.write_format.result.now in
     let printed : IsPrintedWithin coarse left text =
-    rw (c.parts.ensures, c.smallest.ensures, c.whole.ensures) at c.write_within.ensures.text in
+    rw (c.parts.ensures, c.smallest.ensures, c.whole.ensures) at c.write_format.ensures.text in
     let law = c.never_more.ensures coarse left text printed in
     let most : IsMostWithin coarse left text law.0 = law.1 in (
       law.0,

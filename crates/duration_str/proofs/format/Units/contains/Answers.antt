@@ -1,5 +1,5 @@
 use Rattle.duration_str.proofs.format.Units.contains.Goals as goal
-use Rattle.duration_str.specs.Limits.{is_in}
+use Rattle.duration_str.specs.Format.{is_in}
 use Rattle.std.proofs.lemmas.Nat.Bits.{shr_and_one}
 
 pub returns : goal.returns

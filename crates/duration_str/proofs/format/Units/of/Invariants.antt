@@ -1,6 +1,6 @@
 use Rattle.duration_str.proofs.Common.{drop, length, ◌-◌, ◌≡◌}
 use Rattle.duration_str.proofs.format.Units.of.Given as goal
-use Rattle.duration_str.specs.Limits.{set_of, with_each}
+use Rattle.duration_str.specs.Format.{set_of, with_each}
 
 abbrev pub invariant-loop-i : goal.invariant-loop-i
 invariant-loop-i l = with_each (drop l.i l.units) l.set ≡ set_of l.units

@@ -1,7 +1,7 @@
 use Rattle.duration_str.proofs.Common.{arith, rank_of}
 use Rattle.duration_str.proofs.Printer.SetLemmas.{or_bit, ranks, short_rank}
 use Rattle.duration_str.proofs.format.Units.with.Goals as goal
-use Rattle.duration_str.specs.Limits.{is_in}
+use Rattle.duration_str.specs.Format.{is_in}
 use Rattle.std.proofs.lemmas.Nat.{one_shl}
 
 pub returns-clause-value : goal.returns-clause-value

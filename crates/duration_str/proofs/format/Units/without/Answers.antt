@@ -1,7 +1,7 @@
 use Rattle.duration_str.proofs.Common.{arith, rank_of}
 use Rattle.duration_str.proofs.Printer.SetLemmas.{clear_bit, ranks, short_rank}
 use Rattle.duration_str.proofs.format.Units.without.Goals as goal
-use Rattle.duration_str.specs.Limits.{is_in}
+use Rattle.duration_str.specs.Format.{is_in}
 
 pub returns-clause-units : goal.returns-clause-units
 unfolding is_in

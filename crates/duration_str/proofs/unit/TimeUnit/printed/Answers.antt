@@ -1,4 +1,4 @@
-use Rattle.duration_str.proofs.Printer.LimitsLemmas.{row_at}
+use Rattle.duration_str.proofs.Printer.FormatLemmas.{row_at}
 use Rattle.duration_str.proofs.unit.TimeUnit.printed.Goals as goal
 
 pub returns : goal.returns

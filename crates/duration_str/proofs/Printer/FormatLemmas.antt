@@ -1,7 +1,7 @@
--- Lemmas about the steps of printing within limits, and about the most bytes that a text has.
+-- Lemmas about the steps of printing in a format, and about the most bytes that a text has.
 use Rattle.duration_str.proofs.Common.{add_assoc, append_assoc, ap, arith, between, byte_len, cases_Bool, chars, chars_from_encodes, counts_within, decimal, div-le_self, drop, encode_utf8_all, Format, inl, inr, IsPrintedWithin, IsUtf8, le-div_iff_mul-le, leb, leb-true, length, length-append, lengths_within, List, ltb, ltb-true, map, most_len, nanos_of, nat_tests, part_bytes, Printed, printed_row, rank_of, refl, row_of, rules, slice_index_or, Style, sym, take, take-append-add, text_within, TimeUnit, units, units_within, with_counts, with_gap, with_part, Year, zero-div, zero_unit, [], ℕ, ◌%◌, ◌*◌, ◌++◌, ◌+◌, ◌-◌, ◌∙◌, ◌/◌, ◌<◌, ◌==◌, ◌^◌, ◌∷◌, ◌≡◌, ◌≤◌, Bool, Day, Hour, list_all, true, and_parts, with_parts, Units}
 use Rattle.duration_str.proofs.Printer.SetLemmas.{chosen_in, chosen_none, chosen_out, hours_chosen}
-use Rattle.duration_str.specs.Limits.{chosen, is_in, up_to}
+use Rattle.duration_str.specs.Format.{chosen, is_in, up_to}
 use Rattle.std.specs.Prelude.{max}
 use Rattle.duration_str.proofs.Characters.UnitLemmas.{all_units, each_unit, length_name, length_part, name_len}
 use Rattle.duration_str.proofs.Printer.DigitLemmas.{length_smaller}
@@ -187,7 +187,7 @@ pub within_utf8 : (format : Format) (nanos : ℕ) → nanos < 10 ^ 64
     → IsUtf8 (encode_utf8_all (text_within format (counts_within (lengths_within format) format.parts nanos)))
 within_utf8 format nanos h = search (rules, IsUtf8-joined, within_short)
 
--- If the bytes are the text of the counts within limits, they print the duration.
+-- If the bytes are the text of the counts in a format, they print the duration.
 pub printed_within : (format : Format) (nanos : ℕ) (bytes : List ℕ) → IsUtf8 bytes
     → bytes ≡ encode_utf8_all (text_within format (counts_within (lengths_within format) format.parts nanos))
     → IsPrintedWithin format nanos (chars bytes)
