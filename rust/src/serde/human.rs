@@ -175,7 +175,7 @@ const fn unit_of_numbers(how: u8) -> Option<TimeUnit> {
 }
 
 /// Reads a text, or its bytes, as a duration. If `HOW` is `SECONDS` or `MILLIS`, it also reads a
-/// whole number.
+/// whole number, which may be a float.
 struct Text<T, const HOW: u8>(PhantomData<T>);
 
 impl<T: Length, const HOW: u8> Visitor<'_> for Text<T, HOW> {
@@ -230,6 +230,14 @@ impl<T: Length, const HOW: u8> Visitor<'_> for Text<T, HOW> {
         }
     }
 
+    fn visit_f32<E: de::Error>(self, number: f32) -> Result<T, E> {
+        self.visit_whole(number.into(), f32::MANTISSA_DIGITS)
+    }
+
+    fn visit_f64<E: de::Error>(self, number: f64) -> Result<T, E> {
+        self.visit_whole(number, f64::MANTISSA_DIGITS)
+    }
+
     fn visit_str<E: de::Error>(self, text: &str) -> Result<T, E> {
         let read = match HOW {
             REQUIRE_UNIT => parse_with_default_unit(text, ADDITIONS, None),
@@ -249,6 +257,23 @@ impl<T: Length, const HOW: u8> Visitor<'_> for Text<T, HOW> {
         match str::from_utf8(bytes) {
             Ok(text) => self.visit_str(text),
             Err(_) => Err(E::invalid_value(Unexpected::Bytes(bytes), &self)),
+        }
+    }
+}
+
+impl<T: Length, const HOW: u8> Text<T, HOW> {
+    /// Reads a float of this many binary digits, which must be whole, not negative and below 2 to
+    /// the power of `digits`. From there on a float can have lost digits.
+    fn visit_whole<E: de::Error>(self, number: f64, digits: u32) -> Result<T, E> {
+        if unit_of_numbers(HOW).is_none() {
+            return Err(E::invalid_type(Unexpected::Float(number), &self));
+        }
+        // The cast cuts a fraction off, and makes 0 of NaN and of negative numbers.
+        let whole = number as u64;
+        if whole as f64 == number && whole < 1 << digits {
+            self.visit_u64(whole)
+        } else {
+            Err(E::invalid_value(Unexpected::Float(number), &self))
         }
     }
 }

@@ -3,7 +3,8 @@
 //!
 //! So `timeout = 1500` in TOML, `"timeout": 1500` and `"timeout": "1500"` in JSON and
 //! `timeout: 1500` in YAML are 1.5 seconds. [`parse_in`](crate::parse_in) reads the texts, so `+`
-//! and `*` are not read. A number that is not a text must be whole, and not negative.
+//! and `*` are not read. A number that is not a text must be whole, and not negative. `1500.0` is
+//! whole too.
 //!
 //! Durations are written as text, with their units. The format must store the types of its values,
 //! which bincode and similar formats don't do.
@@ -45,7 +46,7 @@ pub use human::serialize;
 /// use serde_json::json;
 /// use std::time::Duration;
 ///
-/// for value in [json!(1500), json!("1500"), json!("1s 500ms")] {
+/// for value in [json!(1500), json!(1500.0), json!("1500"), json!("1s 500ms")] {
 ///     let read: Duration = human_or_millis::deserialize(value)?;
 ///     assert_eq!(read, Duration::from_millis(1_500));
 /// }

@@ -2,8 +2,8 @@
 //! but also reads numbers, as seconds.
 //!
 //! So `timeout = 30` in TOML, `"timeout": 30` in JSON and `timeout: 30` in YAML are 30 seconds. The
-//! number must be whole, and not negative. For a fraction of a second, write a text such as
-//! `"1500ms"`.
+//! number must be whole, such as `30` or `30.0`, and not negative. For a fraction of a second,
+//! write a text such as `"1500ms"`.
 //!
 //! Durations are written as text. The format must store the types of its values, which bincode and
 //! similar formats don't do.
@@ -49,7 +49,7 @@ pub use human::serialize;
 /// assert_eq!(minute, Duration::from_secs(60));
 /// let fraction: Result<Duration, _> = human_or_seconds::deserialize(json!(1.5));
 /// let expected = "a duration such as '1min 30s', or whole seconds of at most 584 years";
-/// let line = format!("invalid type: floating point `1.5`, expected {expected}");
+/// let line = format!("invalid value: floating point `1.5`, expected {expected}");
 /// assert_eq!(fraction.unwrap_err().to_string(), line);
 /// # Ok::<(), serde_json::Error>(())
 /// ```

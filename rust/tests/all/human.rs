@@ -6,8 +6,8 @@ use duration_str::{
     human_require_unit, humantime_serde, parse_duration, parse_in,
 };
 use serde::de::value::{
-    BytesDeserializer, Error, F64Deserializer, I64Deserializer, I128Deserializer, U64Deserializer,
-    U128Deserializer,
+    BytesDeserializer, Error, F32Deserializer, F64Deserializer, I64Deserializer, I128Deserializer,
+    U64Deserializer, U128Deserializer,
 };
 use serde::de::{Deserializer, Error as _, Visitor};
 use serde::{Deserialize, Serialize, forward_to_deserialize_any};
@@ -372,15 +372,66 @@ fn reads_whole_milliseconds_and_texts() {
         in_millis(U64Deserializer::new(longest + 1)),
         refusal("value: integer `18446744073710`")
     );
-    assert_eq!(
-        in_millis(F64Deserializer::new(1.5)),
-        refusal("type: floating point `1.5`")
-    );
     for text in ["90s*2", "5 mins"] {
         let line = parse_in(text, TimeUnit::MilliSecond).unwrap_err();
         let refusal = in_millis(BytesDeserializer::new(text.as_bytes()));
         assert_eq!(refusal, Err(format!("invalid duration: {line}")));
     }
+}
+
+#[test]
+fn reads_whole_floats_as_numbers() {
+    let wanted = Ok(Duration::from_millis(1_500));
+    assert_eq!(in_millis(F64Deserializer::new(1_500.0)), wanted);
+    assert_eq!(in_millis(F32Deserializer::new(1_500.0)), wanted);
+    assert_eq!(
+        with_numbers(F64Deserializer::new(30.0)),
+        Ok(Duration::from_secs(30))
+    );
+    assert_eq!(in_millis(F64Deserializer::new(-0.0)), Ok(Duration::ZERO));
+    let json: Option<Duration> = human_or_millis::deserialize(json!(1_500.0)).unwrap();
+    assert_eq!(json, Some(Duration::from_millis(1_500)));
+    // This is the greatest float of 32 bits that can't have lost a digit. That of 64 bits is too
+    // large for milliseconds, and so has the refusal of an integer.
+    assert_eq!(
+        in_millis(F32Deserializer::new(16_777_215.0)),
+        Ok(Duration::from_millis(16_777_215))
+    );
+    assert_eq!(
+        in_millis(F64Deserializer::new(9_007_199_254_740_991.0)),
+        in_millis(U64Deserializer::new(9_007_199_254_740_991))
+    );
+}
+
+#[test]
+fn refuses_other_floats() {
+    let expected = "a duration such as '1min 30s', or whole milliseconds of at most 584 years";
+    let is_refused = |read: Result<Duration, String>| {
+        let line = read.unwrap_err();
+        // Some versions of serde write `-1.0` as `-1`.
+        assert!(
+            line.starts_with("invalid value: floating point `"),
+            "{line}"
+        );
+        assert!(line.ends_with(&format!(", expected {expected}")), "{line}");
+    };
+    for number in [
+        1.5,
+        -1.0,
+        0.1,
+        9_007_199_254_740_992.0,
+        18_446_744_073_709_551_616.0,
+        f64::NAN,
+        f64::INFINITY,
+    ] {
+        is_refused(in_millis(F64Deserializer::new(number)));
+    }
+    is_refused(in_millis(F32Deserializer::new(16_777_216.0)));
+    // No unit is named here, so no number is read.
+    assert!(human::deserialize::<Duration, _>(json!(60.0)).is_err());
+    assert!(human_require_unit::deserialize::<Duration, _>(json!(60.0)).is_err());
+    let number = F64Deserializer::<Error>::new(60.0);
+    assert!(human::deserialize::<Duration, _>(number).is_err());
 }
 
 /// Reads a value as a number of this unit, or as a text in which it is the default unit. There are
@@ -433,10 +484,6 @@ fn refuses_other_numbers_in_one_line() {
     assert_eq!(
         with_numbers(I128Deserializer::new(-1)),
         refusal("value: negative integer")
-    );
-    assert_eq!(
-        with_numbers(F64Deserializer::new(1.5)),
-        refusal("type: floating point `1.5`")
     );
     let long: Result<Duration, _> = human_or_seconds::deserialize(json!("600y"));
     assert_eq!(
