@@ -25,24 +25,28 @@ use duration_str_core::{Breakdown, Format, STYLED_BUFFER_SIZE, Style, TimeUnit, 
 ///
 /// # What is printed
 ///
-/// The text has the greatest possible count of the largest unit, then the greatest count of the
-/// next unit in what is left, and so on down to the smallest unit, or until the number of parts is
-/// reached. Counts of 0 are left out. The remainder at the end is left out too.
+/// If the largest unit that you ask for is shorter than the smallest, no unit is left, and each
+/// duration prints as `0s`. The same is true if you ask for no unit. These calls can't fail, so if
+/// a user chooses the units, compare them first:
+///
+/// ```
+/// use duration_str::{Style, TimeUnit, format_duration};
+/// use std::time::Duration;
+///
+/// let build = format_duration(Duration::from_secs(193));
+/// let nothing = build.largest(TimeUnit::Second).smallest(TimeUnit::Hour);
+/// assert_eq!(nothing.to_string(), "0s");
+/// assert_eq!(build.only(&[]).style(Style::Long).to_string(), "0 seconds");
+/// ```
+///
+/// Otherwise the text has the greatest possible count of the largest unit, then the greatest count
+/// of the next unit in what is left, and so on down to the smallest unit, or until the number of
+/// parts is reached. Counts of 0 are left out. The remainder at the end is left out too.
 ///
 /// Each call that chooses units only takes units away, so you can make these calls in any order.
 ///
 /// If all counts are 0, or if you ask for 0 parts, the text is `0` and the smallest unit's name. If
-/// that unit is shorter than a second, the text is `0s`, even if you left out the second. If you
-/// left out all units, the text is `0s` for each duration. In the long style it is `0 seconds`.
-///
-/// ```
-/// use duration_str::{Style, format_duration};
-/// use std::time::Duration;
-///
-/// let nothing = format_duration(Duration::from_secs(5)).only(&[]);
-/// assert_eq!(nothing.to_string(), "0s");
-/// assert_eq!(nothing.style(Style::Long).to_string(), "0 seconds");
-/// ```
+/// that unit is shorter than a second, the text is `0s`, even if you left out the second.
 ///
 /// Width and fill pad the text. A precision is ignored.
 ///
@@ -231,7 +235,8 @@ chooses! {
     /// ```
     without: TimeUnit,
 
-    /// Leaves out the units that are longer than this one.
+    /// Leaves out the units that are longer than this one. If it is shorter than the smallest unit,
+    /// no unit is left, and each duration prints as `0s`.
     ///
     /// ```
     /// use duration_str::{TimeUnit, format_duration};
@@ -242,7 +247,8 @@ chooses! {
     /// ```
     largest: TimeUnit,
 
-    /// Leaves out the units that are shorter than this one.
+    /// Leaves out the units that are shorter than this one. If it is longer than the largest unit,
+    /// no unit is left, and each duration prints as `0s`.
     ///
     /// ```
     /// use duration_str::{TimeUnit, format_duration};
