@@ -179,6 +179,7 @@ static void check_null_texts(void) {
     expect(!duration_str_parse(NULL, 0, &nanos) && nanos == 7, "a null text");
     expect(!duration_str_parse_with(NULL, 0, 0, &answer), "a null text with options");
     expect(answer.cause == DURATION_STR_CAUSE_EMPTY, "its answer");
+    expect(duration_str_unit(NULL, 0) == -1, "a null name");
 }
 
 /* Whether a duration is printed as `wanted`, in these units, parts and style, to a buffer of marks.
@@ -234,6 +235,52 @@ static void check_units(void) {
     expect(DURATION_STR_UNITS_BETWEEN(year, nanosecond) == all, "all units");
 }
 
+/* Whether the name gives this number, and so does the name in ASCII capitals. */
+static bool is_unit(const char *name, int32_t wanted) {
+    char capitals[16];
+    const size_t length = strlen(name);
+    if (length > sizeof capitals)
+        return false;
+    for (size_t at = 0; at < length; at++)
+        capitals[at] = (char)(name[at] >= 'a' && name[at] <= 'z' ? name[at] - 'a' + 'A' : name[at]);
+    return duration_str_unit(name, length) == wanted &&
+           duration_str_unit(capitals, length) == wanted;
+}
+
+static void check_unit_names(void) {
+    static const char *const names[][9] = {
+        {"y", "year", "years"},
+        {"q", "quarter", "quarters"},
+        {"mon", "month", "months"},
+        {"w", "week", "weeks"},
+        {"d", "day", "days"},
+        {"h", "hr", "hour", "hours"},
+        {"m", "min", "minute", "minutes"},
+        {"s", "sec", "second", "seconds"},
+        {"ms", "msec", "millisecond", "milliseconds"},
+        {"\xc2\xb5s", "\xc2\xb5sec", "\xc2\xb5second", "us", "usec", "usecond", "microsecond",
+            "microseconds"},
+        {"ns", "nsec", "nanosecond", "nanoseconds"},
+    };
+    static const char *const chinese[] = {"\xe5\xb9\xb4", "\xe6\x9c\x88", "\xe5\x91\xa8",
+        "\xe6\x97\xa5", "\xe5\xa4\xa9", "\xe6\x97\xb6", "\xe5\x88\x86", "\xe7\xa7\x92",
+        "\xe6\xaf\xab\xe7\xa7\x92", "\xe5\xbe\xae\xe7\xa7\x92", "\xe7\xba\xb3\xe7\xa7\x92"};
+    static const char *const others[] = {"", " ", " min", "min ", "1min", "1", "+", "mins", "mi",
+        "minut", "minutess", "\xc2\xb5", "\xce\xbcs", "milliseconds1", "microsecondss"};
+    for (int32_t unit = DURATION_STR_UNIT_YEAR; unit <= DURATION_STR_UNIT_NANOSECOND; unit++)
+        for (const char *const *name = names[unit]; *name != NULL; name++)
+            expect(is_unit(*name, unit), "the name of a unit");
+    for (size_t at = 0; at < sizeof chinese / sizeof *chinese; at++)
+        expect(is_unit(chinese[at], -1), "a Chinese name");
+    for (size_t at = 0; at < sizeof others / sizeof *others; at++)
+        expect(is_unit(others[at], -1), "a text that is no name of a unit");
+    expect(duration_str_unit("hours", 1) == DURATION_STR_UNIT_HOUR, "a name that doesn't end");
+    expect(duration_str_unit("h\0", 2) == -1, "a name with a zero byte");
+    expect(duration_str_unit("h\xff", 2) == -1 && duration_str_unit("\xc2", 1) == -1 &&
+               duration_str_unit("\xb5s", 2) == -1,
+        "bytes that are no UTF-8, as a name");
+}
+
 static void check_one_line(void) {
     const char *text = "3h 2 mins";
     char line[DURATION_STR_ONE_LINE_BUFFER_SIZE];
@@ -269,6 +316,7 @@ int main(void) {
     check_plain_calls();
     check_styles();
     check_units();
+    check_unit_names();
     check_one_line();
     check_null_texts();
     return wrong;

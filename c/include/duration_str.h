@@ -174,7 +174,8 @@ enum duration_str_expected {
     DURATION_STR_EXPECTED_END = 8       /* the end of the text */
 };
 
-/* The units, the longest first. */
+/* The units, the longest first. In C++ the enumeration's name always needs the
+ * word `enum`, since a function has the same name. */
 /* The enumeration is made by tests/repository --write. */
 enum duration_str_unit {
     DURATION_STR_UNIT_YEAR = 0,
@@ -313,6 +314,19 @@ size_t duration_str_report(
     const char *text, size_t length, uint32_t options,
     struct duration_str_answer *answer,
     char buffer[DURATION_STR_AT_LEAST DURATION_STR_REPORT_BUFFER_SIZE]);
+
+/* Finds a unit by its name, such as `h`, `ms` or `minutes`. Returns the unit's
+ * number in `enum duration_str_unit`, or -1 if no unit has this name or if the
+ * bytes are not UTF-8.
+ *
+ * The name is passed like a text. It is one of the names of units above, and
+ * its ASCII letters may be capitals. The Chinese names give -1. So do the empty
+ * name, and a name with anything before or after it, such as `5min` or ` min`.
+ *
+ * The number 0 is the year, so compare the result with -1. Do so before you
+ * pass it to DURATION_STR_UNITS or DURATION_STR_UNITS_BETWEEN. */
+DURATION_STR_MUST_USE
+int32_t duration_str_unit(const char *name, size_t length);
 
 /* Returns the version of the library, in the form of
  * DURATION_STR_VERSION_NUMBER. */

@@ -1,7 +1,7 @@
 //! The functions of `duration_str.h`. Each makes slices of C's pointers and calls the proved
 //! function of the same name.
 #![deny(clippy::no_mangle_with_rust_abi)]
-use crate::{answer::Answer, limits, message};
+use crate::{answer::Answer, limits, message, unit};
 use core::mem::{MaybeUninit, offset_of, zeroed};
 use core::{ptr::copy_nonoverlapping, slice::from_raw_parts};
 
@@ -99,6 +99,11 @@ unsafe extern "C" fn duration_str_report(
     written(out, |buffer| {
         message::duration_str_report(text, bits, answer, buffer)
     })
+}
+
+#[unsafe(no_mangle)]
+unsafe extern "C" fn duration_str_unit(name: *const u8, len: usize) -> i32 {
+    unit::duration_str_unit(unsafe { bytes(name, len) })
 }
 
 #[unsafe(no_mangle)]

@@ -13,6 +13,8 @@ pub mod answer;
 pub mod limits;
 #[forbid(unsafe_code)]
 pub mod message;
+#[forbid(unsafe_code)]
+pub mod unit;
 
 use crate::answer::Answer;
 use crate::message::refusal_of;

@@ -185,6 +185,36 @@ static void check_default_units(struct text text, const struct duration_str_answ
     }
 }
 
+static bool is_of_a_letter(uint8_t byte) {
+    return (byte >= 'A' && byte <= 'Z') || (byte >= 'a' && byte <= 'z') || byte >= 0x80;
+}
+
+/* Returns the first letters of the text that follow one another. */
+static struct text first_word(struct text text) {
+    size_t start = 0;
+    while (start < text.length && !is_of_a_letter(text.bytes[start]))
+        start++;
+    size_t end = start;
+    while (end < text.length && is_of_a_letter(text.bytes[end]))
+        end++;
+    return text_at(prints, text.bytes + start, end - start);
+}
+
+/* If a unit has this name, `1` and the name are read as one of this unit. */
+static void check_unit_name(struct text name) {
+    const int32_t unit = duration_str_unit((const char *)name.bytes, name.length);
+    HOLDS(unit >= -1 && unit <= DURATION_STR_UNIT_NANOSECOND);
+    if (unit == -1)
+        return;
+    uint8_t term[1 + 12] = "1";
+    HOLDS(name.length > 0 && name.length < sizeof term);
+    memcpy(term + 1, name.bytes, name.length);
+    struct duration_str_answer one =
+        read_with(text_at(prints, (const uint8_t *)"1", 1), DURATION_STR_OPTION_DEFAULT_UNIT(unit));
+    HOLDS(one.cause == DURATION_STR_CAUSE_READ &&
+          are_equal(one, read_with(text_at(prints, term, 1 + name.length), 0)));
+}
+
 static void check(struct text text) {
     const struct duration_str_answer unknown = {.cause = DURATION_STR_CAUSE_UNKNOWN_OPTION};
     struct duration_str_answer answers[CHOICES];
@@ -201,6 +231,8 @@ static void check(struct text text) {
     }
     check_plain(text, answers[0]);
     check_default_units(text, answers);
+    check_unit_name(text);
+    check_unit_name(first_word(text));
 }
 
 int LLVMFuzzerTestOneInput(const uint8_t *data, size_t size) {

@@ -1,7 +1,10 @@
--- Examples that are computed: which bits are options, and which default unit they stand for.
-use Rattle.std.proofs.Common.{◌≡◌, false, None, Some, true}
+-- Examples that are computed: which bits are options, which default unit they stand for, and the numbers of units.
+use Rattle.std.proofs.Common.{◌≡◌, codes, false, negsuc, None, pos, Some, true}
+use Rattle.duration_str.specs.Options.{off}
 use Rattle.duration_str.specs.declared.unit.TimeUnit.TheVariants.{MilliSecond, NanoSecond, Second, Year}
+use Rattle.duration_str.specs.Units.{unit_of_word}
 use Rattle.duration_str_c.specs.Answers.{are_options, default_unit_of_bits}
+use Rattle.duration_str_c.specs.Units.{number_of}
 
 pub record Bits : Type 0 where
   -- ---- The options
@@ -29,3 +32,18 @@ pub record Bits : Type 0 where
 
 pub bits : Bits
 bits = assumption
+
+pub record UnitNumbers : Type 0 where
+  pub year : number_of (Some Year) ≡ pos 0
+  pub second : number_of (Some Second) ≡ pos 7
+  pub nanosecond : number_of (Some NanoSecond) ≡ pos 10
+  pub none : number_of None ≡ negsuc 0
+  pub name : number_of (unit_of_word off (codes "hours")) ≡ pos 5
+  pub name-capitals : number_of (unit_of_word off (codes "MIN")) ≡ pos 6
+  pub name-chinese : number_of (unit_of_word off (codes "年")) ≡ negsuc 0
+  pub name-empty : number_of (unit_of_word off (codes "")) ≡ negsuc 0
+  pub name-blank : number_of (unit_of_word off (codes " h")) ≡ negsuc 0
+  pub name-number : number_of (unit_of_word off (codes "1h")) ≡ negsuc 0
+
+pub unit_numbers : UnitNumbers
+unit_numbers = assumption

@@ -16,6 +16,7 @@ ghost use Rattle.duration_str_c.specs.Answers.{are_options, default_unit_of_bits
 pub mod answer;
 pub mod limits;
 pub mod message;
+pub mod unit;
 
 use crate::answer::Answer;
 use crate::message::refusal_of;
