@@ -219,7 +219,11 @@ static void check_units(void) {
     expect(is_printed(193, 0, DURATION_STR_UNITS_BETWEEN(year, day), 2, style, "0d"), "no days");
     expect(is_printed(0, 5, DURATION_STR_UNITS(DURATION_STR_UNIT_MILLISECOND), 2, style, "0s"),
         "no milliseconds");
-    expect(is_printed(193, 0, 0, 2, style, "0s"), "no units");
+    const uint32_t none = DURATION_STR_UNITS_BETWEEN(second, day);
+    expect(is_printed(193, 0, none, 2, style, "") && is_printed(0, 0, none, 0, style, "") &&
+               is_printed(193, 0, none, 2, DURATION_STR_STYLE_COMPACT, "") &&
+               is_printed(193, 0, none, 2, DURATION_STR_STYLE_LONG, ""),
+        "no units");
     expect(is_printed(193, 0, all + 1, 2, style, "") &&
                is_printed(193, 0, DURATION_STR_UNITS(nanosecond + 1), 2, style, "") &&
                is_printed(193, 0, all | 1u << 16, 2, style, "") &&

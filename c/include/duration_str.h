@@ -199,7 +199,8 @@ enum duration_str_unit {
 #define DURATION_STR_UNITS(unit) (UINT32_C(1) << (unit))
 
 /* The set of the units from `largest` to `smallest`. The set is empty, which
- * is 0, if `largest` is shorter than `smallest`. */
+ * is 0, if `largest` is shorter than `smallest`. duration_str_format_styled
+ * refuses the empty set. */
 #define DURATION_STR_UNITS_BETWEEN(largest, smallest) \
     (((UINT32_C(2) << (smallest)) - 1) & (UINT32_MAX << (largest)))
 
@@ -263,11 +264,11 @@ size_t duration_str_format(
  * If all counts are 0, the text is `0` and the name of the smallest unit in
  * the set, such as `0h`. If that unit is shorter than a second, the text is
  * `0s`, even if the set has no second. If `parts` is 0, every duration has
- * this text. If the set is empty, every duration has the text `0s`. In the
- * long style `0h` is `0 hours`, and `0s` is `0 seconds`.
+ * this text. In the long style `0h` is `0 hours`, and `0s` is `0 seconds`.
  *
  * Returns 0, and the text is empty, if `nanos` is 1,000,000,000 or more, if
- * `style` is above 2, or if `units` is above DURATION_STR_UNITS_ALL. */
+ * `style` is above 2, or if `units` is the empty set or above
+ * DURATION_STR_UNITS_ALL. */
 DURATION_STR_NONNULL(6)
 size_t duration_str_format_styled(
     uint64_t secs, uint32_t nanos, uint32_t units, uint32_t parts,

@@ -9,8 +9,8 @@ use core::time::Duration;
 /// zero byte after it. Returns the length of the text without the zero. The rest of the buffer is unchanged.
 ///
 /// In the set the bit 2^n stands for the unit at index n of `UNITS`: 1 is the year, 1,024 is the nanosecond, and 2,047
-/// is all units. The styles are 0 for short, 1 for compact and 2 for long. If `nanos` is a second or more, `units` is
-/// above 2,047, or `style` is above 2, the call returns 0, and the text is empty.
+/// is all units. The styles are 0 for short, 1 for compact and 2 for long. If `nanos` is a second or more, `units` is 0
+/// or above 2,047, or `style` is above 2, the call returns 0, and the text is empty.
 pub fn duration_str_format_styled(
     secs: u64,
     nanos: u32,
@@ -29,8 +29,8 @@ pub fn duration_str_format_styled(
     }
 }
 
-/// The format with the units of these bits, at most `parts` parts, and the style with this number. It is `None` if a
-/// bit is above that of the last unit, or if no style has this number.
+/// The format with the units of these bits, at most `parts` parts, and the style with this number. It is `None` if no
+/// bit is set, if a bit is above that of the last unit, or if no style has this number.
 fn format_of(units: u32, parts: u32, style: u32) -> Option<Format> {
     let mut format = Format::whole()
         .parts(parts as usize)
@@ -39,8 +39,11 @@ fn format_of(units: u32, parts: u32, style: u32) -> Option<Format> {
     Some(format)
 }
 
-/// The set of the units of these bits, or `None` if a bit is above that of the last unit.
+/// The set of the units of these bits, or `None` if no bit is set, or if a bit is above that of the last unit.
 fn units_of(bits: u32) -> Option<Units> {
+    if bits == 0 {
+        return None;
+    }
     match u16::try_from(bits) {
         Ok(bits) => Units::from_bits(bits),
         Err(_) => None,

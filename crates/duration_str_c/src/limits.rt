@@ -12,8 +12,8 @@ use std::time::Duration;
 /// zero byte after it. Returns the length of the text without the zero. The rest of the buffer is unchanged.
 ///
 /// In the set the bit 2^n stands for the unit at index n of `UNITS`: 1 is the year, 1,024 is the nanosecond, and 2,047
-/// is all units. The styles are 0 for short, 1 for compact and 2 for long. If `nanos` is a second or more, `units` is
-/// above 2,047, or `style` is above 2, the call returns 0, and the text is empty.
+/// is all units. The styles are 0 for short, 1 for compact and 2 for long. If `nanos` is a second or more, `units` is 0
+/// or above 2,047, or `style` is above 2, the call returns 0, and the text is empty.
 pub fn duration_str_format_styled(
     secs: u64,
     nanos: u32,
@@ -22,13 +22,14 @@ pub fn duration_str_format_styled(
     style: u32,
     buffer: &mut [u8; STYLED_BUFFER_SIZE],
 ) -> usize
-    ensures text { nanos < 1_000_000_000 → units < 2048 → style ≤ 2
+    ensures text { nanos < 1_000_000_000 → 0 < units → units < 2048 → style ≤ 2
         → IsPrintedWithin (format_of units parts (style_numbered style))
         (secs * 1_000_000_000 + nanos) (chars (take result buffer.new)) }
     ensures utf8 { IsUtf8 (take result buffer.new) }
     ensures rest { drop result buffer.new ≡ 0 ∷ drop (result + 1) buffer.old }
     ensures short { result ≤ most_len (style_numbered style) }
-    ensures refused { (1_000_000_000 ≤ nanos) ⊎ ((2048 ≤ units) ⊎ (2 < style)) → result ≡ 0 }
+    ensures refused { (1_000_000_000 ≤ nanos) ⊎ ((units ≡ 0) ⊎ ((2048 ≤ units) ⊎ (2 < style)))
+        → result ≡ 0 }
 {
     match format_of(units, parts, style) {
         Some(format) if nanos < 1_000_000_000 => {
@@ -40,12 +41,12 @@ pub fn duration_str_format_styled(
     }
 }
 
-/// The format with the units of these bits, at most `parts` parts, and the style with this number. It is `None` if a
-/// bit is above that of the last unit, or if no style has this number.
+/// The format with the units of these bits, at most `parts` parts, and the style with this number. It is `None` if no
+/// bit is set, if a bit is above that of the last unit, or if no style has this number.
 fn format_of(units: u32, parts: u32, style: u32) -> Option<Format>
-    ensures format { IfSome result (λ format. (units < 2048) × (style ≤ 2)
+    ensures format { IfSome result (λ format. (0 < units) × (units < 2048) × (style ≤ 2)
         × (format ≡ format_of units parts (style_numbered style))) }
-    ensures none { IfNone result ((2048 ≤ units) ⊎ (2 < style)) }
+    ensures none { IfNone result ((units ≡ 0) ⊎ ((2048 ≤ units) ⊎ (2 < style))) }
 {
     let mut format = Format::whole()
         .parts(parts as usize)
@@ -54,11 +55,14 @@ fn format_of(units: u32, parts: u32, style: u32) -> Option<Format>
     Some(format)
 }
 
-/// The set of the units of these bits, or `None` if a bit is above that of the last unit.
+/// The set of the units of these bits, or `None` if no bit is set, or if a bit is above that of the last unit.
 fn units_of(bits: u32) -> Option<Units>
-    ensures some { IfSome result (λ units. (bits < 2048) × (units ≡ units_of bits)) }
-    ensures none { IfNone result (2048 ≤ bits) }
+    ensures some { IfSome result (λ units. (0 < bits) × (bits < 2048) × (units ≡ units_of bits)) }
+    ensures none { IfNone result ((bits ≡ 0) ⊎ (2048 ≤ bits)) }
 {
+    if bits == 0 {
+        return None;
+    }
     match u16::try_from(bits) {
         Ok(bits) => Units::from_bits(bits),
         Err(_) => None,
