@@ -629,7 +629,7 @@ NEAR_WORDS = {
     "ns": "nsecs nanos",
     "us": "usecs useconds micros μs μsec μsecs μsecond μseconds",
 }
-ALL_UNITS = "write y, q, mon, w, d, h, min, s, ms, us or ns"
+NAMES = "y, q, mon, w, d, h, min, s, ms, us or ns"
 QUOTED = 40
 
 # Control characters, blanks except the space, and characters that Unicode allows programs to
@@ -715,6 +715,15 @@ def help_at(text, place, piece, expected):
     )
 
 
+def missing_unit_help(text, expected):
+    """The help for a number that lacks its unit, which is one after which only a unit can stand.
+    Zero is the same in each unit.
+    """
+    if expected != {"unit"}:
+        return None
+    return f"write the number's unit: {NAMES}" if text.strip(BLANKS + "0") else "write 0s"
+
+
 def expected_in_line(expected):
     """The words for what could stand at the place: a unit or a number, and then operators and the
     end."""
@@ -768,10 +777,12 @@ def one_line(text, answer):
         told = (
             f'did you mean "{name}"?'
             if name
-            else help_at(text, answer.place, piece, answer.expected) or ALL_UNITS
+            else help_at(text, answer.place, piece, answer.expected) or f"write {NAMES}"
         )
         return f"unknown unit {quote(piece)}{column} ({told})"
-    told = help_at(text, answer.place, piece, answer.expected)
+    told = help_at(text, answer.place, piece, answer.expected) or missing_unit_help(
+        text, answer.expected
+    )
     found = f", found {quote(piece) if piece else 'the end'}"
     return expected_in_line(answer.expected) + column + found + (f" ({told})" if told else "")
 

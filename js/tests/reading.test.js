@@ -246,7 +246,8 @@ test("reads the nearest number of milliseconds", () => {
     assert.equal(parse("1分", { cnUnit: true }), 60_000);
     assert.equal(parse("1h 30m", { requireUnit: true }), 5_400_000);
     const { fault } = tryParse("90", { requireUnit: true });
-    assert.equal(fault.message, "expected a unit at column 3, found the end");
+    const help = "(write the number's unit: y, q, mon, w, d, h, min, s, ms, us or ns)";
+    assert.equal(fault.message, `expected a unit at column 3, found the end ${help}`);
     assert.deepEqual(fault.expected, { number: false, unit: true, operator: false, end: false });
 });
 

@@ -157,7 +157,7 @@ class Models(unittest.TestCase):
             duration_str.DurationRequireUnit,
         )
         for text, line in [
-            ("90", "expected a unit at column 3, found the end"),
+            ("90", r"expected a unit at column 3, found the end \(write the number's unit: "),
             ("1h 30 + 5x", 'expected a unit at column 7, found "\\+"'),
             ("", "empty text"),
             ("9" * 99_999, "expected a unit at column 100000, found the end"),

@@ -95,8 +95,9 @@ pub(crate) fn naming(default_unit: TimeUnit) -> Options {
 /// use duration_str::{DurationError, parse_require_unit};
 ///
 /// assert_eq!(parse_require_unit("1h 30m")?.as_secs(), 5_400);
-/// let refusal = parse_require_unit("1h 30").unwrap_err();
-/// assert_eq!(refusal.to_string(), "expected a unit at column 6, found the end");
+/// assert_eq!(parse_require_unit("1h 30").unwrap_err().place(), Some(5));
+/// let zero = parse_require_unit("0").unwrap_err();
+/// assert_eq!(zero.to_string(), "expected a unit at column 2, found the end (write 0s)");
 /// # Ok::<(), DurationError>(())
 /// ```
 pub fn parse_require_unit(input: &str) -> Result<Duration, DurationError> {

@@ -170,6 +170,7 @@ fn prints_in_chosen_units() {
 /// The faults are those of the grammar in which each number has a unit, also under other options.
 #[test]
 fn requires_units() {
+    let help = "(write the number's unit: y, q, mon, w, d, h, min, s, ms, us or ns)";
     for (text, line) in [
         ("90 -", "expected a unit at column 4, found \"-\""),
         ("1h 30 + 5x", "expected a unit at column 7, found \"+\""),
@@ -181,7 +182,7 @@ fn requires_units() {
     ] {
         for more in [&[][..], &["--lowercase"], &["--cn-unit"]] {
             let words = [&["--require-unit"], more, &[text]].concat();
-            let errors = format!("duration: argument 1: {line}\n");
+            let errors = format!("duration: argument 1: {line} {help}\n");
             assert_eq!(run(&words, b""), (1, "".into(), errors));
         }
     }

@@ -465,10 +465,25 @@ pub record Lines : Type 0 where
       ≡ codes "expected a number at column 6, found \",\""
   pub line-and : one_line_of (codes "1h And 30m") (Syntax 3 after_unit-no_calc)
       ≡ codes "expected a number or the end at column 4, found \"And\" (one duration is read, without \",\" or \"and\")"
-  pub line-unit_alone : one_line_of (codes "1h 30") (Syntax 5 unit_alone)
-      ≡ codes "expected a unit at column 6, found the end"
   pub line-and_a_unit : one_line_of (codes "5 & 3") (Syntax 2 after_number)
       ≡ codes "expected a unit, '+', '*' or the end at column 3, found \"&\""
+  -- ---- Help with a number that lacks its unit
+  pub line-unit_alone : one_line_of (codes "1h 30") (Syntax 5 unit_alone)
+      ≡ codes "expected a unit at column 6, found the end (write the number's unit: y, q, mon, w, d, h, min, s, ms, us or ns)"
+  pub line-unit_before_a_sign : one_line_of (codes "90+1") (Syntax 2 unit_alone)
+      ≡ codes "expected a unit at column 3, found \"+\" (write the number's unit: y, q, mon, w, d, h, min, s, ms, us or ns)"
+  pub line-zeros : one_line_of (codes " 00\t") (Syntax 4 unit_alone)
+      ≡ codes "expected a unit at column 5, found the end (write 0s)"
+  pub line-zero_after_zero : one_line_of (codes "0 0") (Syntax 2 unit_alone)
+      ≡ codes "expected a unit at column 3, found \"0\" (write 0s)"
+  pub line-number_after_zero : one_line_of (codes "0 5") (Syntax 2 unit_alone)
+      ≡ codes "expected a unit at column 3, found \"5\" (write the number's unit: y, q, mon, w, d, h, min, s, ms, us or ns)"
+  pub line-unit_or_the_end : one_line_of (codes "0 0") (Syntax 2 after_number-no_calc)
+      ≡ codes "expected a unit or the end at column 3, found \"0\""
+  pub line-clock_without_a_unit : one_line_of (codes "0:00") (Syntax 1 unit_alone)
+      ≡ codes "expected a unit at column 2, found \":\" (clock times are not read: write 1h 30m or 1m 30s)"
+  pub line-letters_after_zero : one_line_of (codes "0 x") (Syntax 2 unit_alone)
+      ≡ codes "unknown unit \"x\" at column 3 (write y, q, mon, w, d, h, min, s, ms, us or ns)"
 
 pub lines : Lines
 unfolding chars digits encode
@@ -523,6 +538,8 @@ pub record Reports : Type 0 where
       ≡ codes "expected a number, '+', '*' or the end at column 4, found \"-\""
   pub report-quote : report_of (codes "1h -\"") (Syntax 3 after_unit)
       ≡ codes "expected a number, '+', '*' or the end at column 4, found \"-\""
+  pub report-zero : report_of (codes "0") (Syntax 1 unit_alone)
+      ≡ codes "0\n ^\nexpected a unit at column 2, found the end (write 0s)"
   pub report-overflow : report_of (codes "600y") (Overflow (Some 0)) ≡ codes "duration of over 584 years in \"600y\""
 
 pub reports : Reports

@@ -113,9 +113,13 @@ near_name word =
 abbrev pub name_help : Bytes → Bytes
 name_help name = codes " (did you mean \"" ++ (name ++ codes "\"?)")
 
+-- the names that a help lists, one of each unit, and the bracket after them
+abbrev pub listed_names : Bytes
+listed_names = codes "y, q, mon, w, d, h, min, s, ms, us or ns)"
+
 -- this help, or the names of all units if it is empty
 abbrev pub help_or_units : Bytes → Bytes
-help_or_units help = if length help == 0 then codes " (write y, q, mon, w, d, h, min, s, ms, us or ns)" else help
+help_or_units help = if length help == 0 then codes " (write " ++ listed_names else help
 
 -- the help for a word that is no unit: the name that it is near, or otherwise the help for its place, or otherwise the
 -- names of all units
@@ -165,6 +169,17 @@ help_at expected text place piece =
     else if is_digit last then digit_help piece next
     else []
 
+-- the help at the end of a line that says what was expected. It is the help for the place, if there is some. Otherwise,
+-- if only a unit could stand at the place, a number lacks its unit, and the help says what to write. That is `0s` if the
+-- whole text is zeros and blanks, since zero is the same in each unit
+abbrev pub missing_unit_help : Expected → Bytes → Bytes → Bytes
+missing_unit_help expected text help =
+    let lacks_unit = expected.unit_word && not (expected.operator || expected.text_end) in
+    if lacks_unit && length help == 0
+    then (if list_all (λ b. b == 48 || is_blank b) text then codes " (write 0s)"
+    else codes " (write the number's unit: " ++ listed_names)
+    else help
+
 -- ---- The line
 
 -- the words that say what was expected
@@ -202,7 +217,7 @@ syntax_line text place expected piece =
     let bytes = encode_utf8_all piece in
     let help = help_at expected text place bytes in
     if expected.unit_word && begins_with_letter piece then unknown_line column piece (unit_help (near_name bytes) help)
-    else found_line (expected_words expected) column piece help
+    else found_line (expected_words expected) column piece (missing_unit_help expected text help)
 
 -- the line that says what is wrong and quotes the whole text, with the help at the end
 abbrev pub text_line : Bytes → Bytes → Bytes → Bytes

@@ -14,7 +14,7 @@ ghost use Rattle.duration_str.specs.Faults.{place_of};
 ghost use Rattle.std.specs.Option.{ForSome};
 ghost use Rattle.duration_str.specs.Internal.UnitTable.{is_megabyte, is_near};
 ghost use Rattle.std.specs.Int.{is_in_range};
-ghost use Rattle.duration_str.specs.OneLine.{one_line_of, is_plain, is_clear, is_letter, is_like, first_piece, shown, quoted, at_column, found_line, found_words, unknown_line, syntax_line, text_line, overflow_line, expected_words, begins_with_letter, near_name, name_help, unit_help, first_help, digit_help, help_or_units, help_at};
+ghost use Rattle.duration_str.specs.OneLine.{one_line_of, is_plain, is_clear, is_letter, is_like, first_piece, shown, quoted, at_column, found_line, found_words, unknown_line, syntax_line, text_line, overflow_line, expected_words, begins_with_letter, near_name, name_help, unit_help, first_help, digit_help, help_or_units, help_at, missing_unit_help};
 ghost use Rattle.duration_str.specs.declared.one_line.TheConstants.{MAX_ONE_LINE_LEN, NEAR_WORDS};
 
 use crate::cause::{Cause, Expected};
@@ -93,7 +93,8 @@ fn put_syntax(buffer: &mut [u8], text: &str, place: usize, expected: Expected) -
     if expected.unit_word && begins_with_letter(piece) {
         put_unknown(buffer, column, piece, help)
     } else {
-        put_found(buffer, expected_words(expected), column, piece, help)
+        let found_help = missing_unit_help(expected, text.as_bytes(), help);
+        put_found(buffer, expected_words(expected), column, piece, found_help)
     }
 }
 
@@ -504,6 +505,22 @@ fn digit_help(piece: &str, next: u8) -> &'static str
     }
 }
 
+/// The help at the end of a line that says what was expected. It is `help`, if that is not empty. Otherwise, if only a
+/// unit could stand at the place, a number lacks its unit, and the help says what to write. That is `0s` if the whole
+/// text is zeros and blanks, since zero is the same in each unit.
+fn missing_unit_help(expected: Expected, text: &[u8], help: &'static str) -> &'static str
+    ensures { result.now ≡ missing_unit_help expected text.now help.now }
+{
+    let lacks_unit = expected.unit_word && !expected.operator && !expected.text_end;
+    if !lacks_unit || !help.is_empty() {
+        help
+    } else if is_zero(text) {
+        " (write 0s)"
+    } else {
+        " (write the number's unit: y, q, mon, w, d, h, min, s, ms, us or ns)"
+    }
+}
+
 fn are_blank(bytes: &[u8]) -> bool
     ensures { result ≡ list_all is_blank bytes.now }
 {
@@ -516,6 +533,12 @@ fn is_number(bytes: &[u8]) -> bool
     bytes
         .iter()
         .all(|b| b.is_ascii_digit() || is_blank(char::from(*b)))
+}
+
+fn is_zero(bytes: &[u8]) -> bool
+    ensures { result ≡ list_all (λ b. b == 48 || is_blank b) bytes.now }
+{
+    bytes.iter().all(|b| *b == b'0' || is_blank(char::from(*b)))
 }
 
 fn last_byte(bytes: &[u8]) -> u8

@@ -69,7 +69,8 @@ fn put_syntax(buffer: &mut [u8], text: &str, place: usize, expected: Expected) -
     if expected.unit_word && begins_with_letter(piece) {
         put_unknown(buffer, column, piece, help)
     } else {
-        put_found(buffer, expected_words(expected), column, piece, help)
+        let found_help = missing_unit_help(expected, text.as_bytes(), help);
+        put_found(buffer, expected_words(expected), column, piece, found_help)
     }
 }
 
@@ -402,6 +403,20 @@ fn digit_help(piece: &str, next: u8) -> &'static str {
     }
 }
 
+/// The help at the end of a line that says what was expected. It is `help`, if that is not empty. Otherwise, if only a
+/// unit could stand at the place, a number lacks its unit, and the help says what to write. That is `0s` if the whole
+/// text is zeros and blanks, since zero is the same in each unit.
+fn missing_unit_help(expected: Expected, text: &[u8], help: &'static str) -> &'static str {
+    let lacks_unit = expected.unit_word && !expected.operator && !expected.text_end;
+    if !lacks_unit || !help.is_empty() {
+        help
+    } else if is_zero(text) {
+        " (write 0s)"
+    } else {
+        " (write the number's unit: y, q, mon, w, d, h, min, s, ms, us or ns)"
+    }
+}
+
 fn are_blank(bytes: &[u8]) -> bool {
     bytes.iter().all(|b| is_blank(char::from(*b)))
 }
@@ -410,6 +425,10 @@ fn is_number(bytes: &[u8]) -> bool {
     bytes
         .iter()
         .all(|b| b.is_ascii_digit() || is_blank(char::from(*b)))
+}
+
+fn is_zero(bytes: &[u8]) -> bool {
+    bytes.iter().all(|b| *b == b'0' || is_blank(char::from(*b)))
 }
 
 fn last_byte(bytes: &[u8]) -> u8 {

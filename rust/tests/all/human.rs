@@ -292,7 +292,8 @@ fn requires_units_in_fields() {
         json!({ "timeout": "1m", "pauses": ["1m", "90"] }),
     ] {
         let refusal = from_value::<RequireUnit>(refused).unwrap_err().to_string();
-        let line = "invalid duration: expected a unit at column 3, found the end";
+        let line = "invalid duration: expected a unit at column 3, found the end \
+            (write the number's unit: y, q, mon, w, d, h, min, s, ms, us or ns)";
         assert_eq!(refusal, line);
     }
     // The format is asked for a text, so YAML's number 90 is read as a text without a unit.

@@ -1,10 +1,10 @@
 -- Lemmas about a fault in one line.
-use Rattle.duration_str.proofs.Common.{ahead, and_parts, ap, append-nil, append_assoc, arith, Bool, cases_Bool, Cause, chars, chars-encodes, chars-nil, chars_from_encodes, chars_past_char, codes, common_steps, cond, decimal, decimal_by_steps, drop, Empty, encode_ascii, encode_utf8, encode_utf8_all, encodes-append, encodes-chars, eqb-true, Expected, false, find, ForSome, if◌then◌else◌, inl, inr, IsCharBoundary, IsCharBoundary-at_seam, IsTrue, IsUtf8, IsUtf8-drop, IsUtf8-take, leb-true, len_utf8_bounds, length, length-append, length-decimal-le, length-encode, length-le-encodes, List, list_all, list_all-append, lit<, ltb-true, map, Mixed, nat_le, nat_tests, None, NotText, NumberTooLarge, Option, OutOfRange, Overflow, place_of, refl, row_of, rules, scalar, scalars, scalars-chars, slice_range, Some, suc, Syntax, take, take-nil, take_while, take_while-cons, TimeUnit, to_ascii_lowercase, true, units, zero, [], ℕ, ◌%◌, ◌&&◌, ◌*◌, ◌++◌, ◌+◌, ◌-◌, ◌<◌, ◌==◌, ◌^◌, ◌||◌, ◌∙◌, ◌∷◌, ◌≡◌, ◌≢◌, ◌≤◌}
+use Rattle.duration_str.proofs.Common.{ahead, and_parts, ap, append-nil, append_assoc, arith, Bool, cases_Bool, Cause, chars, chars-encodes, chars-nil, chars_from_encodes, chars_past_char, codes, common_steps, cond, decimal, decimal_by_steps, drop, Empty, encode_ascii, encode_utf8, encode_utf8_all, encodes-append, encodes-chars, eqb-true, Expected, false, find, ForSome, if◌then◌else◌, inl, inr, is_blank, IsCharBoundary, IsCharBoundary-at_seam, IsTrue, IsUtf8, IsUtf8-drop, IsUtf8-take, leb-true, len_utf8_bounds, length, length-append, length-decimal-le, length-encode, length-le-encodes, List, list_all, list_all-append, lit<, ltb-true, map, Mixed, nat_le, nat_tests, None, NotText, NumberTooLarge, Option, OutOfRange, Overflow, place_of, refl, row_of, rules, scalar, scalars, scalars-chars, slice_range, Some, suc, Syntax, take, take-nil, take_while, take_while-cons, TimeUnit, to_ascii_lowercase, true, units, zero, [], ℕ, ◌%◌, ◌&&◌, ◌*◌, ◌++◌, ◌+◌, ◌-◌, ◌<◌, ◌==◌, ◌^◌, ◌||◌, ◌∙◌, ◌∷◌, ◌≡◌, ◌≢◌, ◌≤◌}
 use Rattle.std.proofs.Common.{lit≤, nat_lt}
 use Rattle.std.proofs.lemmas.Bool.{le-leb, lt-leb}
 use Rattle.std.proofs.lemmas.List.{length-take, nil_from_length}
 use Rattle.duration_str.specs.Messages.{chars_before}
-use Rattle.duration_str.specs.OneLine.{at_column, begins_with_letter, expected_words, first_piece, found_line, found_words, help_at, is_among, is_clear, is_like, is_plain, near_name, near_words, one_line_of, overflow_line, quoted, quoted_end, shown, small_words, syntax_line, text_line, unit_help, us_words}
+use Rattle.duration_str.specs.OneLine.{at_column, begins_with_letter, expected_words, first_piece, found_line, found_words, help_at, is_among, is_clear, is_like, is_plain, listed_names, missing_unit_help, near_name, near_words, one_line_of, overflow_line, quoted, quoted_end, shown, small_words, syntax_line, text_line, unit_help, us_words}
 use Rattle.std.specs.Char.Escape.{escape_default, escape_unicode, hex_digit_at, short_escape}
 use Rattle.std.specs.Prelude.{not}
 use Rattle.std.specs.Int.{is_in_range}
@@ -223,6 +223,31 @@ unit_help_short word help short =
 
 -- ---- The line
 
+missing_short : (text : List ℕ)
+    → IsShort 68 (if list_all (λ b. b == 48 || is_blank b) text then codes " (write 0s)"
+    else codes " (write the number's unit: " ++ listed_names)
+missing_short text = search (chosen, literal)
+
+unit_alone : (expected : Expected) → (expected.unit_word && not (expected.operator || expected.text_end)) ≡ true
+    → expected_words expected ≡ codes "expected a unit"
+unit_alone expected only = grind (arith, common_steps)
+
+-- The help for a number without its unit is longer than any other help. It stands only after the shortest of the words
+-- that say what was expected, so the line is no longer than with the longest words and other help.
+words_short : (expected : Expected) (text help : List ℕ) {column found : List ℕ} → IsShort 31 column → IsShort 173 found
+    → IsShort 52 help
+    → IsShort 294 (expected_words expected ++ (column ++ (found ++ missing_unit_help expected text help)))
+words_short expected text help column found short =
+    let only = expected.unit_word && not (expected.operator || expected.text_end) in
+    elim (cases_Bool (only && length help == 0)) [
+      | inl missing ↦
+          let words = unit_alone expected (and_parts only (length help == 0) missing).0 in
+          rw (missing, words)
+          (less (lit≤ tt) (joined (literal 15 (codes "expected a unit") refl) (joined column (joined found (missing_short text)))))
+      | inr other ↦
+          rw other (less (lit≤ tt) (joined (expected_short expected) (joined column (joined found short))))
+    ]
+
 syntax_short : (text : List ℕ) (place : ℕ) (expected : Expected) → IsPlaced text place
     → IsShort 294 (syntax_line text place expected (first_piece (ahead text place)))
 syntax_short text place expected is =
@@ -233,7 +258,7 @@ syntax_short text place expected is =
     let column = column_short text place is in
     let help = help_short expected text place (encode_utf8_all (first_piece rest)) in
     chosen _ (less (lit≤ tt) (joined (literal 13 (codes "unknown unit ") refl) (joined piece (joined column (unit_help_short _ _ help)))))
-    (less (lit≤ tt) (joined (expected_short expected) (joined column (joined (found_short _ piece) help))))
+    (words_short expected text _ column (found_short _ piece) help)
 
 text_short : (problem text help : List ℕ) → IsUtf8 text → IsShort 26 problem → IsShort 41 help
     → IsShort 294 (text_line problem text help)
@@ -260,7 +285,8 @@ one_line_short text (NotText false) utf8 small placed = literal 294 _ refl
 -- If no unknown unit stands at the place, the line says what was expected.
 pub no_unit_word : (text : List ℕ) (place : ℕ) (expected : Expected) (piece : List ℕ)
     → (expected.unit_word && begins_with_letter piece) ≡ false
-    → found_line (expected_words expected) (chars_before text place + 1) piece (help_at expected text place (encode_utf8_all piece))
+    → found_line (expected_words expected) (chars_before text place + 1) piece
+    (missing_unit_help expected text (help_at expected text place (encode_utf8_all piece)))
     ≡ syntax_line text place expected piece
 no_unit_word text place expected piece no_word = rw no_word refl
 

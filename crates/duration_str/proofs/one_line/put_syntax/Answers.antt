@@ -31,4 +31,10 @@ returns-else-expected c =
       ← no_unit_word c.args.text.now c.args.place c.args.expected piece no_word,
       encodes-chars c.first_piece-piece.result.now c.first_piece-piece.utf8,
       ← c.chars_before-column.ensures.count,
-    ) (rw (c.help_at-help.ensures, c.as_bytes.ensures.value, c.expected_words.ensures) at c.put_found.ensures)
+    ) (rw (
+      c.missing_unit_help-found_help.ensures,
+      c.help_at-help.ensures,
+      c.as_bytes.ensures.value,
+      c.as_bytes-else-expected.ensures.value,
+      c.expected_words.ensures,
+    ) at c.put_found.ensures)
