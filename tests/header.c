@@ -189,7 +189,7 @@ static bool is_printed(uint64_t secs, uint32_t nanos, uint32_t units, uint32_t p
     char printed[DURATION_STR_STYLED_BUFFER_SIZE];
     memset(printed, '#', sizeof printed);
     return is_written(
-        printed, duration_str_format_styled(secs, nanos, units, parts, style, printed), wanted);
+        printed, duration_str_format_with(secs, nanos, units, parts, style, printed), wanted);
 }
 
 static void check_styles(void) {

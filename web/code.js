@@ -122,7 +122,7 @@ function cPrintCall(limits) {
     const { parts = UNITS.length, style = "short" } = limits;
     return [
         "char buffer[DURATION_STR_STYLED_BUFFER_SIZE];",
-        "duration_str_format_styled(",
+        "duration_str_format_with(",
         "    answer.nanos / 1000000000, answer.nanos % 1000000000,",
         `    ${cUnits(limits)},`,
         `    ${parts}, DURATION_STR_STYLE_${style.toUpperCase()}, buffer);`,

@@ -50,9 +50,9 @@
 /* The size of the buffer that duration_str_format prints into. */
 #define DURATION_STR_FORMAT_BUFFER_SIZE 64
 
-/* The most bytes that a text of duration_str_format_styled has, in any style. */
+/* The most bytes that a text of duration_str_format_with has, in any style. */
 #define DURATION_STR_MAX_STYLED_LEN 134
-/* The size of the buffer that duration_str_format_styled prints into. */
+/* The size of the buffer that duration_str_format_with prints into. */
 #define DURATION_STR_STYLED_BUFFER_SIZE 144
 
 /* The most bytes that a line of duration_str_one_line has. */
@@ -199,7 +199,7 @@ enum duration_str_unit {
 #define DURATION_STR_UNITS(unit) (UINT32_C(1) << (unit))
 
 /* The set of the units from `largest` to `smallest`. The set is empty, which
- * is 0, if `largest` is shorter than `smallest`. duration_str_format_styled
+ * is 0, if `largest` is shorter than `smallest`. duration_str_format_with
  * refuses the empty set. */
 #define DURATION_STR_UNITS_BETWEEN(largest, smallest) \
     (((UINT32_C(2) << (smallest)) - 1) & (UINT32_MAX << (largest)))
@@ -270,7 +270,7 @@ size_t duration_str_format(
  * `style` is above 2, or if `units` is the empty set or above
  * DURATION_STR_UNITS_ALL. */
 DURATION_STR_NONNULL(6)
-size_t duration_str_format_styled(
+size_t duration_str_format_with(
     uint64_t secs, uint32_t nanos, uint32_t units, uint32_t parts,
     uint32_t style,
     char buffer[DURATION_STR_AT_LEAST DURATION_STR_STYLED_BUFFER_SIZE]);

@@ -1,7 +1,7 @@
 //! The functions of `duration_str.h`. Each makes slices of C's pointers and calls the proved
 //! function of the same name.
 #![deny(clippy::no_mangle_with_rust_abi)]
-use crate::{answer::Answer, limits, message, unit};
+use crate::{answer::Answer, format, message, unit};
 use core::mem::{MaybeUninit, offset_of, zeroed};
 use core::{ptr::copy_nonoverlapping, slice::from_raw_parts};
 
@@ -50,7 +50,7 @@ extern "C" fn duration_str_format(nanos: u64, out: &mut MaybeUninit<[u8; 64]>) -
 }
 
 #[unsafe(no_mangle)]
-extern "C" fn duration_str_format_styled(
+extern "C" fn duration_str_format_with(
     secs: u64,
     nanos: u32,
     units: u32,
@@ -59,7 +59,7 @@ extern "C" fn duration_str_format_styled(
     out: &mut MaybeUninit<[u8; 144]>,
 ) -> usize {
     written(out, |buffer| {
-        limits::duration_str_format_styled(secs, nanos, units, parts, style, buffer)
+        format::duration_str_format_with(secs, nanos, units, parts, style, buffer)
     })
 }
 

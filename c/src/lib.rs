@@ -10,7 +10,7 @@ mod bare;
 #[forbid(unsafe_code)]
 pub mod answer;
 #[forbid(unsafe_code)]
-pub mod limits;
+pub mod format;
 #[forbid(unsafe_code)]
 pub mod message;
 #[forbid(unsafe_code)]

@@ -619,7 +619,7 @@ function print(options) {
     const nanos = total % second;
     const secs = Number((total - nanos) / second);
     const high = Math.trunc(secs / HALF);
-    const length = calls.duration_str_format_styled(
+    const length = calls.duration_str_format_with(
         secs | 0, high, Number(nanos), left, parts, style, WRITTEN,
     );
     return output(length);

@@ -1,4 +1,4 @@
 pub mod Answers
-pub mod Limits
+pub mod Format
 pub mod Messages
 pub mod Units

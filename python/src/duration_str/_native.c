@@ -492,8 +492,8 @@ static PyObject *text_of(uint64_t secs, uint32_t nanos, const struct limits *lim
     const bool is_whole = !memcmp(limits, &no_limits, sizeof *limits);
     const size_t length = is_whole && secs < UINT64_MAX / SECOND
                               ? duration_str_format(secs * SECOND + nanos, buffer)
-                              : duration_str_format_styled(secs, nanos, limits->units,
-                                    limits->parts, limits->style, buffer);
+                              : duration_str_format_with(secs, nanos, limits->units, limits->parts,
+                                    limits->style, buffer);
     return PyUnicode_FromStringAndSize(buffer, (Py_ssize_t)length);
 }
 

@@ -1,12 +1,9 @@
-//! Durations printed within limits and in a style.
-ghost use Rattle.std.specs.Prelude.{◌≡◌, ◌+◌, ◌*◌, ◌<◌, ◌≤◌, ◌∷◌, ◌⊎◌, IfSome, IfNone, IsUtf8, take, drop};
-ghost use Rattle.std.specs.Str.{chars};
-ghost use Rattle.duration_str.specs.Format.{IsPrintedWithin, most_len};
-ghost use Rattle.duration_str_c.specs.Limits.{format_of, style_numbered, units_of};
+// Made by tools/erase of crates/duration_str_c/src/format.rt.
+//! Durations printed in a format.
 
 use crate::put;
-use duration_str::{Format, STYLED_BUFFER_SIZE, Style, Units, write_format};
-use std::time::Duration;
+use duration_str_core::{Format, STYLED_BUFFER_SIZE, Style, Units, write_format};
+use core::time::Duration;
 
 /// Prints a duration in the units of a set, in at most `parts` parts and in a style, to the start of the buffer, with a
 /// zero byte after it. Returns the length of the text without the zero. The rest of the buffer is unchanged.
@@ -14,23 +11,14 @@ use std::time::Duration;
 /// In the set the bit 2^n stands for the unit at index n of `UNITS`: 1 is the year, 1,024 is the nanosecond, and 2,047
 /// is all units. The styles are 0 for short, 1 for compact and 2 for long. If `nanos` is a second or more, `units` is 0
 /// or above 2,047, or `style` is above 2, the call returns 0, and the text is empty.
-pub fn duration_str_format_styled(
+pub fn duration_str_format_with(
     secs: u64,
     nanos: u32,
     units: u32,
     parts: u32,
     style: u32,
     buffer: &mut [u8; STYLED_BUFFER_SIZE],
-) -> usize
-    ensures text { nanos < 1_000_000_000 → 0 < units → units < 2048 → style ≤ 2
-        → IsPrintedWithin (format_of units parts (style_numbered style))
-        (secs * 1_000_000_000 + nanos) (chars (take result buffer.new)) }
-    ensures utf8 { IsUtf8 (take result buffer.new) }
-    ensures rest { drop result buffer.new ≡ 0 ∷ drop (result + 1) buffer.old }
-    ensures short { result ≤ most_len (style_numbered style) }
-    ensures refused { (1_000_000_000 ≤ nanos) ⊎ ((units ≡ 0) ⊎ ((2048 ≤ units) ⊎ (2 < style)))
-        → result ≡ 0 }
-{
+) -> usize {
     match format_of(units, parts, style) {
         Some(format) if nanos < 1_000_000_000 => {
             let mut printed = [0; STYLED_BUFFER_SIZE];
@@ -43,11 +31,7 @@ pub fn duration_str_format_styled(
 
 /// The format with the units of these bits, at most `parts` parts, and the style with this number. It is `None` if no
 /// bit is set, if a bit is above that of the last unit, or if no style has this number.
-fn format_of(units: u32, parts: u32, style: u32) -> Option<Format>
-    ensures format { IfSome result (λ format. (0 < units) × (units < 2048) × (style ≤ 2)
-        × (format ≡ format_of units parts (style_numbered style))) }
-    ensures none { IfNone result ((units ≡ 0) ⊎ ((2048 ≤ units) ⊎ (2 < style))) }
-{
+fn format_of(units: u32, parts: u32, style: u32) -> Option<Format> {
     let mut format = Format::whole()
         .parts(parts as usize)
         .style(style_numbered(style)?);
@@ -56,10 +40,7 @@ fn format_of(units: u32, parts: u32, style: u32) -> Option<Format>
 }
 
 /// The set of the units of these bits, or `None` if no bit is set, or if a bit is above that of the last unit.
-fn units_of(bits: u32) -> Option<Units>
-    ensures some { IfSome result (λ units. (0 < bits) × (bits < 2048) × (units ≡ units_of bits)) }
-    ensures none { IfNone result ((bits ≡ 0) ⊎ (2048 ≤ bits)) }
-{
+fn units_of(bits: u32) -> Option<Units> {
     if bits == 0 {
         return None;
     }
@@ -70,10 +51,7 @@ fn units_of(bits: u32) -> Option<Units>
 }
 
 /// The style with this number: 0 short, 1 compact, 2 long.
-fn style_numbered(number: u32) -> Option<Style>
-    ensures style { IfSome result (λ style. (number ≤ 2) × (style ≡ style_numbered number)) }
-    ensures none { IfNone result (2 < number) }
-{
+fn style_numbered(number: u32) -> Option<Style> {
     match number {
         0 => Some(Style::Short),
         1 => Some(Style::Compact),
