@@ -7,7 +7,7 @@ ghost use Rattle.duration_str.specs.Units.{nanos_of};
 ghost use Rattle.duration_str.specs.Internal.UnitTable.{printed_row, units_of};
 
 use crate::format::{Format, Units};
-use crate::unit::{PRINTED, Printed, TimeUnit};
+use crate::unit::{PRINTED, Printed, TimeUnit, UNITS};
 use std::time::Duration;
 
 /// The breakdown of a duration in a format: an iterator over its parts, which are units with their counts, the longest
@@ -131,6 +131,11 @@ impl Iterator for Breakdown {
     fn next(&mut self) -> Option<(TimeUnit, u128)> {
         let (row, count) = self.next_part()?;
         Some((row.unit, count))
+    }
+
+    #[inline]
+    fn size_hint(&self) -> (usize, Option<usize>) {
+        (0, Some(self.most.min(UNITS.len())))
     }
 }
 

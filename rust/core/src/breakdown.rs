@@ -2,7 +2,7 @@
 //! The breakdown of a duration: how many of each unit of a format it has.
 
 use crate::format::{Format, Units};
-use crate::unit::{PRINTED, Printed, TimeUnit};
+use crate::unit::{PRINTED, Printed, TimeUnit, UNITS};
 use core::time::Duration;
 
 /// The breakdown of a duration in a format: an iterator over its parts, which are units with their counts, the longest
@@ -103,6 +103,11 @@ impl Iterator for Breakdown {
     fn next(&mut self) -> Option<(TimeUnit, u128)> {
         let (row, count) = self.next_part()?;
         Some((row.unit, count))
+    }
+
+    #[inline]
+    fn size_hint(&self) -> (usize, Option<usize>) {
+        (0, Some(self.most.min(UNITS.len())))
     }
 }
 

@@ -100,9 +100,19 @@ fn breaks_durations_down() {
     ] {
         let mut breakdown = printed.breakdown();
         assert_eq!(breakdown.rest(), printed.get_ref().as_nanos());
+        let (least, most) = breakdown.size_hint();
+        assert!(least <= parts.len() && most >= Some(parts.len()));
         assert_eq!(breakdown.by_ref().collect::<Vec<_>>(), parts, "{printed}");
         assert_eq!(breakdown.rest(), rest, "{printed}");
         assert_eq!(breakdown.next(), None, "{printed}");
+    }
+}
+
+#[test]
+fn bounds_the_number_of_parts() {
+    let build = format_duration(Duration::from_millis(193_029));
+    for (printed, most) in [(build, 11), (build.parts(2), 2), (build.parts(0), 0)] {
+        assert_eq!(printed.breakdown().size_hint(), (0, Some(most)));
     }
 }
 

@@ -1,5 +1,5 @@
 -- Lemmas about the parts of a duration.
-use Rattle.duration_str.proofs.Common.{ap, arith, cases_Bool, common_steps, counts_within, div-add-mod', drop, eqb-true, inl, inr, length, List, map, nanos_of, nat_tests, nonzero, refl, rules, slice_index_or, Style, sym, TimeUnit, with_counts, with_part, with_parts, zero-div, [], ℕ, ◌%◌, ◌*◌, ◌+◌, ◌-◌, ◌∙◌, ◌/◌, ◌<◌, ◌==◌, ◌^◌, ◌∷◌, ◌≡◌, ◌≤◌}
+use Rattle.duration_str.proofs.Common.{ap, arith, cases_Bool, cases_lt, common_steps, counts_within, div-add-mod', drop, eqb-true, inl, inr, length, List, map, nanos_of, nat_tests, nonzero, refl, rules, slice_index_or, Style, sym, TimeUnit, with_counts, with_part, with_parts, zero-div, [], ℕ, ◌%◌, ◌*◌, ◌+◌, ◌-◌, ◌∙◌, ◌/◌, ◌<◌, ◌==◌, ◌^◌, ◌∷◌, ◌≡◌, ◌≤◌}
 use Rattle.duration_str.proofs.Printer.FormatLemmas.{each_short, part_grows}
 use Rattle.duration_str.proofs.LawProofs.GreatestWithin.{some_length}
 use Rattle.duration_str.specs.Breakdown.{parts_in}
@@ -24,6 +24,20 @@ part_skipped u us most nanos long = search rules
 pub part_taken : (u : TimeUnit) (us : List TimeUnit) (most nanos : ℕ) → 1 ≤ most → nanos_of u ≤ nanos
     → parts_in (u ∷ us) most nanos ≡ (u, nanos / nanos_of u) ∷ parts_in us (most - 1) (nanos % nanos_of u)
 part_taken u us most nanos left h = search rules
+
+-- There are at most as many parts as are allowed, and at most one for each unit.
+pub parts_few : (us : List TimeUnit) (most nanos : ℕ)
+    → (length (parts_in us most nanos) ≤ most) × (length (parts_in us most nanos) ≤ length us)
+parts_few [] most nanos = omega arith
+parts_few (u ∷ us) most nanos = elim (cases_Bool (most == 0)) [
+  | inl none ↦ rw (parts_none (u ∷ us) most nanos (eqb-true most 0 none)) (omega arith)
+  | inr some ↦ elim (cases_lt nanos (nanos_of u)) [
+    | inl long ↦ rw (← part_skipped u us most nanos long) (omega (arith, parts_few us most nanos))
+    | inr fits ↦
+        let left : 1 ≤ most = grind (arith, nat_tests) in
+        rw (part_taken u us most nanos left fits) (omega (arith, parts_few us (most - 1) (nanos % nanos_of u)))
+  ]
+]
 
 -- The parts are printed one after another.
 pub each_printed : (style : Style) (us : List TimeUnit) (bytes counts : List ℕ)
