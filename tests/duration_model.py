@@ -5,6 +5,7 @@ shell/README.md and `duration --help`.
 import collections
 import fractions
 import json
+import operator
 import re
 import subprocess
 import sys
@@ -71,6 +72,17 @@ def printed(nanos, options):
     return reference.print_within(
         nanos, units_of(options), options.get("parts", 11), options.get("style", "short")
     )
+
+
+def parts_of(nanos, options):
+    """The counts that are printed for people, each with its unit's printed name, and the
+    nanoseconds that they leave.
+    """
+    units = units_of(options)
+    lengths = tuple(unit.length for unit in units)
+    counts = reference.counts_within(nanos, lengths, options.get("parts", 11))
+    parts = [(count, unit.printed) for count, unit in zip(counts, units) if count]
+    return parts, nanos - sum(map(operator.mul, counts, lengths))
 
 
 def units_of(options):
@@ -140,7 +152,12 @@ def json_object(text, answer, options, where):
         (kind, number), (message, column, found) = where.split(), map(quoted, answer)
         return f'{{"text":{quoted(text)},"{kind}":{number},"column":{column},"found":{found},"message":{message}}}'
     shown = printed(answer, options) if "to" in options else quoted(printed(answer, options))
-    return f'{{"text":{quoted(text)},"nanoseconds":"{answer}","seconds":{number_in(answer, "s")},"printed":{shown}}}'
+    parts, rest = parts_of(answer, options)
+    listed = ",".join(f'{{"count":{count},"unit":"{name}"}}' for count, name in parts)
+    return (
+        f'{{"text":{quoted(text)},"nanoseconds":"{answer}","seconds":{number_in(answer, "s")},'
+        f'"printed":{shown},"parts":[{listed}],"rest_ns":"{rest}"}}'
+    )
 
 
 def said_of(line, options, where):

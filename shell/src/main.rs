@@ -164,26 +164,26 @@ impl Run<'_> {
         }
     }
 
-    /// Writes the JSON object of a text that is read. Its nanoseconds are a string, since other
+    /// Writes the JSON object of a text that is read. Nanoseconds are strings, since other
     /// programs drop digits of a number.
     fn object(&mut self, text: &str, nanos: u64) -> io::Result<()> {
         self.output.write_all(b"{\"text\":")?;
         serde_json::to_writer(&mut self.output, text)?;
         let seconds = options::in_unit(nanos, TimeUnit::Second, None, Round::Down);
         let mark = if self.choices.to.is_some() { "" } else { "\"" };
-        let (nanos, printed) = (nanos.to_string(), self.choices.printed(nanos));
-        let rest = [
-            ",\"nanoseconds\":\"",
-            &nanos,
-            "\",\"seconds\":",
-            &seconds,
-            ",\"printed\":",
-            mark,
-            &printed,
-            mark,
-            "}",
+        let printed = self.choices.printed(nanos);
+        let mut breakdown = self.choices.breakdown(nanos);
+        let parts: Vec<String> = breakdown
+            .by_ref()
+            .map(|(unit, count)| format!(r#"{{"count":{count},"unit":"{unit}"}}"#))
+            .collect();
+        let (parts, rest) = (parts.join(","), breakdown.rest());
+        let fields = [
+            format!(r#","nanoseconds":"{nanos}","seconds":{seconds}"#),
+            format!(r#","printed":{mark}{printed}{mark}"#),
+            format!(r#","parts":[{parts}],"rest_ns":"{rest}"}}"#),
         ];
-        self.put(&rest.map(str::as_bytes))
+        self.put(&fields.each_ref().map(|field| field.as_bytes()))
     }
 
     /// Divides a line into the part before the text, the text, and the part after it. The text is

@@ -4,7 +4,8 @@ use clap::error::ErrorKind;
 use clap::{Command, CommandFactory, Parser, ValueEnum, value_parser};
 use clap_complete::Shell;
 use duration_str::{
-    Format, STYLED_BUFFER_SIZE, Style, TimeUnit, Units, UnknownUnit, parse_duration, write_format,
+    Breakdown, Format, STYLED_BUFFER_SIZE, Style, TimeUnit, Units, UnknownUnit, parse_duration,
+    write_format,
 };
 use std::ffi::{OsStr, OsString};
 use std::os::unix::ffi::OsStrExt;
@@ -141,6 +142,11 @@ impl Choices {
             Some(UnitList(units)) => format.only(units),
             None => format,
         }
+    }
+
+    /// The parts that are printed for people, as numbers.
+    pub fn breakdown(&self, nanos: u64) -> Breakdown {
+        Breakdown::new(&Duration::from_nanos(nanos), self.format())
     }
 
     pub fn printed(&self, nanos: u64) -> String {

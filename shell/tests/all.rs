@@ -164,7 +164,7 @@ fn prints_in_chosen_units() {
         assert_eq!(answer(&words), format!("{wanted}\n"), "{words:?}");
     }
     let object = answer(&["--units=s,min", "--json", "1h 5s"]);
-    assert!(object.ends_with("\"printed\":\"60min 5s\"}\n"), "{object}");
+    assert!(object.contains("\"printed\":\"60min 5s\","), "{object}");
 }
 
 /// The faults are those of the grammar in which each number has a unit, also under other options.
@@ -345,6 +345,35 @@ fn converts_a_column() {
 }
 
 #[test]
+fn prints_parts_as_json() {
+    for (words, parts, rest) in [
+        (&["0"][..], json!([]), "0"),
+        (
+            &["--parts=2", "193s 29ms"],
+            json!([{ "count": 3, "unit": "min" }, { "count": 13, "unit": "s" }]),
+            "29000000",
+        ),
+        (&["--smallest=h", "59min"], json!([]), "3540000000000"),
+        (
+            &["--units=us", "1ms"],
+            json!([{ "count": 1000, "unit": "\u{b5}s" }]),
+            "0",
+        ),
+        (
+            &["--units=ns", "18446744073709551615ns"],
+            json!([{ "count": u64::MAX, "unit": "ns" }]),
+            "0",
+        ),
+    ] {
+        let object: Value = serde_json::from_str(&answer(&[&["--json"], words].concat())).unwrap();
+        assert_eq!(
+            (&object["parts"], &object["rest_ns"]),
+            (&parts, &json!(rest))
+        );
+    }
+}
+
+#[test]
 fn prints_json() {
     let input = "1h 30m\r\n5 mins\n90\n1h+\n2*1h 30m\n\u{1}\"1h".as_bytes();
     let (status, output, errors) = run(&["--json", "--to", "min"], input);
@@ -357,17 +386,26 @@ fn prints_json() {
         )
     };
     let wanted = [
-        r#"{"text":"1h 30m","nanoseconds":"5400000000000","seconds":5400,"printed":90}"#
-            .to_string(),
+        concat!(
+            r#"{"text":"1h 30m","nanoseconds":"5400000000000","seconds":5400,"printed":90,"#,
+            r#""parts":[{"count":1,"unit":"h"},{"count":30,"unit":"min"}],"rest_ns":"0"}"#
+        )
+        .to_string(),
         refused("5 mins", 2, Some(3), Some("mins")),
-        r#"{"text":"90","nanoseconds":"90000000000","seconds":90,"printed":1.5}"#.to_string(),
+        concat!(
+            r#"{"text":"90","nanoseconds":"90000000000","seconds":90,"printed":1.5,"#,
+            r#""parts":[{"count":1,"unit":"min"},{"count":30,"unit":"s"}],"rest_ns":"0"}"#
+        )
+        .to_string(),
         refused("1h+", 4, Some(4), None),
         refused("2*1h 30m", 5, None, None),
         refused("\u{1}\"1h", 6, Some(1), Some("\u{1}")),
     ];
     assert_eq!(output.lines().collect::<Vec<_>>(), wanted);
-    let wanted =
-        r#"{"text":" 20ms","nanoseconds":"20000000","seconds":0.02,"printed":"20 milliseconds"}"#;
+    let wanted = concat!(
+        r#"{"text":" 20ms","nanoseconds":"20000000","seconds":0.02,"printed":"20 milliseconds","#,
+        r#""parts":[{"count":20,"unit":"ms"}],"rest_ns":"0"}"#
+    );
     assert_eq!(
         answer(&["--json", "--style", "long", " 20ms"]),
         format!("{wanted}\n")
