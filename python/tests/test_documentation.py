@@ -51,6 +51,11 @@ class Documentation(unittest.TestCase):
                 f"(text, /, *, {options}, default_unit='s')",
                 str(inspect.signature(getattr(duration_str, name))),
             )
+        for name in ["parse_many", "parse_buffers", "to_timedelta", "DurationField"]:
+            signature = inspect.signature(getattr(duration_str, name))
+            told = [*map(str, signature.parameters.values())]
+            self.assertEqual(told[-5], "no_calc: 'bool' = False")
+            self.assertEqual(told[-1], "default_unit: 'Unit' = 's'")
 
     def test_fits_a_terminal(self):
         for told in [duration_str, *map(vars(duration_str).get, ["format", *duration_str.__all__])]:

@@ -54,7 +54,9 @@ class Lines(unittest.TestCase):
         self.assertEqual(len({field(), field(), field(default_unit="ms")}), 2)
         # With the second named, numbers are read too.
         self.assertNotEqual(field(), field(default_unit="s"))
-        for made in [field(), field(default_unit="s")]:
+        self.assertEqual(field(), field(no_calc=False))
+        self.assertNotEqual(field(no_calc=True), field(lowercase=True))
+        for made in [field(), field(default_unit="s"), field(default_unit="ms", cn_unit=True)]:
             self.assertEqual(pickle.loads(pickle.dumps(made)), made)
             self.assertEqual(eval(repr(made), {"duration_str": duration_str}), made)
         self.assertNotEqual(duration_str.Duration, duration_str.DurationRequireUnit)

@@ -5,6 +5,7 @@ import datetime
 import decimal
 import enum
 import fractions
+import functools
 import itertools
 import random
 import typing
@@ -42,6 +43,22 @@ class Place:
 
     def __index__(self):
         return 1
+
+
+# Calls that take options, each of which reads a text if it reads one.
+CALLS = [
+    lambda **words: parse("1s", **words),
+    lambda **words: parse_ns("1s", **words),
+    lambda **words: parse_seconds("1s", **words),
+    duration_str.DurationField,
+    duration_str.argparse.DurationType,
+]
+for _errors in ("raise", "coerce"):
+    CALLS += [
+        functools.partial(parse_many, ["1s"], errors=_errors),
+        functools.partial(to_timedelta, None, errors=_errors),
+        functools.partial(parse_buffers, b"", array("q"), errors=_errors),
+    ]
 
 
 def value_of(text, options):
@@ -169,23 +186,37 @@ class Reading(unittest.TestCase):
             both = {"require_unit": True, "default_unit": "ms", **others}
             rows += [(both, ValueError, "^default_unit can't be named if require_unit is on$")]
         rows += [({"require_unit": True, "default_unit": "s"}, ValueError, "can't be named")]
-        calls = [lambda **words: parse("1s", **words), lambda **words: parse_ns("1s", **words)]
-        calls += [lambda **words: parse_seconds("1s", **words), duration_str.DurationField]
-        calls += [duration_str.argparse.DurationType]
-        for errors in ("raise", "coerce"):
-            calls += [
-                lambda errors=errors, **words: parse_many(["1s"], errors=errors, **words),
-                lambda errors=errors, **words: to_timedelta(None, errors=errors, **words),
-                lambda errors=errors, **words: parse_buffers(
-                    b"", array("q"), errors=errors, **words
-                ),
-            ]
-        for (words, error, told), call in itertools.product(rows, calls):
+        for (words, error, told), call in itertools.product(rows, CALLS):
             with self.subTest(call=call, **words):
                 with self.assertRaisesRegex(error, told) as raised:
                     call(**words)
                 self.assertNotIsInstance(raised.exception, DurationError)
         self.assertEqual(parse_ns("1s", require_unit=False, default_unit="ms"), 10**9)
+
+    def test_reads_no_factors_that_would_count_the_default_unit(self):
+        line = "^no_calc can't be False if default_unit is not the second: a factor would count "
+        for unit, off in itertools.product(["ms", "y", "m", "ns", "Min"], [False, 0, None]):
+            for others in ({}, {"require_unit": False, "lowercase": True}):
+                given = {"no_calc": off, "default_unit": unit, **others}
+                for call, words in itertools.product(CALLS, [given, dict(reversed(given.items()))]):
+                    with self.subTest(call=call, **words):
+                        with self.assertRaisesRegex(ValueError, line) as raised:
+                            call(**words)
+                        self.assertNotIsInstance(raised.exception, DurationError)
+        # These callers may write False, and no others need to.
+        for call in CALLS:
+            for words in [
+                {"no_calc": False},
+                {"no_calc": False, "default_unit": "s"},
+                {"no_calc": False, "default_unit": "SEC"},
+                {"no_calc": False, "require_unit": True},
+                {"no_calc": True, "default_unit": "ms"},
+                {"default_unit": "ms"},
+                {"lowercase": False, "cn_unit": False, "require_unit": False, "default_unit": "ms"},
+            ]:
+                with self.subTest(call=call, **words):
+                    call(**words)
+        self.assertEqual(parse_ns("90s*2", no_calc=False, default_unit="s"), 180 * 10**9)
 
     def test_rounds_seconds_to_the_nearest_float(self):
         self.assertEqual(parse_seconds("1h 30m"), 5400.0)

@@ -10,7 +10,7 @@ from typing import TYPE_CHECKING, Any, overload
 
 from . import _native
 from ._columns import Errors, keeps_types, raises_errors, values_of, zeros
-from ._texts import UNNAMED, Style, Unit, nanos_a_step, nanos_of, type_error_of
+from ._texts import UNNAMED, UNSAID, Style, Unit, nanos_a_step, nanos_of, type_error_of
 
 if TYPE_CHECKING:
     import numpy
@@ -159,7 +159,7 @@ def to_timedelta(
     values: Any,
     *,
     errors: Errors = "raise",
-    no_calc: bool = False,
+    no_calc: bool = UNSAID,
     lowercase: bool = False,
     cn_unit: bool = False,
     require_unit: bool = False,

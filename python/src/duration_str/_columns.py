@@ -7,7 +7,7 @@ from collections.abc import Iterable
 from typing import Any, Literal, SupportsIndex, overload
 
 from . import _native
-from ._texts import UNNAMED, Unit
+from ._texts import UNNAMED, UNSAID, Unit
 
 #: What to do with a refused value
 Errors = Literal["raise", "coerce"]
@@ -91,7 +91,7 @@ def parse_many(
     texts: Any,
     *,
     errors: Errors = "raise",
-    no_calc: bool = False,
+    no_calc: bool = UNSAID,
     lowercase: bool = False,
     cn_unit: bool = False,
     require_unit: bool = False,
@@ -165,7 +165,7 @@ def parse_buffers(
     offsets: Any,
     *,
     errors: Errors = "raise",
-    no_calc: bool = False,
+    no_calc: bool = UNSAID,
     lowercase: bool = False,
     cn_unit: bool = False,
     require_unit: bool = False,

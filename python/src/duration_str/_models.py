@@ -87,7 +87,7 @@ class DurationField(WithOptions):
         return isinstance(other, DurationField) and self._options == other._options
 
     def __hash__(self) -> int:
-        return hash(tuple(self._options.values()))
+        return hash(tuple(self._options.items()))
 
     def __get_pydantic_core_schema__(self, source: Any, handler: Any) -> Any:
         schema: Any = import_module("pydantic_core.core_schema")

@@ -34,6 +34,7 @@ enum kept {
     NANOS_OF,
     WHOLE_OF,
     UNNAMED,
+    UNSAID,
     TIMEDELTA,
     A_MICROSECOND,
     A_SECOND,
@@ -55,6 +56,13 @@ static const char *const kept_names[] = {"no_calc", "lowercase", "cn_unit", "req
 
 struct state {
     PyObject *kept[KEPT];
+};
+
+/* What the keywords of a call say about how values are read. */
+struct said {
+    uint32_t on;      /* the flags that are on */
+    uint32_t off;     /* the flags that are off, except an UNSAID one */
+    int default_unit; /* -1 if none is named */
 };
 
 /* How values are read. */
@@ -272,23 +280,23 @@ static int unit_of(struct state *state, PyObject *name, const char *keyword) {
     return unit;
 }
 
-/* Takes the value of an option's keyword: a flag, or the default unit. UNNAMED stands for none.
- * Returns -1 with an error. */
-static int take_option(struct state *state, const char *call, PyObject *keyword, PyObject *value,
-    uint32_t *options, int *default_unit) {
+/* Takes the value of an option's keyword: a flag, or the default unit. UNNAMED and UNSAID are the
+ * values of keywords that a caller of the package hasn't written. Returns -1 with an error. */
+static int take_option(
+    struct state *state, const char *call, PyObject *keyword, PyObject *value, struct said *said) {
     const int option = name_of(state, call, keyword, NO_CALC, DEFAULT_UNIT);
     if (option < 0)
         return -1;
-    if (option == DEFAULT_UNIT && value == state->kept[UNNAMED])
+    if (value == state->kept[UNNAMED] || value == state->kept[UNSAID])
         return 0;
     if (option == DEFAULT_UNIT) {
-        *default_unit = unit_of(state, value, "default_unit");
-        return *default_unit < 0 ? -1 : 0;
+        said->default_unit = unit_of(state, value, "default_unit");
+        return said->default_unit < 0 ? -1 : 0;
     }
     const int is_on = value == Py_True ? 1 : value == Py_False ? 0 : PyObject_IsTrue(value);
     if (is_on < 0)
         return -1;
-    *options |= (uint32_t)is_on << option;
+    *(is_on ? &said->on : &said->off) |= UINT32_C(1) << option;
     return 0;
 }
 
@@ -296,19 +304,25 @@ static int take_option(struct state *state, const char *call, PyObject *keyword,
 static int take_options(struct state *state, const char *call, PyObject *const *values,
     PyObject *keywords, struct reading *reading) {
     const Py_ssize_t words = keywords ? PyTuple_Size(keywords) : 0;
-    int default_unit = -1;
-    *reading = (struct reading){0};
+    struct said said = {.default_unit = -1};
     for (Py_ssize_t at = 0; at < words; at++)
-        if (take_option(state, call, PyTuple_GetItem(keywords, at), values[at], &reading->options,
-                &default_unit))
+        if (take_option(state, call, PyTuple_GetItem(keywords, at), values[at], &said))
             return -1;
-    if (default_unit < 0)
+    *reading = (struct reading){.options = said.on};
+    if (said.default_unit < 0)
         return 0;
-    if (reading->options & DURATION_STR_OPTION_REQUIRE_UNIT) {
+    if (said.on & DURATION_STR_OPTION_REQUIRE_UNIT) {
         PyErr_SetString(PyExc_ValueError, "default_unit can't be named if require_unit is on");
         return -1;
     }
-    reading->options |= DURATION_STR_OPTION_DEFAULT_UNIT((uint32_t)default_unit);
+    /* A default unit other than the second turns no_calc on. */
+    const uint32_t unit = DURATION_STR_OPTION_DEFAULT_UNIT((uint32_t)said.default_unit);
+    if (unit & said.off) {
+        PyErr_SetString(PyExc_ValueError, "no_calc can't be False if default_unit is not the "
+                                          "second: a factor would count that unit too");
+        return -1;
+    }
+    reading->options |= unit;
     reading->takes_numbers = true;
     return 0;
 }
@@ -917,7 +931,8 @@ PyDoc_STRVAR(parse_ns_doc,
     "below 2**53.\n\n"
     "Raises DurationError if the text or the number is refused, and\n"
     "DurationTypeError for any other value. Raises ValueError if `default_unit`\n"
-    "names no unit, or if you name it and also require units.\n\n"
+    "names no unit, if you name it and also require units, or if it is not the\n"
+    "second and you also write `no_calc=False`.\n\n"
     ">>> duration_str.parse_ns('1500', default_unit='ms')\n"
     "1500000000\n"
     ">>> duration_str.parse_ns(1500, default_unit='ms')\n"
@@ -987,6 +1002,7 @@ static int begin(PyObject *module) {
     state->kept[NANOS_OF] = member("duration_str._texts", "nanos_of");
     state->kept[WHOLE_OF] = member("duration_str._texts", "whole_of");
     state->kept[UNNAMED] = member("duration_str._texts", "UNNAMED");
+    state->kept[UNSAID] = member("duration_str._texts", "UNSAID");
     state->kept[TIMEDELTA] = member("datetime", "timedelta");
     if (state->kept[TIMEDELTA])
         state->kept[A_MICROSECOND] = PyObject_GetAttrString(state->kept[TIMEDELTA], "resolution");

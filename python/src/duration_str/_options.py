@@ -5,7 +5,7 @@ from __future__ import annotations
 from typing import Any
 
 from ._native import reading
-from ._texts import UNNAMED, Unit
+from ._texts import UNNAMED, UNSAID, Unit
 
 
 class WithOptions:
@@ -14,20 +14,23 @@ class WithOptions:
     def __init__(
         self,
         *,
-        no_calc: bool = False,
+        no_calc: bool = UNSAID,
         lowercase: bool = False,
         cn_unit: bool = False,
         require_unit: bool = False,
         default_unit: Unit = UNNAMED,
     ) -> None:
-        self._options: dict[str, Any] = {
+        given: dict[str, Any] = {
             "no_calc": no_calc,
             "lowercase": lowercase,
             "cn_unit": cn_unit,
             "require_unit": require_unit,
+            "default_unit": default_unit,
         }
-        if default_unit is not UNNAMED:
-            self._options["default_unit"] = default_unit
-        # Raises ValueError if no unit has the name of the default unit, or if units are required
-        # and a default unit is named.
-        _, self._takes_numbers = reading(**self._options)
+        # Raises ValueError if no unit has the name of the default unit, or if the options
+        # contradict each other.
+        _, self._takes_numbers = reading(**given)
+        # Only the options that are on are kept, and the default unit if one is named. An option
+        # that is off reads texts as if it were left out.
+        chosen = {name: value for name, value in given.items() if value and value is not UNNAMED}
+        self._options: dict[str, Any] = chosen

@@ -33,6 +33,17 @@ class _Unnamed(str):
 UNNAMED: Any = _Unnamed("s")
 
 
+class _Unsaid(int):
+    """The type of `UNSAID`."""
+
+    def __repr__(self) -> str:
+        return "False"
+
+
+#: The option `no_calc` of a call that doesn't set it. It is off, but not the object False.
+UNSAID: Any = _Unsaid(0)
+
+
 #: The units of timedelta64 that have a length in nanoseconds
 _NANOS = {"W": 604_800 * 10**9, "D": 86_400 * 10**9, "h": 3_600 * 10**9, "m": 60 * 10**9}
 _NANOS |= {"s": 10**9, "ms": 10**6, "us": 1000, "ns": 1}
