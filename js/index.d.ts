@@ -150,7 +150,7 @@ export interface SyntaxFault extends Refused {
      */
     readonly index: number;
     /** The same place, in bytes of UTF-8. */
-    readonly byte: number;
+    readonly place: number;
     /** The token at the place, or null at the end of the text. */
     readonly found: string | null;
 }
@@ -163,7 +163,7 @@ export interface SyntaxFault extends Refused {
 export interface SizeFault extends Refused {
     readonly code: "NUMBER_TOO_LARGE" | "OVERFLOW";
     readonly index: 0 | null;
-    readonly byte: 0 | null;
+    readonly place: 0 | null;
     readonly found: null;
 }
 
@@ -171,7 +171,7 @@ export interface SizeFault extends Refused {
 export interface TextFault extends Refused {
     readonly code: "NOT_TEXT";
     readonly index: number;
-    readonly byte: null;
+    readonly place: null;
     readonly found: null;
 }
 
@@ -179,13 +179,13 @@ export interface TextFault extends Refused {
 export interface OtherFault extends Refused {
     readonly code: "EMPTY" | "MIXED";
     readonly index: null;
-    readonly byte: null;
+    readonly place: null;
     readonly found: null;
 }
 
 /**
  * Why a text is refused. Look at `code` to distinguish the cases: only `SYNTAX` always has a
- * `byte`.
+ * `place`.
  */
 export type Refusal = SyntaxFault | SizeFault | TextFault | OtherFault;
 

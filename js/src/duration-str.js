@@ -182,17 +182,17 @@ class Fault {
     code;
     text;
     index;
-    byte;
+    place;
     found;
     expected;
     message;
     #report;
 
-    constructor({ code, text, index, byte, found, expected }, report) {
+    constructor({ code, text, index, place, found, expected }, report) {
         this.code = code;
         this.text = text;
         this.index = index;
-        this.byte = byte;
+        this.place = place;
         this.found = found;
         this.expected = expected;
         this.message = report.slice(report.lastIndexOf("\n") + 1);
@@ -248,8 +248,8 @@ export class DurationError extends Error {
         return this.cause.index;
     }
 
-    get byte() {
-        return this.cause.byte;
+    get place() {
+        return this.cause.place;
     }
 
     get found() {
@@ -283,23 +283,23 @@ function expectedOf(bits) {
 /** The fault of the text at TEXT, from the answer and the report that the call has written. */
 function faultOf(text, length, reportLength) {
     const code = CODES[fields.getUint32(CAUSE, true)];
-    const byte = fields.getUint8(HAS_PLACE) ? fields.getUint32(PLACE, true) : null;
+    const place = fields.getUint8(HAS_PLACE) ? fields.getUint32(PLACE, true) : null;
     const foundLength = fields.getUint32(FOUND_LENGTH, true);
     const expected = expectedOf(fields.getUint32(EXPECTED, true));
-    let index = byte;
-    let found = foundLength ? text.slice(byte, byte + foundLength) : null;
+    let index = place;
+    let found = foundLength ? text.slice(place, place + foundLength) : null;
     // Beyond ASCII, bytes and UTF-16 units differ.
-    if (byte !== null && length !== text.length) {
-        index = decode(texts.subarray(0, byte)).length;
-        if (foundLength) found = decode(texts.subarray(byte, byte + foundLength));
+    if (place !== null && length !== text.length) {
+        index = decode(texts.subarray(0, place)).length;
+        if (foundLength) found = decode(texts.subarray(place, place + foundLength));
     }
-    return new Fault({ code, text, index, byte, found, expected }, output(reportLength));
+    return new Fault({ code, text, index, place, found, expected }, output(reportLength));
 }
 
 /** The fault of a text that has a lone surrogate at this index. */
 function loneSurrogateAt(text, index) {
     const expected = expectedOf(0);
-    const cause = { code: "NOT_TEXT", text, index, byte: null, found: null, expected };
+    const cause = { code: "NOT_TEXT", text, index, place: null, found: null, expected };
     return new Fault(cause, `not UTF-8: a lone surrogate at index ${index}`);
 }
 

@@ -22,13 +22,14 @@ function errorOf(text, options) {
 }
 
 test("tells all of a refusal", () => {
-    for (const [text, names, code, byte, found, kinds, line, spaces] of VECTORS.refused) {
+    for (const [text, names, code, place, found, kinds, line, spaces] of VECTORS.refused) {
         const options = optionsOf(names);
         const error = errorOf(text, options);
-        const index = byte === null ? null : Buffer.from(text).subarray(0, byte).toString().length;
+        const before = Buffer.from(text).subarray(0, place ?? 0).toString();
+        const index = place === null ? null : before.length;
         assert.deepEqual(
-            [error.code, error.byte, error.index, error.found],
-            [code, byte, index, found],
+            [error.code, error.place, error.index, error.found],
+            [code, place, index, found],
             text,
         );
         assert.deepEqual(
@@ -73,7 +74,7 @@ test("refuses lone surrogates, wherever they stand", () => {
         for (const options of CHOICES.map(optionsOf)) {
             const error = errorOf(text, options);
             assert.deepEqual([error.code, error.text], ["NOT_TEXT", text]);
-            assert.deepEqual([error.index, error.byte, error.found], [index, null, null]);
+            assert.deepEqual([error.index, error.place, error.found], [index, null, null]);
             const line = `not UTF-8: a lone surrogate at index ${index}`;
             assert.deepEqual([error.message, error.report], [line, line]);
         }
@@ -181,10 +182,10 @@ test("is told without an error by tryParse", () => {
     assert.deepEqual(tryParseNs("1h 30m"), { ok: true, value: 5_400_000_000_000n });
     for (const text of ["", "1m 3-5", "600y", "\ud800"]) {
         const { ok, fault } = tryParseNs(text);
-        const { code, index, byte, found, expected, message, report } = errorOf(text);
+        const { code, index, place, found, expected, message, report } = errorOf(text);
         assert.deepEqual(
             [ok, { ...fault }, fault.report],
-            [false, { code, text, index, byte, found, expected, message }, report],
+            [false, { code, text, index, place, found, expected, message }, report],
         );
         assert.deepEqual(tryParse(text), { ok, fault });
     }
@@ -195,7 +196,7 @@ test("is told without an error by tryParse", () => {
 test("tells what is wrong in 10 MB", () => {
     const blanks = " ".repeat(10_000_000);
     const error = errorOf(`1µs${blanks}😀x`);
-    assert.deepEqual([error.index, error.byte, error.found], [10_000_003, 10_000_004, "😀"]);
+    assert.deepEqual([error.index, error.place, error.found], [10_000_003, 10_000_004, "😀"]);
     assert.equal(
         error.message,
         `expected a number, '+', '*' or the end at column 10000004, found "😀x"`,

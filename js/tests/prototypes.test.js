@@ -8,7 +8,7 @@ import { createContext, runInContext } from "node:vm";
 
 const NAMES = [
     "noCalc", "cnUnit", "defaultUnit", "units", "largest", "smallest", "parts", "style", "other",
-    "code", "text", "index", "byte", "found", "expected", "message", "report", "cause", "name",
+    "code", "text", "index", "place", "found", "expected", "message", "report", "cause", "name",
     "ok", "fault", "days", "hours", "minutes", "seconds", "number", "bigint", "us", "ns",
     "ignoreBOM", "fatal",
     "get", "set", "value", "writable", "enumerable", "configurable",
@@ -69,8 +69,8 @@ const FIELDS = `function fieldsOf(call) {
     try {
         call();
     } catch (error) {
-        const { name, code, text, index, byte, found, expected, report } = error;
-        return { name, code, text, index, byte, found, expected, report, json: error.toJSON() };
+        const { name, code, text, index, place, found, expected, report } = error;
+        return { name, code, text, index, place, found, expected, report, json: error.toJSON() };
     }
 }`;
 

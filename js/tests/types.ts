@@ -34,10 +34,10 @@ try {
     if (!(error instanceof DurationError)) throw error;
     const cause: Refusal = error.cause;
     if (error.code === "SYNTAX") {
-        const place: number = error.index;
-        void place;
+        const both: number[] = [error.index, error.place];
+        void both;
     }
-    const places: (number | null)[] = [error.index, error.byte];
+    const places: (number | null)[] = [error.index, error.place];
     const expected: Expected = error.expected;
     const any: boolean = expected.number || expected.unit || expected.operator || expected.end;
     const told: (string | null)[] = [
