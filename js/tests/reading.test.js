@@ -143,6 +143,37 @@ test("reads the numbers of the vectors", () => {
     }
 });
 
+test("reads a number of JSON, and says why it reads no other", () => {
+    const options = { defaultUnit: "ms" };
+    const [timeout] = JSON.parse("[1500]");
+    assert.equal(parseNs(timeout, options), 1_500_000_000n);
+    const rows = [
+        [
+            "1.5",
+            "DurationError",
+            'expected a unit or the end at column 2, found "." '
+                + "(numbers have digits only: write 1500ms for 1.5s)",
+        ],
+        [
+            "-5",
+            "DurationError",
+            'expected a number at column 1, found "-" (negative durations are not read)',
+        ],
+        ["true", "TypeError", "a duration's text must be a string, not boolean"],
+        [
+            "18446744073709551616",
+            "RangeError",
+            "a number must be below 2^53, or a bigint, not 18446744073709552000",
+        ],
+    ];
+    for (const [text, name, message] of rows) {
+        const [value] = JSON.parse(`[${text}]`);
+        for (const call of [parse, parseNs]) {
+            assert.throws(() => call(value, options), { name, message });
+        }
+    }
+});
+
 test("refuses a number as its text, or says why it is no whole number", () => {
     const options = { defaultUnit: "ms" };
     const refused = [1.5, -1, -1n, 1e-7, 18_446_744_073_710, 10n ** 20n, 10n ** 1000n];

@@ -4,6 +4,7 @@ says so.
 
 import datetime
 import decimal
+import json
 import re
 import subprocess
 import sys
@@ -11,7 +12,7 @@ import unittest
 from array import array
 
 from duration_str import Cause, DurationError, format, format_many, parse_many, to_timedelta
-from tests.vectors import value_columns
+from tests.vectors import REFUSED_IN_JSON, value_columns
 
 try:
     import numpy
@@ -170,6 +171,19 @@ class Reading(unittest.TestCase):
             numbers(to_timedelta(["1", 10**5_000], default_unit="s", errors="coerce")),
             [SECOND, None],
         )
+
+    def test_reads_numbers_beside_a_gap(self):
+        column = pandas.Series([1500, None])
+        self.assertEqual(numbers(to_timedelta(column, default_unit="ms")), [1_500_000_000, None])
+        for text, line in REFUSED_IN_JSON:
+            values = [None, *json.loads(f"[{text}]")]
+            # Some versions of pandas make a float of 2**64 beside a gap, which is another number.
+            for kind in [object] if values[1] == 2**64 else [object, None]:
+                column = pandas.Series(values, dtype=kind)
+                with self.assertRaisesRegex(ValueError, f"^at index 1: {re.escape(line)}$"):
+                    to_timedelta(column, default_unit="ms")
+                coerced = to_timedelta(column, default_unit="ms", errors="coerce")
+                self.assertEqual(numbers(coerced), [None, None])
 
     def test_refuses_numbers_as_their_texts(self):
         for value in [1.5, -1, 2**63, 1e300, float("inf")]:

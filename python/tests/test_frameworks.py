@@ -177,10 +177,11 @@ class Models(unittest.TestCase):
             adapter.validate_python("90s*2")
         self.assertEqual(adapter.validate_python(60_000), MINUTE)
         self.assertEqual(adapter.validate_json("6e4"), MINUTE)
+        self.assertEqual(adapter.validate_json("1500"), MINUTE / 40)
         for value, line in [
-            ("1.5", r'found "\."'),
-            ("-1", "negative durations are not read"),
-            ("99999999999999999999", "number of 2\\^64 or more"),
+            ("1.5", r'found "\." \(numbers have digits only: write 1500ms for 1\.5s\)'),
+            ("-5", "negative durations are not read"),
+            ("18446744073709551616", "number of 2\\^64 or more"),
             ("true", r"valid string or integer \[type=duration_type"),
             ("[1]", r"valid string or integer \[type=duration_type"),
         ]:

@@ -7,7 +7,9 @@ import enum
 import fractions
 import functools
 import itertools
+import json
 import random
+import re
 import typing
 import unittest
 from array import array
@@ -25,7 +27,7 @@ from duration_str import (
     parse_seconds,
     to_timedelta,
 )
-from tests.vectors import CHOICES, VECTORS, error_of, values_under, words_of
+from tests.vectors import CHOICES, REFUSED_IN_JSON, VECTORS, error_of, values_under, words_of
 
 
 class Whole(enum.IntEnum):
@@ -163,6 +165,15 @@ class Reading(unittest.TestCase):
             errors = [error_of(parse_ns, each, default_unit=unit) for each in (number, str(number))]
             self.assertEqual(*map(str, errors))
             self.assertEqual(parse_many([number], errors="coerce", default_unit=unit)[1][0], 0)
+
+    def test_reads_a_number_of_json(self):
+        (timeout,) = json.loads("[1500]")
+        self.assertEqual(parse(timeout, default_unit="ms"), datetime.timedelta(seconds=1.5))
+        for text, line in REFUSED_IN_JSON:
+            (timeout,) = json.loads(f"[{text}]")
+            for call in [parse, parse_ns, parse_seconds]:
+                with self.assertRaisesRegex(ValueError, f"^{re.escape(line)}$"):
+                    call(timeout, default_unit="ms")
 
     def test_says_how_numbers_are_read(self):
         for value in [1, 1.5, Whole.FEW]:
