@@ -17,7 +17,6 @@ const SECOND = 1_000_000_000;
 /** All durations are below this many nanoseconds. */
 const LIMIT = 1n << 64n;
 const LONE_SURROGATE = /\p{Surrogate}/u;
-const LETTERS = /^\p{L}+$/u;
 
 /** The codes of refusals, in the order of `enum duration_str_cause` in the library's header. */
 const CODES = [
@@ -362,22 +361,17 @@ function checkPlain(options, hint = "") {
 
 const unknown = (name) => new TypeError(`unknown option: ${name}`);
 
-/** The number of the unit that the library reads by this name, or -1 if there is none. */
-function unitRead(name) {
-    if (!LETTERS.test(name) || faultIn(`1${name}`)) return -1;
-    const length = nanoseconds();
-    lengths ??= askLengths();
-    return indexIn(lengths.bigint, length);
-}
-
 /** The number of the unit that a text calls by this name if all options are off. `what` is the
  * option that has this value, for the error. */
 function unitOf(what, name) {
     if (typeof name !== "string") {
         throw new TypeError(`${what} must be a string, not ${typeOf(name)}`);
     }
+    // Comparing the printed names takes less time than a call.
     const printed = indexIn(UNITS, name);
-    const unit = printed < 0 ? unitRead(name) : printed;
+    if (printed >= 0) return printed;
+    if (!calls) start();
+    const unit = calls.duration_str_unit(TEXT, write(name).length);
     if (unit >= 0) return unit;
     throw new RangeError(`${what} must be one of ${listed(UNITS)}, not ${name}`);
 }

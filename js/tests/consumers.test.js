@@ -21,7 +21,8 @@ import { schedule } from "../examples/schedule.mjs";
 
 const PACKAGE = fileURLToPath(new URL("..", import.meta.url));
 const SAID = "5400000000000 SYNTAX 4";
-const USE = `let said = String(parseNs("1h 30m"));
+// The first call looks for a unit by its name, before any text is read.
+const USE = `let said = String(parseNs("90", { defaultUnit: "minutes" }));
 try { parseNs("1m 3-5"); } catch (error) { said += \` \${error.code} \${error.index}\`; }`;
 const MODULE = `import { parseNs } from "duration-str";\n${USE}`;
 
@@ -176,6 +177,9 @@ test("prints in plain JavaScript as in WebAssembly", async () => {
                 assert.equal(plain.formatNs(value, options), compiled.formatNs(value, options));
             }
         }
+    }
+    for (const defaultUnit of ["minutes", "USEC", "year"]) {
+        assert.equal(plain.parseNs("3", { defaultUnit }), compiled.parseNs("3", { defaultUnit }));
     }
     const { fault } = plain.tryParseNs("1µs 😀x");
     assert.deepEqual({ ...fault }, { ...compiled.tryParseNs("1µs 😀x").fault });

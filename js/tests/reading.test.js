@@ -6,6 +6,13 @@ import { DurationError, parseNs, parse, tryParse, tryParseNs } from "duration-st
 import { choicesFor, holds, optionsOf, VECTORS } from "./vectors.js";
 
 const LARGEST = 2n ** 64n - 1n;
+/** Texts that are no names of units: names with something before, after or within, Chinese names,
+ * letters that look like those of names or have them as small letters, and texts without UTF-8. */
+const NO_UNITS = [
+    "fortnight", "toString", "", " ", "mins", "年", "毫秒", "1分", " ms", "ms ", "m s", "m\n", "m 0s",
+    "d 6d", "1", "1ms", "0ms", "ms1", "m\0", "+s", "s+", "2*s", "\u039cs", "\u03bcs", "\u017f",
+    "\u212a", "\u{1f600}", "\ud800", "ms\udc00", "\ud800s", "milliseconds".repeat(10_000),
+];
 
 // This test is the first, while the memory is still small.
 test("makes room at each size, for texts and faults", () => {
@@ -83,8 +90,16 @@ test("counts the default unit where a number has none", () => {
         ["1h 30", "milliseconds", 3_600_030],
         ["2h", "ms", 7_200_000],
         ["1", "y", 31_536_000_000],
+        ["1", "q", 7_862_400_000],
+        ["1", "mon", 2_592_000_000],
+        ["1", "weeks", 604_800_000],
+        ["1", "day", 86_400_000],
+        ["1", "hr", 3_600_000],
+        ["1", "m", 60_000],
         ["1", "us", 0.001],
         ["1", "µs", 0.001],
+        ["1", "µsec", 0.001],
+        ["1", "nanoseconds", 0.000001],
         ["18446744073709", "ms", 18_446_744_073_709],
         // For a text, naming the second is the same as naming nothing.
         ["2*3", "s", 6000],
@@ -201,7 +216,7 @@ test("refuses a default unit that there is not, or beside a required one", () =>
     const names = "y, q, mon, w, d, h, min, s, ms, µs, ns";
     const message = "the options requireUnit and defaultUnit contradict each other";
     const rows = [
-        ...["fortnight", "", "1ms", "ms ", "d 6d", "毫秒", "toString"].map((name) => [
+        ...NO_UNITS.map((name) => [
             { cnUnit: true, defaultUnit: name },
             new RangeError(`the option defaultUnit must be one of ${names}, not ${name}`),
         ]),

@@ -47,6 +47,23 @@ class Place:
         return 1
 
 
+# Texts that are no names of units: names with something before, after or within, Chinese names,
+# letters that look like those of names or have them as small letters, and texts without UTF-8.
+NO_UNITS = ["", " ", "mins", "年", "毫秒", "1分", " ms", "ms ", "m s", "m\n", "m 0s", "1", "1ms", "0ms"]
+NO_UNITS += [
+    "ms1",
+    "m\0",
+    "+s",
+    "s+",
+    "2*s",
+    "\u039cs",
+    "\u03bcs",
+    "\u017f",
+    "\u212a",
+    "\U0001f600",
+]
+NO_UNITS += ["\ud800", "ms\udc00", "\ud800s", "m" * 15, "m" * 16, "milliseconds" * 10_000]
+
 # Calls that take options, each of which reads a text if it reads one.
 CALLS = [
     lambda **words: parse("1s", **words),
@@ -98,7 +115,10 @@ class Reading(unittest.TestCase):
 
     def test_counts_the_default_unit(self):
         for name in typing.get_args(Unit):
-            self.assertEqual(parse_ns("3", default_unit=name), parse_ns(f"3{name}"))
+            # The micro sign's capital in Unicode is a Greek letter, which no unit's name has.
+            capitals = name.upper().replace("\u039c", "µ")
+            for each in [name, capitals, capitals[0] + name[1:]]:
+                self.assertEqual(parse_ns("3", default_unit=each), parse_ns(f"3{name}"), each)
         self.assertEqual(parse("1s 500", default_unit="ms"), datetime.timedelta(seconds=1.5))
         self.assertEqual(parse_seconds("1500", default_unit="ms", lowercase=True), 1.5)
         # A factor would count milliseconds too.
@@ -189,8 +209,12 @@ class Reading(unittest.TestCase):
     def test_wants_one_default_unit(self):
         names = "one of y, q, mon, w, d, h, min, s, ms, µs or us, ns, not "
         rows = [
-            ({"default_unit": name}, ValueError, f"^default_unit must be {names}{name!r}$")
-            for name in ("", "mins", "年", "m 0s")
+            (
+                {"default_unit": name},
+                ValueError,
+                f"^default_unit must be {names}{re.escape(repr(name))}$",
+            )
+            for name in NO_UNITS
         ]
         rows += [({"default_unit": unit}, TypeError, names) for unit in (None, 8, b"s")]
         for others in ({}, {"lowercase": True}):

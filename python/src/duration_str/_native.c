@@ -241,40 +241,16 @@ static void raise_name(PyObject *name, const char *keyword, const char *listed) 
         "%s must be one of %s, not %R", keyword, listed, name);
 }
 
-/* The number of the unit that the library reads by this name, or -1. It reads `1` and the name. */
-static int unit_read(PyObject *name) {
-    char text[16] = "1";
-    Py_ssize_t length;
-    struct duration_str_answer named, one;
-    const char *bytes = PyUnicode_AsUTF8AndSize(name, &length);
-    if (!bytes)
-        PyErr_Clear();
-    if (!bytes || (size_t)length >= sizeof text)
-        return -1;
-    /* With a blank or a digit in the name, the text would not be one number and its unit. */
-    for (Py_ssize_t at = 0; at < length; at++)
-        if (strchr(" \t\r\n0123456789", bytes[at]))
-            return -1;
-    memcpy(text + 1, bytes, (size_t)length);
-    const uint32_t options = DURATION_STR_OPTION_NO_CALC | DURATION_STR_OPTION_REQUIRE_UNIT;
-    if (!duration_str_parse_with(text, (size_t)length + 1, options, &named))
-        return -1;
-    for (int unit = 0; unit <= DURATION_STR_UNIT_NANOSECOND; unit++)
-        if (duration_str_parse_with("1", 1, DURATION_STR_OPTION_DEFAULT_UNIT(unit), &one) &&
-            one.nanos == named.nanos)
-            return unit;
-    return -1;
-}
-
-/* The number of the unit that is printed or read by this name. Returns -1 with an error. */
+/* The number of the unit that has this name if all options are off. Returns -1 with an error. */
 static int unit_of(struct state *state, PyObject *name, const char *keyword) {
     /* A name that stands in a program is almost always the same object as the kept one. */
     for (int unit = 0; unit <= DURATION_STR_UNIT_NANOSECOND; unit++)
         if (name == state->kept[UNIT_NAMES + unit])
             return unit;
-    int unit = place_among(name, unit_names, DURATION_STR_UNIT_NANOSECOND + 1);
-    if (unit < 0 && PyUnicode_Check(name))
-        unit = unit_read(name);
+    /* If the name is no str, or has no UTF-8, raise_name replaces the error that is set here. */
+    Py_ssize_t length;
+    const char *bytes = PyUnicode_AsUTF8AndSize(name, &length);
+    const int unit = bytes ? duration_str_unit(bytes, (size_t)length) : -1;
     if (unit < 0)
         raise_name(name, keyword, listed_units);
     return unit;
