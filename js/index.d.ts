@@ -13,9 +13,11 @@
 /**
  * Options for reading. If you give none, all are off, and the default unit is the second. They must
  * be a plain object, and only the object's own properties count. An unknown name is a `TypeError`.
- * `requireUnit` and `defaultUnit` can't stand together.
+ * `requireUnit` and `defaultUnit` can't stand together. Beside a `defaultUnit` other than the
+ * second, `noCalc` can't be `false`. An option that is `undefined` is the same as one that is left
+ * out.
  */
-export type Options = RequiringOptions | CountingOptions;
+export type Options = RequiringOptions | CountingOptions | SecondsOptions;
 
 interface Switches {
     /** `+` and `*` are not read, and the terms are added one by one. */
@@ -52,10 +54,17 @@ interface CountingOptions extends Switches {
      */
     defaultUnit?: Unit | undefined;
     requireUnit?: false | undefined;
+    noCalc?: true | undefined;
+}
+
+/** Options that name the second as the default unit, so that `noCalc` can be `false`. */
+interface SecondsOptions extends Switches {
+    defaultUnit: "s" | "sec" | "second" | "seconds";
+    requireUnit?: false | undefined;
 }
 
 /** Options that name the default unit, under which numbers are read. */
-export type NumberOptions = CountingOptions & { defaultUnit: Unit };
+export type NumberOptions = CountingOptions & { defaultUnit: Unit } | SecondsOptions;
 
 /**
  * The names of the units, with a line for each unit, the longest first. These are the names that a
@@ -254,7 +263,8 @@ export declare const version: string;
  * @throws TypeError if `text` is not a string, and not a number beside `defaultUnit`, or if an
  * option is unknown or of another type
  * @throws RangeError if no unit has the name of `defaultUnit`, if it stands beside `requireUnit`,
- * or if a number is NaN, or is 2^53 or more, where it can have lost digits
+ * if it is not the second and `noCalc` is `false`, or if a number is NaN, or is 2^53 or more, where
+ * it can have lost digits
  * @throws Error if WebAssembly is missing or refused. The other functions throw it too. The message
  * says what to do, and the `cause` is the engine's error. The next call tries again.
  */

@@ -22,7 +22,12 @@ function optionsToTry(options, text) {
     const changes = [{}, CALC, CAPITALS, CHINESE, both];
     for (const each of [CALC, CAPITALS, both]) changes.push({ ...each, ...CHINESE });
     const isDate = DATE.test(text);
-    const tried = changes.filter(({ cnUnit }) => !(isDate && cnUnit));
+    // Beside a default unit other than the second, operators are never read. The page names no
+    // other default unit.
+    const hasOperators = options.defaultUnit === undefined;
+    const tried = changes.filter(({ cnUnit, noCalc }) => (
+        !(isDate && cnUnit) && (hasOperators || noCalc === undefined)
+    ));
     return tried.map((each) => ({ ...options, ...each }));
 }
 

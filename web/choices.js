@@ -81,14 +81,15 @@ export function chooseUnits(names) {
     showLimits();
 }
 
-/** The chosen options. `noCalc` is on only if its own box turns it on. */
+/** The chosen options. `noCalc` is left out if the default unit turns it on. Otherwise its box says
+ * whether it is on. */
 export function chosenOptions() {
     const chosen = Object.entries(switches)
         .map(([name, box]) => [name, box.checked && !box.disabled]);
     const options = Object.fromEntries(chosen);
     if (defaultUnit.value === REFUSED) return { ...options, requireUnit: true };
     if (defaultUnit.value === SECOND) return options;
-    return { ...options, defaultUnit: defaultUnit.value };
+    return { ...options, noCalc: undefined, defaultUnit: defaultUnit.value };
 }
 
 /** A default unit other than the second turns `no_calc` on. Then the box of `no_calc` can't be

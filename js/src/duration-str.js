@@ -391,6 +391,7 @@ function bitsOf(options) {
     // `map` passes the index as the second argument.
     checkPlain(options, ": write (text) => parse(text)");
     let bits = 0;
+    let wantsOperators = false;
     const names = Object.keys(options);
     for (let index = 0; index < names.length; index++) {
         const name = names[index];
@@ -401,12 +402,21 @@ function bitsOf(options) {
             throw unknown(name);
         } else if (value === true) {
             bits |= OPTIONS[name];
-        } else if (value !== false && value !== undefined) {
+        } else if (value === false) {
+            wantsOperators ||= name === "noCalc";
+        } else if (value !== undefined) {
             throw new TypeError(`the option ${name} must be a boolean, not ${typeOf(value)}`);
         }
     }
     if (bits & OPTIONS.requireUnit && bits & READS_NUMBERS) {
         throw new RangeError("the options requireUnit and defaultUnit contradict each other");
+    }
+    // If `noCalc` is false and yet on, the default unit has turned it on.
+    if (wantsOperators && bits & OPTIONS.noCalc) {
+        const why = "a factor would count that unit too";
+        throw new RangeError(
+            `the option noCalc can't be false if defaultUnit is not the second: ${why}`,
+        );
     }
     return bits;
 }

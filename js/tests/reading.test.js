@@ -114,8 +114,8 @@ test("counts the default unit where a number has none", () => {
             assert.equal(parse(text, { ...options, requireUnit: false }), value, text);
         }
     }
-    for (const options of [{ defaultUnit: "ms" }, { noCalc: false, defaultUnit: "ms" }]) {
-        const { fault } = tryParse("90s*2", options);
+    for (const noCalc of [undefined, true]) {
+        const { fault } = tryParse("90s*2", { noCalc, defaultUnit: "ms" });
         assert.deepEqual([fault.code, fault.index, fault.found], ["SYNTAX", 3, "*"]);
     }
     assert.equal(tryParse("18446744073710", { defaultUnit: "ms" }).fault.code, "OVERFLOW");
@@ -235,6 +235,31 @@ test("refuses a default unit that there is not, or beside a required one", () =>
             assert.throws(() => call("1s", options), error);
         }
     }
+});
+
+test("refuses to read operators beside a default unit other than the second", () => {
+    const error = new RangeError(
+        "the option noCalc can't be false if defaultUnit is not the second: "
+            + "a factor would count that unit too",
+    );
+    for (const defaultUnit of ["ms", "MS", "milliseconds", "y", "m", "µs", "ns"]) {
+        const other = { noCalc: false, defaultUnit };
+        const others = [{ defaultUnit, noCalc: false }, { ...other, cnUnit: false }];
+        for (const options of [other, { ...other, lowercase: true }, ...others]) {
+            for (const call of [parse, parseNs, tryParse, tryParseNs]) {
+                assert.throws(() => call("1s", options), error);
+                assert.throws(() => call(1, options), error);
+            }
+        }
+        for (const noCalc of [undefined, true]) {
+            const options = { noCalc, defaultUnit, lowercase: false, cnUnit: false };
+            assert.equal(parse("1s", options), 1000);
+        }
+    }
+    for (const defaultUnit of [undefined, "s", "S", "sec", "second", "seconds"]) {
+        assert.equal(parse("90s*2", { noCalc: false, defaultUnit }), 180_000);
+    }
+    assert.equal(parse("1s", { noCalc: false, requireUnit: true }), 1000);
 });
 
 test("refuses what is no option", () => {

@@ -9,11 +9,20 @@ const options: Options = { noCalc: true, lowercase: false, cnUnit: undefined, re
 const inMilliseconds: Options = { defaultUnit: "ms" };
 const nanoseconds: bigint = parseNs("2h 37m", options);
 const configured: number | string = 1500;
+const withoutFactors: Options[] = [
+    { defaultUnit: "ms", noCalc: true }, { defaultUnit: "ms", noCalc: undefined },
+];
+const inSeconds: Options[] = [
+    { defaultUnit: "s", noCalc: false }, { defaultUnit: undefined, noCalc: false },
+    { requireUnit: true, noCalc: false },
+];
 const timeouts: (number | bigint | undefined)[] = [
     parse(1500, { defaultUnit: "ms" }), parse(1500n, { defaultUnit: "s", noCalc: true }),
     parseNs(configured, { defaultUnit: "ms", requireUnit: false }),
     tryParse(1500, { defaultUnit: "ms" }).value, tryParseNs(1500, { defaultUnit: "ms" }).value,
+    parse(1500, { defaultUnit: "seconds", noCalc: false }),
 ];
+void [withoutFactors, inSeconds];
 /** Options of which some may be left out */
 function chosen(unit: Unit | undefined, isRequired: boolean | undefined): Options[] {
     return [{ defaultUnit: unit }, { requireUnit: isRequired }, { noCalc: isRequired }];
@@ -64,6 +73,12 @@ parse("1500", { requireUnit: true, defaultUnit: "ms" });
 tryParseNs("1500", { requireUnit: true, defaultUnit: "s" });
 // @ts-expect-error: a unit can't be required and left out
 const contradictory: Options = { defaultUnit: "h", requireUnit: true };
+// @ts-expect-error: a factor would count milliseconds too
+parse("1500", { noCalc: false, defaultUnit: "ms" });
+// @ts-expect-error: a factor would count milliseconds too, beside a number as well
+tryParseNs(1500, { defaultUnit: "ms", noCalc: false });
+// @ts-expect-error: a factor would count hours too
+const withFactors: Options = { defaultUnit: "h", noCalc: false };
 // @ts-expect-error: no option
 parseNs("1s", { no_calc: true });
 // @ts-expect-error: no boolean
@@ -101,4 +116,5 @@ const fault: Fault | undefined = result.fault;
 const lines: string[] = [result.fault?.message ?? "", version];
 const inMs: number | undefined = tryParse("1s").value;
 
-void [inMilliseconds, timeouts, chosen, contradictory, hours, wrong, read, fault, lines, inMs];
+void [inMilliseconds, timeouts, chosen, contradictory, withFactors, hours, wrong, read, fault];
+void [lines, inMs];

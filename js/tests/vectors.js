@@ -8,13 +8,15 @@ export const VECTORS = JSON.parse(
 
 /**
  * The options with these names, which are the names in C and on command lines. A name is that of an
- * option that is on, or a default unit such as `default_unit=ms`.
+ * option that is on, or a default unit such as `default_unit=ms`. The other options are false, or
+ * left out if there is a default unit, beside which `noCalc` can't be false.
  */
 export function optionsOf(names) {
     const camel = (name) => name.replace(/_(.)/, (_, letter) => letter.toUpperCase());
     const given = names.map((name) => name.split("="));
+    const off = given.some(([name]) => name === "default_unit") ? [] : VECTORS.options;
     return Object.fromEntries([
-        ...VECTORS.options.map((name) => [camel(name), false]),
+        ...off.map((name) => [camel(name), false]),
         ...given.map(([name, value = true]) => [camel(name), value]),
     ]);
 }

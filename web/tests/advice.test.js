@@ -24,11 +24,13 @@ const OPTIONS = {
 };
 const NONE = optionsOf([]);
 
-/** The options with these names. A name may also be a default unit, such as `default_unit=ms`. */
+/** The options with these names. A name may also be a default unit, such as `default_unit=ms`. It
+ * turns `noCalc` on, which is then left out. */
 function optionsOf(names) {
     const pairs = Object.entries(OPTIONS).map(([name, id]) => [name, names.includes(id)]);
+    const options = Object.fromEntries(pairs);
     const [, defaultUnit] = /default_unit=(\S+)/.exec(names.join(" ")) ?? [];
-    return { ...Object.fromEntries(pairs), defaultUnit };
+    return defaultUnit ? { ...options, noCalc: undefined, defaultUnit } : options;
 }
 
 /** The nanoseconds in a decimal number of seconds. */
@@ -101,6 +103,14 @@ test("offers a text with other options or units", () => {
         const [offer] = ok ? notesOn(text, value, options).offers : offersFor(text, options);
         assert.deepEqual([offer.text, offer.options], [words, optionsOf(remain)], text);
         assert.ok(said.endsWith(offer.meaning), text);
+    }
+});
+
+test("offers no operators beside a default unit, which turns them off", () => {
+    for (const [text, ...offered] of [["90s*2"], ["1s+500ms", "1s 500ms"]]) {
+        const options = optionsOf(["default_unit=ms"]);
+        const offers = offersFor(text, options).map((each) => [each.text, each.options]);
+        assert.deepEqual(offers, offered.map((each) => [each, options]), text);
     }
 });
 
