@@ -1,5 +1,5 @@
 -- Lemmas about the place of a fault, the token there, and the answer to a whole text.
-use Rattle.duration_str.proofs.Common.{and_parts, answer_left, answer_with, ap, append-nil, append_assoc, AreTokens, arith, Bool, Bor, byte_len, cases_Bool, Cause, chars, chars-append, chars-nil, common_steps, CondUnit, drop, drop-nil, early, early_fault, Empty, encodes, encodes-append, encodes-chars, eq-eqb, Err, evaluation_fault, false, fault_of_terms, ForSome, found_token, IfSome, IsCharBoundary, IsCharBoundary-at_seam, IsCharBoundary-start, IsLexeme, IsMissingAtEnd, IsNone, IsRefusedWith, IsSliceOf, IsUtf8, IsUtf8-take, late, late_fault, length, length-append, length-encode, lexemes_of, List, map, ne_eqb, None, Option, Options, options_of, or_else, place_of, refl, rest_from, rest_of, Result, running_fault, scalars, scalars-chars, Some, source, start_after, start_left, suc, sym, Syntax, syntax_fault, take, take-add, Term, Terminal, terminal_of, terminals_in, TimeUnit, Token, token_at, Tokens, tokens_left, tokens_of, true, unless, zero, [], ℕ, ◌++◌, ◌+◌, ◌-◌, ◌<◌, ◌==◌, ◌↔◌, ◌∙◌, ◌∷◌, ◌≡◌, ◌≤◌}
+use Rattle.duration_str.proofs.Common.{and_parts, answer_left, answer_with, ap, append-nil, append_assoc, AreTokens, arith, Bool, Bor, byte_len, cases_Bool, Cause, chars, chars-append, chars-nil, common_steps, CondUnit, drop, drop-nil, early, early_fault, Empty, encodes, encodes-append, encodes-chars, eq-eqb, Err, evaluation_fault, false, fault_of_terms, ForSome, found_token, IfSome, IsCharBoundary, IsCharBoundary-at_seam, IsCharBoundary-start, IsLexeme, IsMissingAtEnd, IsNone, IsRefusedWith, IsSliceOf, IsUtf8, IsUtf8-take, late, late_fault, length, length-append, length-encode, lexemes_of, List, map, ne_eqb, None, Option, Options, options_of, or_else, place_of, refl, rest_from, rest_of, Result, running_fault, scalars, scalars-chars, source, start_after, start_left, suc, sym, Syntax, syntax_fault, take, take-add, Term, Terminal, terminal_of, terminals_in, TimeUnit, Token, token_at, Tokens, tokens_left, tokens_of, true, unless, zero, [], ℕ, ◌++◌, ◌+◌, ◌-◌, ◌<◌, ◌==◌, ◌↔◌, ◌∙◌, ◌∷◌, ◌≡◌, ◌≤◌}
 use Rattle.duration_str.specs.OtherResults.{ReachesPlace}
 use Rattle.duration_str.specs.Internal.Rest.{IsPlacedUpTo}
 use Rattle.duration_str.proofs.Characters.CharacterLemmas.{byte_len-append}
