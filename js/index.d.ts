@@ -7,6 +7,9 @@
  * multiplies its terms in seconds. A number without a unit counts seconds, unless an option says
  * otherwise. Such a number must be last or before an operator. Blanks may be anywhere except inside
  * a number or a unit. A number must be below 2^64, and a value below 2^64 nanoseconds.
+ *
+ * The WebAssembly module inside is made of source that is proved for 64 bits. That the results are
+ * the same with its 32 bits follows by an argument in docs/PROMISES.md. The JavaScript is tested.
  */
 
 /**
