@@ -8,6 +8,9 @@
  * otherwise. Such a number must be last or before an operator. Blanks may be anywhere except inside
  * a number or a unit. Each number must be below 2^64. Each term, each step of the evaluation and
  * the value must be below 2^64 nanoseconds.
+ *
+ * The WebAssembly module inside is made of source that is proved for 64 bits. That the results are
+ * the same with its 32 bits follows by an argument in docs/PROMISES.md. The JavaScript is tested.
  */
 
 /**

@@ -64,6 +64,7 @@ impl<'a> Eye<'a> {
         requires { Stands self.old.text.now self.old.place looked_at }
         ensures text { self.new.text ≡ self.old.text }
         ensures place { self.new.place ≡ self.old.place + width looked_at }
+        ensures inside { self.new.place ≤ length self.old.text.now }
         ensures looks { self.new.looks ≡ self.old.looks }
     {
         self.place += looked_at.len_utf8();

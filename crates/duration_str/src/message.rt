@@ -109,12 +109,12 @@ impl Layout {
     }
 }
 
-#[tactic(auto, using(std::proofs::lemmas::Str::chars_from_encodes))]
+#[tactic(auto, using(std::proofs::lemmas::Str::chars_from_encodes, crate::proofs::Printer::OneLineLemmas::chars_before_le))]
 #[inline(never)]
 pub(crate) fn chars_before(text: &str, place: usize) -> usize
     requires { IsCharBoundary text.now place }
     ensures count { result ≡ chars_before text.now place }
-    ensures small { result < 2 ^ 63 }
+    ensures short { result ≤ length text.now }
 {
     text[..place].chars().count()
 }

@@ -2,7 +2,7 @@
 //!
 //! Each function that writes returns the index where its part ends, or `None` if there is no room. So no contract has
 //! to bound what is in the buffer before a part. One proof, for the whole line, shows that everything fits.
-ghost use Rattle.std.specs.Prelude.{◌≡◌, ◌≤◌, ◌++◌, ◌-◌, ◌&&◌, ◌==◌, not, slice_index, length, take, map, encode_utf8_all, IsTrue, ◌||◌, None, if◌then◌else◌};
+ghost use Rattle.std.specs.Prelude.{◌≡◌, ◌≤◌, ◌++◌, ◌+◌, ◌-◌, ◌&&◌, ◌==◌, not, slice_index, length, take, map, encode_utf8_all, IsTrue, ◌||◌, None, if◌then◌else◌};
 ghost use Rattle.std.specs.Char.{to_ascii_lowercase};
 ghost use Rattle.std.specs.Char.Escape.{escape_default};
 ghost use Rattle.std.specs.List.{find, list_all};
@@ -11,6 +11,7 @@ ghost use Rattle.duration_str.specs.Buffers.{IsInFront};
 ghost use Rattle.duration_str.specs.Text.{is_blank, is_digit};
 ghost use Rattle.duration_str.specs.Internal.Positions.{ahead};
 ghost use Rattle.duration_str.specs.Faults.{place_of};
+ghost use Rattle.duration_str.specs.Messages.{chars_before};
 ghost use Rattle.std.specs.Option.{ForSome};
 ghost use Rattle.duration_str.specs.Internal.UnitTable.{is_megabyte, is_near};
 ghost use Rattle.std.specs.Int.{is_in_range};
@@ -88,7 +89,7 @@ fn put_syntax(buffer: &mut [u8], text: &str, place: usize, expected: Expected) -
         result buffer.new }
 {
     let piece = first_piece(&text[place..]);
-    let column = chars_before(text, place) + 1;
+    let column = column_at(text, place);
     let help = help_at(expected, text.as_bytes(), place, piece);
     if expected.unit_word && begins_with_letter(piece) {
         put_unknown(buffer, column, piece, help)
@@ -96,6 +97,16 @@ fn put_syntax(buffer: &mut [u8], text: &str, place: usize, expected: Expected) -
         let found_help = missing_unit_help(expected, text.as_bytes(), help);
         put_found(buffer, expected_words(expected), column, piece, found_help)
     }
+}
+
+/// The column of a place, counted in characters from 1.
+#[inline(always)]
+fn column_at(text: &str, place: usize) -> usize
+    requires { IsCharBoundary text.now place }
+    ensures column { result ≡ chars_before text.now place + 1 }
+    ensures short { result ≤ length text.now + 1 }
+{
+    chars_before(text, place) + 1
 }
 
 fn put_unknown(buffer: &mut [u8], column: usize, word: &str, help: &str) -> Option<usize>
@@ -246,7 +257,8 @@ fn put_escaped(buffer: &mut [u8], at: usize, c: char) -> Option<usize>
 /// The run of digits or of letters at the start of a text, or its first character if that is neither. A run is cut to
 /// 41 characters, one more than a quote shows.
 fn first_piece(text: &str) -> &str
-    ensures { chars result.now ≡ first_piece (chars text.now) }
+    ensures piece { chars result.now ≡ first_piece (chars text.now) }
+    ensures short { length result.now ≤ length text.now }
 {
     let mut chars = text.chars();
     let Some(first) = chars.next() else {
@@ -452,7 +464,7 @@ fn is_word(word: &str, name: &str) -> bool
 /// The help for the piece at a place, or an empty text if there is none. The place is after a unit exactly if both a
 /// number and the end could stand there.
 fn help_at(expected: Expected, text: &[u8], place: usize, piece: &str) -> &'static str
-    requires { place ≤ length text.now }
+    requires { place + length piece.now ≤ length text.now }
     ensures { result.now ≡ help_at expected text.now place piece.now }
 {
     let before = &text[..place];

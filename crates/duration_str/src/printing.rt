@@ -228,7 +228,7 @@ fn put_wide(buffer: &mut [u8], at: usize, n: u128) -> usize
 
 /// Writes a unit's printed name. It copies four bytes (the name, and the spaces after it in the row), which takes no
 /// call and no branch.
-#[tactic(auto, using(crate::proofs::Printer::FormatLemmas::name_copied, crate::proofs::Printer::FormatLemmas::name_spaced))]
+#[tactic(auto, using(crate::proofs::Printer::FormatLemmas::name_copied, crate::proofs::Printer::FormatLemmas::name_spaced, crate::proofs::Printer::FormatLemmas::name_short))]
 #[inline(always)]
 fn put_name(buffer: &mut [u8], at: usize, row: &Printed) -> usize
     requires right { row.now ≡ printed_row row.now.unit }
@@ -236,6 +236,7 @@ fn put_name(buffer: &mut [u8], at: usize, row: &Printed) -> usize
     ensures text { take result buffer.new
         ≡ take at buffer.old ++ encode_utf8_all (row_of row.now.unit).printed }
     ensures end { result ≡ at + length (encode_utf8_all (row_of row.now.unit).printed) }
+    ensures inside { result ≤ length buffer.old }
     ensures space { take (result + 1) buffer.new
         ≡ take at buffer.old ++ encode_utf8_all (row_of row.now.unit).printed ++ 32 ∷ [] }
 {
@@ -341,8 +342,8 @@ fn put_spaced(buffer: &mut [u8], at: usize, count: u32, unit: TimeUnit) -> usize
 {
     let part = &mut buffer[at..at + 8];
     let end = put_hundreds(part, 0, u64::from(count));
-    let next = put_name(part, end, unit.printed()) + 1;
-    if count == 0 { at } else { at + next }
+    let next = put_name(part, end, unit.printed());
+    if count == 0 { at } else { at + next + 1 }
 }
 
 /// Writes all parts of a duration below a day. Each count is computed from the seconds or from the nanoseconds, so that

@@ -1,5 +1,5 @@
 //! A fault for a terminal: the text, a caret below its place, and the line.
-ghost use Rattle.std.specs.Prelude.{◌≡◌, ◌<◌, length};
+ghost use Rattle.std.specs.Prelude.{◌≡◌, ◌*◌, ◌<◌, ◌≤◌, length};
 ghost use Rattle.std.specs.List.{list_all};
 ghost use Rattle.std.specs.Str.{chars};
 ghost use Rattle.duration_str.specs.Messages.{laid_out};
@@ -79,7 +79,8 @@ fn are_clear(text: &str) -> bool
 /// How many columns of a terminal a text takes. Every character from U+2E80 on is counted as two, but only the Chinese
 /// letters among them can stand before a syntax fault.
 fn columns_of(text: &str) -> usize
-    ensures { result ≡ columns_of (chars text.now) }
+    ensures columns { result ≡ columns_of (chars text.now) }
+    ensures short { result ≤ 2 * length text.now }
 {
     let mut columns = 0;
     let mut chars = text.chars();

@@ -1,8 +1,10 @@
 -- Lemmas about the canonical text of a value, and about comparing texts by their bytes.
-use Rattle.std.proofs.Common.{ap, Bool, chars, IsTrue, IsUtf8, List, refl, rules, sym, ℕ, ◌<◌, ◌^◌, ◌↔◌, ◌∙◌, ◌≡◌}
+use Rattle.std.proofs.Common.{ap, Bool, chars, IsTrue, IsUtf8, List, Option, refl, rules, sym, ℕ, ◌<◌, ◌^◌, ◌↔◌, ◌∙◌, ◌≡◌}
 use Rattle.std.specs.Str.{bytes_eq}
-use Rattle.duration_str.proofs.Common.{bytes_eq-Decides, counts_of, encodes, encodes-chars, EqualTexts, FitsDuration, GreatestBreakdown, IsPrintedIn, IsRead, off, ReadsBack, unit_lengths}
+use Rattle.duration_str.proofs.Common.{bytes_eq-Decides, counts_of, encodes, encodes-chars, EqualTexts, FitsDuration, GreatestBreakdown, IsPrintedIn, IsRead, IsReadWith, off, OneReading, ReadsBack, unit_lengths}
 use Rattle.duration_str.specs.declared.format.Style.{Style}
+use Rattle.duration_str.specs.declared.unit.TimeUnit.{TimeUnit}
+use Rattle.uses.proofs.Common.{Options}
 use Rattle.uses.specs.Cache.{canonical_text, IsCanonical, IsKey}
 
 -- The text that a value prints as is the value's key.
@@ -19,14 +21,18 @@ pub key_is_printed : (style : Style) (nanos : ℕ) (key : List ℕ) → IsKey st
 key_is_printed style nanos key k = (counts_of unit_lengths nanos, k.greatest, k.one)
 
 -- The key of an expression's value is the canonical text of the expression.
-pub key_is_canonical : ReadsBack → (style : Style) (text key : List ℕ) (nanos : ℕ) → nanos < 2 ^ 64
+pub key_is_canonical : ReadsBack → OneReading → (style : Style) (text key : List ℕ) (nanos : ℕ) → nanos < 2 ^ 64
     → IsRead off text nanos → IsKey style nanos key → IsCanonical style text key
-key_is_canonical back style text key nanos small read k = record {
-  nanos = nanos;
-  read = read;
-  is_key = k;
-  read_back = λ default_unit o. back.below default_unit o style nanos key small (key_is_printed style nanos key k);
-}
+key_is_canonical back law style text key nanos small read k =
+    let read_back : (default_unit : Option TimeUnit) (o : Options) → IsReadWith default_unit o key nanos =
+    λ default_unit o. back.below default_unit o style nanos key small (key_is_printed style nanos key k) in
+    record {
+      nanos = nanos;
+      read = read;
+      is_key = k;
+      read_back = read_back;
+      no_other = λ default_unit o other r. law.one_value default_unit o key other nanos r (read_back default_unit o);
+    }
 
 chars_tell : (a b : List ℕ) → IsUtf8 a → IsUtf8 b → chars a ≡ chars b → a ≡ b
 chars_tell a b ua ub e = sym (encodes-chars a ua) ∙ ap encodes e ∙ encodes-chars b ub

@@ -1,11 +1,10 @@
 -- Lemmas about texts whose characters mean the same under several choices of options.
-use Rattle.std.proofs.Common.{arith, Bool, false, IsTrue, List, not, refl, subst, sym, true, ℕ, ◌&&◌, ◌||◌, ◌↔◌, ◌≡◌, Some}
-use Rattle.duration_str.proofs.Common.{HasNoCapital, HasNoChinese, HasNoOperator, is_ascii_uppercase, is_operator, IsRead, IsRefused, list_all, NoCalcAgrees, OptionsIdle, rules}
+use Rattle.std.proofs.Common.{arith, Bool, false, IsTrue, List, not, refl, subst, sym, true, ℕ, ◌&&◌, ◌||◌, ◌↔◌, ◌≡◌}
+use Rattle.duration_str.proofs.Common.{HasNoCapital, HasNoChinese, HasNoOperator, is_ascii_uppercase, is_operator, IsReadWith, IsRefusedWith, list_all, NoCalcAgrees, OptionsIdle, rules}
 use Rattle.uses.proofs.Common.{Options}
 use Rattle.std.proofs.Math.Bool.{beq}
 use Rattle.duration_str.proofs.Characters.CharacterLemmas.{all_weaker}
 use Rattle.uses.specs.Portable.{HasSameCause, HasSameValue, is_unaffected}
-use Rattle.duration_str.specs.declared.unit.TimeUnit.TheVariants.{Second}
 
 -- If `b` and `d` are equal, or if the property holds for both values of Bool or for neither, it holds for `b` exactly
 -- if it holds for `d`.
@@ -45,15 +44,15 @@ module _ (o p : Options) (text : List ℕ) (h : IsTrue (list_all (is_unaffected 
       (λ k. next.0 (first.0 k), λ k. first.1 (next.1 k))
 
   pub unaffected_has_same_value : NoCalcAgrees → OptionsIdle → HasSameValue o p text
-  unaffected_has_same_value agrees idle nanos =
-      let calc = either_way (λ (b : Bool). IsRead (record o { no_calc = b }) text nanos) o.no_calc p.no_calc
-      (λ differ. agrees (Some Second) o text nanos (no_operator differ)) in
-      let others = others_changed (λ (q : Options). IsRead q text nanos)
-      (λ q plain. (idle.lowercase (Some Second) q text plain).value nanos) (λ q plain. (idle.cn_unit (Some Second) q text plain).value nanos) in
+  unaffected_has_same_value agrees idle default_unit nanos =
+      let calc = either_way (λ (b : Bool). IsReadWith default_unit (record o { no_calc = b }) text nanos) o.no_calc p.no_calc
+      (λ differ. agrees default_unit o text nanos (no_operator differ)) in
+      let others = others_changed (λ (q : Options). IsReadWith default_unit q text nanos)
+      (λ q plain. (idle.lowercase default_unit q text plain).value nanos) (λ q plain. (idle.cn_unit default_unit q text plain).value nanos) in
       (λ r. others.0 (calc.0 r), λ r. calc.1 (others.1 r))
 
   pub unaffected_has_same_cause : OptionsIdle → o.no_calc ≡ p.no_calc → HasSameCause o p text
-  unaffected_has_same_cause idle same cause =
-      subst (λ (b : Bool). IsRefused (record o { no_calc = b }) text cause ↔ IsRefused p text cause) (sym same)
-      (others_changed (λ (q : Options). IsRefused q text cause)
-      (λ q plain. (idle.lowercase (Some Second) q text plain).cause cause) (λ q plain. (idle.cn_unit (Some Second) q text plain).cause cause))
+  unaffected_has_same_cause idle same default_unit cause =
+      subst (λ (b : Bool). IsRefusedWith default_unit (record o { no_calc = b }) text cause ↔ IsRefusedWith default_unit p text cause) (sym same)
+      (others_changed (λ (q : Options). IsRefusedWith default_unit q text cause)
+      (λ q plain. (idle.lowercase default_unit q text plain).cause cause) (λ q plain. (idle.cn_unit default_unit q text plain).cause cause))

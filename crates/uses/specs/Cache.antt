@@ -14,12 +14,14 @@ pub record IsKey (style : Style) (nanos : ℕ) (key : List ℕ) : Type 0 where
   pub greatest : IsGreatestBreakdown unit_lengths nanos (counts_of unit_lengths nanos)
 
 -- The text is read as a value, and `key` is that value's key. Under every choice of options and with each default unit
--- or none, the key is read as the same value.
+-- or none, the key is read as the same value, and as no other.
 pub record IsCanonical (style : Style) (text key : List ℕ) : Type 0 where
   pub nanos : ℕ
   pub read : IsRead off text nanos
   pub is_key : IsKey style nanos key
   pub read_back : (default_unit : Option TimeUnit) (o : Options) → IsReadWith default_unit o key nanos
+  pub no_other : (default_unit : Option TimeUnit) (o : Options) (other : ℕ)
+      → IsReadWith default_unit o key other → other ≡ nanos
 
 -- The fault has this text, and a cause for which the text is refused.
 abbrev pub Refuses : List ℕ → Fault → Type 0

@@ -1,8 +1,9 @@
 -- Expressions that mean the same under several choices of options.
-use Rattle.std.specs.Prelude.{ℕ, Bool, not, ◌&&◌, ◌||◌, List, ◌↔◌}
+use Rattle.std.specs.Prelude.{ℕ, Bool, not, ◌&&◌, ◌||◌, List, Option, ◌↔◌}
 use Rattle.std.specs.Bool.{beq}
 use Rattle.std.specs.Char.{is_ascii_uppercase}
-use Rattle.uses.specs.Common.{Options, Cause, is_operator, is_chinese, IsRead, IsRefused}
+use Rattle.uses.specs.Common.{Options, Cause, is_operator, is_chinese, IsReadWith, IsRefusedWith}
+use Rattle.duration_str.specs.declared.unit.TimeUnit.{TimeUnit}
 
 -- whether the character means the same under both choices. An operator does if both have the same `no_calc`, an ASCII
 -- capital if both have the same `lowercase`, and a Chinese character of the units if both have the same `cn_unit`. Any
@@ -13,10 +14,12 @@ is_unaffected o p c =
     && (beq o.lowercase p.lowercase || not (is_ascii_uppercase c))
     && (beq o.cn_unit p.cn_unit || not (is_chinese c))
 
--- The text is read as the same value under both choices, or under neither.
+-- With each default unit or none, the text is read as the same value under both choices, or under neither.
 abbrev pub HasSameValue : Options → Options → List ℕ → Type 0
-HasSameValue o p text = (nanos : ℕ) → (IsRead o text nanos ↔ IsRead p text nanos)
+HasSameValue o p text = (default_unit : Option TimeUnit) (nanos : ℕ)
+    → (IsReadWith default_unit o text nanos ↔ IsReadWith default_unit p text nanos)
 
--- The text is refused for the same cause under both choices, or under neither.
+-- With each default unit or none, the text is refused for the same cause under both choices, or under neither.
 abbrev pub HasSameCause : Options → Options → List ℕ → Type 0
-HasSameCause o p text = (cause : Cause) → (IsRefused o text cause ↔ IsRefused p text cause)
+HasSameCause o p text = (default_unit : Option TimeUnit) (cause : Cause)
+    → (IsRefusedWith default_unit o text cause ↔ IsRefusedWith default_unit p text cause)

@@ -64,7 +64,7 @@ fn put_line(buffer: &mut [u8], text: &str, cause: Cause) -> Option<usize> {
 
 fn put_syntax(buffer: &mut [u8], text: &str, place: usize, expected: Expected) -> Option<usize> {
     let piece = first_piece(&text[place..]);
-    let column = chars_before(text, place) + 1;
+    let column = column_at(text, place);
     let help = help_at(expected, text.as_bytes(), place, piece);
     if expected.unit_word && begins_with_letter(piece) {
         put_unknown(buffer, column, piece, help)
@@ -72,6 +72,12 @@ fn put_syntax(buffer: &mut [u8], text: &str, place: usize, expected: Expected) -
         let found_help = missing_unit_help(expected, text.as_bytes(), help);
         put_found(buffer, expected_words(expected), column, piece, found_help)
     }
+}
+
+/// The column of a place, counted in characters from 1.
+#[inline(always)]
+fn column_at(text: &str, place: usize) -> usize {
+    chars_before(text, place) + 1
 }
 
 fn put_unknown(buffer: &mut [u8], column: usize, word: &str, help: &str) -> Option<usize> {

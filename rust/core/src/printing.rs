@@ -229,8 +229,8 @@ fn put_parts(
 fn put_spaced(buffer: &mut [u8], at: usize, count: u32, unit: TimeUnit) -> usize {
     let part = &mut buffer[at..at + 8];
     let end = put_hundreds(part, 0, u64::from(count));
-    let next = put_name(part, end, unit.printed()) + 1;
-    if count == 0 { at } else { at + next }
+    let next = put_name(part, end, unit.printed());
+    if count == 0 { at } else { at + next + 1 }
 }
 
 /// Writes all parts of a duration below a day. Each count is computed from the seconds or from the nanoseconds, so that

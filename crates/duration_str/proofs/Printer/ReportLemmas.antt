@@ -23,11 +23,11 @@ columns_all rest n whole none all = omega (arith, rw (chars_of_none rest none) a
 columns_le : (text : List ℕ) → columns_of text ≤ 2 * length text
 columns_le text = omega (arith, count_by-le-length is_wide text)
 
--- The columns of a text that fits into memory are below 2^64.
-pub columns_fit : (text : List ℕ) → IsUtf8 text → length text < 2 ^ 63 → columns_of (chars text) < 2 ^ 64
-columns_fit text utf8 small =
+-- A text takes at most two columns for each byte.
+pub columns_short : (text : List ℕ) → IsUtf8 text → columns_of (chars text) ≤ 2 * length text
+columns_short text utf8 =
     let bytes : length (chars text) ≤ length text = rw (encodes-chars text utf8) at (length-le-encodes (chars text)) in
-    omega (arith, columns_le (chars text), bytes, small)
+    omega (arith, columns_le (chars text), bytes)
 
 bytes_le : (cs : List ℕ) → length (encode_utf8_all cs) ≤ 4 * length cs
 bytes_le [] = omega arith

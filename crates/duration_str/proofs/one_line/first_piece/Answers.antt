@@ -22,8 +22,8 @@ loop-c-preserved c =
 pub range-requires-clause-end_boundary : goal.range-requires-clause-end_boundary
 range-requires-clause-end_boundary c = search (rules, taken_boundary)
 
-pub returns : goal.returns
-returns c =
+pub returns-clause-piece : goal.returns-clause-piece
+returns-clause-piece c =
     let held = c.loop-c.invariant in
     taken_all c.in-Some.first c.args.text.now _ c.loop-c.left held.taken _ c.range.utf8 c.range.ensures.value (elim c.match-next-2.branch [
       | in-Some-next+then-left-eq0 w ↦ elim w.then-left-eq0.branch [

@@ -6,7 +6,7 @@ use Rattle.duration_str.proofs.one_line.put_syntax.Goals as goal
 
 same : (c : After-first_piece-piece)
     → chars c.first_piece-piece.result.now ≡ first_piece (ahead c.args.text.now c.args.place)
-same c = c.first_piece-piece.ensures ∙ ap (λ bytes. first_piece (chars bytes)) c.range_from.ensures.value
+same c = c.first_piece-piece.ensures.piece ∙ ap (λ bytes. first_piece (chars bytes)) c.range_from.ensures.value
 
 pub returns-then-begins_with_letter : goal.returns-then-begins_with_letter
 returns-then-begins_with_letter c =
@@ -15,7 +15,7 @@ returns-then-begins_with_letter c =
       encodes-chars c.first_piece-piece.result.now c.first_piece-piece.utf8,
       c.if-expected.true,
       sym c.begins_with_letter.ensures ∙ c.if-begins_with_letter.true,
-      ← c.chars_before-column.ensures.count,
+      ← c.column_at-column.ensures.column,
     ) (rw (c.help_at-help.ensures, c.as_bytes.ensures.value) at c.put_unknown.ensures)
 
 pub returns-else-expected : goal.returns-else-expected
@@ -30,7 +30,7 @@ returns-else-expected c =
       ← same (goal.at.returns-else-expected c).After-first_piece-piece,
       ← no_unit_word c.args.text.now c.args.place c.args.expected piece no_word,
       encodes-chars c.first_piece-piece.result.now c.first_piece-piece.utf8,
-      ← c.chars_before-column.ensures.count,
+      ← c.column_at-column.ensures.column,
     ) (rw (
       c.missing_unit_help-found_help.ensures,
       c.help_at-help.ensures,

@@ -1,6 +1,6 @@
-use Rattle.duration_str.proofs.Common.{arith, chars, chars_rest, cond, IsUtf8-past_char, rules, ◌+◌, ◌<◌, ◌^◌, ◌≡◌}
+use Rattle.duration_str.proofs.Common.{arith, chars, chars_rest, cond, IsUtf8-past_char, length, rules, ◌*◌, ◌+◌, ◌≡◌, ◌≤◌}
 use Rattle.duration_str.specs.Report.{columns_of, is_wide}
-use Rattle.duration_str.proofs.Printer.ReportLemmas.{columns_all, columns_fit, columns_more}
+use Rattle.duration_str.proofs.Printer.ReportLemmas.{columns_all, columns_more, columns_short}
 use Rattle.duration_str.proofs.report.columns_of.Goals.{After-from}
 use Rattle.duration_str.proofs.report.columns_of.Goals as goal
 
@@ -15,8 +15,8 @@ more c =
 
 pub overflow_add-columns-in-Some : goal.overflow_add-columns-in-Some
 overflow_add-columns-in-Some c =
-    let fits : columns_of (chars c.args.text.now) < 2 ^ 64 = search (rules, columns_fit) in
-    omega (arith, fits, more (goal.at.overflow_add-columns-in-Some c).After-from)
+    let short : columns_of (chars c.args.text.now) ≤ 2 * length c.args.text.now = search (rules, columns_short) in
+    omega (arith, short, more (goal.at.overflow_add-columns-in-Some c).After-from)
 
 pub loop-c-preserved : goal.loop-c-preserved
 loop-c-preserved c = record {
@@ -25,4 +25,7 @@ loop-c-preserved c = record {
 }
 
 pub returns : goal.returns
-returns c = columns_all _ c.loop-c.columns _ (c.in_default.ensures {u = tt}).steps.0.0 c.loop-c.invariant.whole
+returns c =
+    let all = columns_all _ c.loop-c.columns _ (c.in_default.ensures {u = tt}).steps.0.0 c.loop-c.invariant.whole in
+    let short : columns_of (chars c.args.text.now) ≤ 2 * length c.args.text.now = search (rules, columns_short) in
+    record { columns = all; short = omega (arith, all, short) }
