@@ -239,6 +239,72 @@ static void check_units(void) {
     expect(DURATION_STR_UNITS_BETWEEN(year, nanosecond) == all, "all units");
 }
 
+/* A duration, units and parts, and the counts of all units and the rest that they give. */
+struct breakdown {
+    uint64_t secs;
+    uint32_t nanos, units, parts;
+    uint64_t counts[DURATION_STR_UNIT_COUNT], rest;
+};
+
+/* Whether the call writes these counts and this rest. They are set before the call, so that one
+ * that it does not write shows. */
+static bool is_broken_down(const struct breakdown *wanted) {
+    uint64_t counts[DURATION_STR_UNIT_COUNT], rest = 77;
+    memset(counts, '#', sizeof counts);
+    return duration_str_breakdown(
+               wanted->secs, wanted->nanos, wanted->units, wanted->parts, counts, &rest) &&
+           memcmp(counts, wanted->counts, sizeof counts) == 0 && rest == wanted->rest;
+}
+
+/* Whether the call refuses these arguments, and changes neither the counts nor the rest. */
+static bool is_no_breakdown(uint64_t secs, uint32_t nanos, uint32_t units, uint32_t parts) {
+    uint64_t counts[DURATION_STR_UNIT_COUNT], before[DURATION_STR_UNIT_COUNT], rest = 77;
+    memset(counts, '#', sizeof counts);
+    memset(before, '#', sizeof before);
+    return !duration_str_breakdown(secs, nanos, units, parts, counts, &rest) &&
+           memcmp(counts, before, sizeof counts) == 0 && rest == 77;
+}
+
+static void check_breakdowns(void) {
+    const uint32_t all = DURATION_STR_UNITS_ALL, hour = DURATION_STR_UNITS(DURATION_STR_UNIT_HOUR),
+                   second = DURATION_STR_UNITS(DURATION_STR_UNIT_SECOND),
+                   millisecond = DURATION_STR_UNITS(DURATION_STR_UNIT_MILLISECOND),
+                   nanosecond = DURATION_STR_UNITS(DURATION_STR_UNIT_NANOSECOND);
+    const uint32_t days_and_hours = DURATION_STR_UNITS(DURATION_STR_UNIT_DAY) | hour;
+    const struct breakdown rows[] = {
+        {193, 29000000, all, 2, {0, 0, 0, 0, 0, 0, 3, 13, 0, 0, 0}, 29000000},
+        {193, 29000000, all, UINT32_MAX, {0, 0, 0, 0, 0, 0, 3, 13, 29, 0, 0}, 0},
+        {193, 29000000, all, 0, {0, 0, 0, 0, 0, 0, 0, 0, 0, 0, 0}, 193029000000},
+        {39689999, 123456789, all, 11, {1, 1, 0, 0, 3, 8, 59, 59, 123, 456, 789}, 0},
+        {90060, 5, days_and_hours, 11, {0, 0, 0, 0, 1, 1, 0, 0, 0, 0, 0}, 60000000005},
+        {1, 1, hour, 11, {0, 0, 0, 0, 0, 0, 0, 0, 0, 0, 0}, 1000000001},
+        {0, 0, all, 11, {0, 0, 0, 0, 0, 0, 0, 0, 0, 0, 0}, 0},
+        {0, 0, 1, 0, {0, 0, 0, 0, 0, 0, 0, 0, 0, 0, 0}, 0},
+        /* 2^64 - 1 nanoseconds, milliseconds and seconds, and what is left out of them */
+        {18446744073, 709551615, nanosecond, 1, {0, 0, 0, 0, 0, 0, 0, 0, 0, 0, UINT64_MAX}, 0},
+        {18446744073, 709551615, all, 0, {0, 0, 0, 0, 0, 0, 0, 0, 0, 0, 0}, UINT64_MAX},
+        {18446744073709551, 615999999, millisecond, 1, {0, 0, 0, 0, 0, 0, 0, 0, UINT64_MAX, 0, 0},
+            999999},
+        {UINT64_MAX, 999999999, second, 1, {0, 0, 0, 0, 0, 0, 0, UINT64_MAX, 0, 0, 0}, 999999999},
+        /* 584,942,417,355 years of 31,536,000 seconds, and 2,271,615 seconds */
+        {UINT64_MAX, 0, all, 11, {584942417355, 0, 0, 3, 5, 7, 0, 15, 0, 0, 0}, 0},
+    };
+    for (size_t at = 0; at < sizeof rows / sizeof *rows; at++)
+        expect(is_broken_down(&rows[at]), "a breakdown");
+    expect(is_no_breakdown(18446744073, 709551616, nanosecond, 1) &&
+               is_no_breakdown(18446744073709551, 616000000, millisecond, 1) &&
+               is_no_breakdown(UINT64_MAX, 0, nanosecond, 1),
+        "a count of 2^64");
+    expect(is_no_breakdown(18446744073, 709551616, all, 0) && is_no_breakdown(UINT64_MAX, 0, 1, 0),
+        "a rest of 2^64");
+    expect(is_no_breakdown(193, 1000000000, all, 2) && is_no_breakdown(0, UINT32_MAX, all, 2),
+        "nanoseconds that are a second, broken down");
+    expect(is_no_breakdown(193, 0, 0, 2) && is_no_breakdown(0, 0, 0, 0), "no units, broken down");
+    expect(is_no_breakdown(193, 0, all + 1, 2) && is_no_breakdown(193, 0, all | 1u << 16, 2) &&
+               is_no_breakdown(193, 0, 1u << 31, 2),
+        "a unit above the last one, broken down");
+}
+
 /* Whether the name gives this number, and so does the name in ASCII capitals. */
 static bool is_unit(const char *name, int32_t wanted) {
     char capitals[16];
@@ -320,6 +386,7 @@ int main(void) {
     check_plain_calls();
     check_styles();
     check_units();
+    check_breakdowns();
     check_unit_names();
     check_one_line();
     check_null_texts();

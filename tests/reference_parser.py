@@ -565,6 +565,16 @@ def search_small_worlds():
             assert counts_within(nanos, lengths, parts) == max(allowed), (lengths, nanos, parts)
 
 
+def break_down(nanos, units, parts):
+    """The counts of all units, and the nanoseconds that are left, if a duration is broken down into
+    these units, in at most `parts` parts.
+    """
+    counts = counts_within(nanos, tuple(unit.length for unit in units), parts)
+    of_unit = dict(zip(units, counts))
+    rest = nanos - sum(count * unit.length for unit, count in of_unit.items())
+    return [of_unit.get(unit, 0) for unit in UNITS], rest
+
+
 def print_part(count, unit, style):
     """A count with its unit's printed name. In the long style it is a count, a space and the last
     of the unit's names, or the last but one for a count of 1.

@@ -200,9 +200,12 @@ enum duration_str_unit {
 
 /* The set of the units from `largest` to `smallest`. The set is empty, which
  * is 0, if `largest` is shorter than `smallest`. duration_str_format_with
- * refuses the empty set. */
+ * and duration_str_breakdown refuse the empty set. */
 #define DURATION_STR_UNITS_BETWEEN(largest, smallest) \
     (((UINT32_C(2) << (smallest)) - 1) & (UINT32_MAX << (largest)))
+
+/* How many units there are. */
+#define DURATION_STR_UNIT_COUNT 11
 
 /* How a duration is printed. */
 enum duration_str_style {
@@ -274,6 +277,41 @@ size_t duration_str_format_with(
     uint64_t secs, uint32_t nanos, uint32_t units, uint32_t parts,
     uint32_t style,
     char buffer[DURATION_STR_AT_LEAST DURATION_STR_STYLED_BUFFER_SIZE]);
+
+/* Breaks a duration of `secs` seconds and `nanos` nanoseconds down into the
+ * units of the set `units`, in at most `parts` parts. These are the parts that
+ * duration_str_format_with prints, without counts of 0.
+ *
+ * Returns true, and writes to `counts` how many there are of each unit. The
+ * count of a unit is at the unit's number in `enum duration_str_unit`. It is 0
+ * if the unit has no part. Writes to `*rest` the nanoseconds that no part has.
+ * So the counts, each times the length of its unit, and the rest are together
+ * the duration. `rest` must not point into `counts`.
+ *
+ * For example, 193 seconds and 29,000,000 nanoseconds in two parts of all units
+ * are 3 minutes and 13 seconds, and the rest is 29,000,000. If `parts` is 0, all
+ * counts are 0, and the rest is the whole duration. This prints 3,723 seconds
+ * as `1:02:03`:
+ *
+ *     const uint32_t units = DURATION_STR_UNITS_BETWEEN(
+ *         DURATION_STR_UNIT_HOUR, DURATION_STR_UNIT_SECOND);
+ *     uint64_t counts[DURATION_STR_UNIT_COUNT], rest;
+ *     if (duration_str_breakdown(3723, 0, units, 3, counts, &rest))
+ *         printf("%" PRIu64 ":%02" PRIu64 ":%02" PRIu64 "\n",
+ *                counts[DURATION_STR_UNIT_HOUR],
+ *                counts[DURATION_STR_UNIT_MINUTE],
+ *                counts[DURATION_STR_UNIT_SECOND]);
+ *
+ * Returns false, and leaves `counts` and `*rest` unchanged, if `nanos` is
+ * 1,000,000,000 or more, if `units` is the empty set or above
+ * DURATION_STR_UNITS_ALL, or if a count or the rest is 2^64 or more. A count
+ * can be that large only if each unit in the set is shorter than a second, and
+ * the rest only if `parts` is 0. */
+DURATION_STR_MUST_USE DURATION_STR_NONNULL(5, 6)
+bool duration_str_breakdown(
+    uint64_t secs, uint32_t nanos, uint32_t units, uint32_t parts,
+    uint64_t counts[DURATION_STR_AT_LEAST DURATION_STR_UNIT_COUNT],
+    uint64_t *rest);
 
 /* Reads a text under these options. Returns true if it is read. Writes to
  * `*answer` the value, or why and where the text is refused. */

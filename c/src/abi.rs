@@ -1,7 +1,7 @@
 //! The functions of `duration_str.h`. Each makes slices of C's pointers and calls the proved
 //! function of the same name.
 #![deny(clippy::no_mangle_with_rust_abi)]
-use crate::{answer::Answer, format, message, unit};
+use crate::{answer::Answer, breakdown, format, message, unit};
 use core::mem::{MaybeUninit, offset_of, zeroed};
 use core::{ptr::copy_nonoverlapping, slice::from_raw_parts};
 
@@ -61,6 +61,21 @@ extern "C" fn duration_str_format_with(
     written(out, |buffer| {
         format::duration_str_format_with(secs, nanos, units, parts, style, buffer)
     })
+}
+
+#[unsafe(no_mangle)]
+extern "C" fn duration_str_breakdown(
+    secs: u64,
+    nanos: u32,
+    units: u32,
+    parts: u32,
+    counts: &mut MaybeUninit<[u64; breakdown::UNIT_COUNT]>,
+    rest: &mut MaybeUninit<u64>,
+) -> bool {
+    let (mut each, mut left) = ([0; breakdown::UNIT_COUNT], 0);
+    breakdown::duration_str_breakdown(secs, nanos, units, parts, &mut each, &mut left)
+        .then(|| (counts.write(each), rest.write(left)))
+        .is_some()
 }
 
 #[unsafe(no_mangle)]

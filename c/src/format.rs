@@ -32,9 +32,14 @@ pub fn duration_str_format_with(
 /// The format with the units of these bits, at most `parts` parts, and the style with this number. It is `None` if no
 /// bit is set, if a bit is above that of the last unit, or if no style has this number.
 fn format_of(units: u32, parts: u32, style: u32) -> Option<Format> {
-    let mut format = Format::whole()
-        .parts(parts as usize)
-        .style(style_numbered(style)?);
+    let style = style_numbered(style)?;
+    Some(short_format_of(units, parts)?.style(style))
+}
+
+/// The format with the units of these bits, at most `parts` parts, and the short style. It is `None` if no bit is set,
+/// or if a bit is above that of the last unit.
+pub(crate) fn short_format_of(units: u32, parts: u32) -> Option<Format> {
+    let mut format = Format::whole().parts(parts as usize);
     format.units = units_of(units)?;
     Some(format)
 }

@@ -10,6 +10,8 @@ mod bare;
 #[forbid(unsafe_code)]
 pub mod answer;
 #[forbid(unsafe_code)]
+pub mod breakdown;
+#[forbid(unsafe_code)]
 pub mod format;
 #[forbid(unsafe_code)]
 pub mod message;

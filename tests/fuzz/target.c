@@ -133,6 +133,39 @@ static void check_printed(uint64_t nanos) {
     }
 }
 
+/* The length of a unit in nanoseconds: what `1` is read as if this is the default unit. */
+static uint64_t length_of(uint32_t unit) {
+    struct text one = text_at(prints, (const uint8_t *)"1", 1);
+    return read_with(one, DURATION_STR_OPTION_DEFAULT_UNIT(unit)).nanos;
+}
+
+/* The parts of a value and their rest are together the value. There are no more parts than asked
+ * for, and they have only the units asked for. Printed, they are read as the value without the
+ * rest. */
+static void check_parts(uint64_t nanos) {
+    const uint64_t secs = nanos / 1000000000;
+    const uint32_t below_second = nanos % 1000000000, units = 1 + nanos % DURATION_STR_UNITS_ALL,
+                   parts = nanos / DURATION_STR_UNITS_ALL % (DURATION_STR_UNIT_COUNT + 2);
+    uint64_t *rest = (void *)buffer_at(number_end, sizeof *rest);
+    uint64_t *counts = (void *)buffer_at(output_end, DURATION_STR_UNIT_COUNT * sizeof *counts);
+    HOLDS(duration_str_breakdown(secs, below_second, units, parts, counts, rest));
+    HOLDS(is_untouched((uint8_t *)rest - CANARIES, (uint8_t *)rest) &&
+          is_untouched((uint8_t *)counts - CANARIES, (uint8_t *)counts));
+    uint64_t sum = 0;
+    uint32_t found = 0;
+    for (uint32_t unit = 0; unit < DURATION_STR_UNIT_COUNT; unit++) {
+        HOLDS(counts[unit] == 0 || units & DURATION_STR_UNITS(unit));
+        found += counts[unit] != 0;
+        sum += counts[unit] * length_of(unit);
+    }
+    HOLDS(found <= parts && sum <= nanos && nanos - sum == *rest);
+    uint8_t *buffer = buffer_at(output_end, DURATION_STR_STYLED_BUFFER_SIZE);
+    size_t length = duration_str_format_with(
+        secs, below_second, units, parts, DURATION_STR_STYLE_SHORT, (char *)buffer);
+    struct duration_str_answer answer = read_with(text_at(prints, buffer, length), 0);
+    HOLDS(answer.cause == DURATION_STR_CAUSE_READ && answer.nanos == sum);
+}
+
 /* A report and its zero byte fit into the buffer, and the call gives the same answer as the others.
  * The report is empty if the text is read. */
 static void check_report(struct text text, uint32_t options, struct duration_str_answer wanted) {
@@ -146,6 +179,11 @@ static void check_report(struct text text, uint32_t options, struct duration_str
 }
 
 /* ---- All together */
+
+static void check_value(uint64_t nanos) {
+    check_printed(nanos);
+    check_parts(nanos);
+}
 
 /* The call without options agrees with the one that takes options. */
 static void check_plain(struct text text, struct duration_str_answer answer) {
@@ -224,7 +262,7 @@ static void check(struct text text) {
         HOLDS(are_equal(unknown, read_with(text, options | CHOICES << options)));
         if (answer.cause == DURATION_STR_CAUSE_READ &&
             (options == 0 || answer.nanos != answers[0].nanos))
-            check_printed(answer.nanos);
+            check_value(answer.nanos);
         if (options > 0 && are_equal(answer, answers[0]))
             continue;
         check_report(text, options, answer);

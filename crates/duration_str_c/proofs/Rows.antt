@@ -1,9 +1,12 @@
--- Examples that are computed: which bits are options, which default unit they stand for, and the numbers of units.
-use Rattle.std.proofs.Common.{◌≡◌, codes, false, negsuc, None, pos, Some, true}
+-- Examples that are computed: which bits are options, which default unit they stand for, the numbers of units, and the
+-- counts of units.
+use Rattle.std.proofs.Common.{◌≡◌, ◌+◌, ◌∷◌, [], codes, false, negsuc, None, pos, Some, true}
 use Rattle.duration_str.specs.Options.{off}
-use Rattle.duration_str.specs.declared.unit.TimeUnit.TheVariants.{MilliSecond, NanoSecond, Second, Year}
-use Rattle.duration_str.specs.Units.{unit_of_word}
+use Rattle.duration_str.specs.declared.unit.TimeUnit.TheVariants.{Day, Hour, MilliSecond, NanoSecond, Second, Year}
+use Rattle.duration_str.specs.Breakdown.{parts_in, sum_of_parts}
+use Rattle.duration_str.specs.Units.{unit_of_word, units}
 use Rattle.duration_str_c.specs.Answers.{are_options, default_unit_of_bits}
+use Rattle.duration_str_c.specs.Breakdown.{counts_of}
 use Rattle.duration_str_c.specs.Units.{number_of}
 
 pub record Bits : Type 0 where
@@ -47,3 +50,23 @@ pub record UnitNumbers : Type 0 where
 
 pub unit_numbers : UnitNumbers
 unit_numbers = assumption
+
+pub record Counts : Type 0 where
+  pub none : counts_of [] ≡ 0 ∷ 0 ∷ 0 ∷ 0 ∷ 0 ∷ 0 ∷ 0 ∷ 0 ∷ 0 ∷ 0 ∷ 0 ∷ []
+  pub ends : counts_of ((Year, 2) ∷ (NanoSecond, 9) ∷ []) ≡ 2 ∷ 0 ∷ 0 ∷ 0 ∷ 0 ∷ 0 ∷ 0 ∷ 0 ∷ 0 ∷ 0 ∷ 9 ∷ []
+  pub neighbours : counts_of ((Day, 4) ∷ (Hour, 5) ∷ []) ≡ 0 ∷ 0 ∷ 0 ∷ 0 ∷ 4 ∷ 5 ∷ 0 ∷ 0 ∷ 0 ∷ 0 ∷ 0 ∷ []
+  pub a_long_count : counts_of ((MilliSecond, 18_446_744_073_709_551_616) ∷ [])
+      ≡ 0 ∷ 0 ∷ 0 ∷ 0 ∷ 0 ∷ 0 ∷ 0 ∷ 0 ∷ 18_446_744_073_709_551_616 ∷ 0 ∷ 0 ∷ []
+  -- ---- 193.029 seconds, which are 3 minutes, 13 seconds and 29 milliseconds
+  pub two_parts : counts_of (parts_in units 2 193_029_000_000) ≡ 0 ∷ 0 ∷ 0 ∷ 0 ∷ 0 ∷ 0 ∷ 3 ∷ 13 ∷ 0 ∷ 0 ∷ 0 ∷ []
+  pub two_parts-rest : sum_of_parts (parts_in units 2 193_029_000_000) + 29_000_000 ≡ 193_029_000_000
+  pub all_parts : counts_of (parts_in units 11 193_029_000_000) ≡ 0 ∷ 0 ∷ 0 ∷ 0 ∷ 0 ∷ 0 ∷ 3 ∷ 13 ∷ 29 ∷ 0 ∷ 0 ∷ []
+  pub seconds : counts_of (parts_in (Second ∷ []) 11 193_029_000_000)
+      ≡ 0 ∷ 0 ∷ 0 ∷ 0 ∷ 0 ∷ 0 ∷ 0 ∷ 193 ∷ 0 ∷ 0 ∷ 0 ∷ []
+  pub no_parts : counts_of (parts_in units 0 193_029_000_000) ≡ 0 ∷ 0 ∷ 0 ∷ 0 ∷ 0 ∷ 0 ∷ 0 ∷ 0 ∷ 0 ∷ 0 ∷ 0 ∷ []
+  -- ---- 92 days, which are a quarter and a day
+  pub quarter : counts_of (parts_in units 11 7_948_800_000_000_000)
+      ≡ 0 ∷ 1 ∷ 0 ∷ 0 ∷ 1 ∷ 0 ∷ 0 ∷ 0 ∷ 0 ∷ 0 ∷ 0 ∷ []
+
+pub counts : Counts
+counts = assumption

@@ -2,6 +2,7 @@
 ghost use Rattle.std.specs.Prelude.{◌≡◌, ◌+◌, ◌*◌, ◌<◌, ◌≤◌, ◌∷◌, ◌⊎◌, IfSome, IfNone, IsUtf8, take, drop};
 ghost use Rattle.std.specs.Str.{chars};
 ghost use Rattle.duration_str.specs.Format.{IsPrintedWithin, most_len};
+ghost use Rattle.duration_str.specs.declared.format.Style.TheVariants.{Short};
 ghost use Rattle.duration_str_c.specs.Format.{format_of, style_numbered, units_of};
 
 use crate::put;
@@ -48,9 +49,18 @@ fn format_of(units: u32, parts: u32, style: u32) -> Option<Format>
         × (format ≡ format_of units parts (style_numbered style))) }
     ensures none { IfNone result ((units ≡ 0) ⊎ ((2048 ≤ units) ⊎ (2 < style))) }
 {
-    let mut format = Format::whole()
-        .parts(parts as usize)
-        .style(style_numbered(style)?);
+    let style = style_numbered(style)?;
+    Some(short_format_of(units, parts)?.style(style))
+}
+
+/// The format with the units of these bits, at most `parts` parts, and the short style. It is `None` if no bit is set,
+/// or if a bit is above that of the last unit.
+pub(crate) fn short_format_of(units: u32, parts: u32) -> Option<Format>
+    ensures format { IfSome result (λ format. (0 < units) × (units < 2048)
+        × (format ≡ format_of units parts Short)) }
+    ensures none { IfNone result ((units ≡ 0) ⊎ (2048 ≤ units)) }
+{
+    let mut format = Format::whole().parts(parts as usize);
     format.units = units_of(units)?;
     Some(format)
 }

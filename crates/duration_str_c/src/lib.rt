@@ -14,6 +14,7 @@ ghost use Rattle.duration_str.specs.declared.printing.TheConstants.{MAX_PRINTED_
 ghost use Rattle.duration_str_c.specs.Answers.{are_options, default_unit_of_bits, options_of_bits, IsAnswerTo};
 
 pub mod answer;
+pub mod breakdown;
 pub mod format;
 pub mod message;
 pub mod unit;

@@ -1,0 +1,56 @@
+// Made by tools/erase of crates/duration_str_c/src/breakdown.rt.
+//! Durations broken down into units.
+
+use crate::format::short_format_of;
+use duration_str_core::{Breakdown, TimeUnit, UNITS};
+use core::time::Duration;
+
+/// How many units there are.
+pub const UNIT_COUNT: usize = UNITS.len();
+
+/// Breaks a duration down into the units of a set, in at most `parts` parts. Writes the count of each unit to `counts`,
+/// the longest unit first, and the nanoseconds that no part has to `rest`. A unit without a part has the count 0.
+///
+/// The set is given by its bits, as for `duration_str_format_with`. If `nanos` is a second or more, if `units` is 0 or
+/// above 2,047, or if a count or the rest needs more than 64 bits, the call returns false, and `counts` and `rest` are
+/// unchanged. Otherwise it returns true.
+pub fn duration_str_breakdown(
+    secs: u64,
+    nanos: u32,
+    units: u32,
+    parts: u32,
+    counts: &mut [u64; UNIT_COUNT],
+    rest: &mut u64,
+) -> bool {
+    let Some(format) = short_format_of(units, parts) else {
+        return false;
+    };
+    if nanos >= 1_000_000_000 {
+        return false;
+    }
+    let mut parts = Breakdown::new(&Duration::new(secs, nanos), format);
+    let Some(found) = counts_of(&mut parts) else {
+        return false;
+    };
+    let Ok(left) = u64::try_from(parts.rest()) else {
+        return false;
+    };
+    *counts = found;
+    *rest = left;
+    true
+}
+
+/// Takes the parts that are left, and returns the counts of all units among them, that of the longest unit first. It is
+/// `None` if a count needs more than 64 bits.
+fn counts_of(parts: &mut Breakdown) -> Option<[u64; UNIT_COUNT]> {
+    let mut counts = [0; UNIT_COUNT];
+    while let Some((unit, count)) = parts.next() {
+        counts[rank(unit)] = u64::try_from(count).ok()?;
+    }
+    Some(counts)
+}
+
+/// The index of a unit in `UNITS`.
+fn rank(unit: TimeUnit) -> usize {
+    unit as usize
+}

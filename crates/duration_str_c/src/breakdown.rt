@@ -1,0 +1,76 @@
+//! Durations broken down into units.
+ghost use Rattle.std.specs.Prelude.{◌≡◌, ◌+◌, ◌*◌, ◌^◌, ◌<◌, ◌≤◌, ◌⊎◌, Any, IfNone, IfSome, IsFalse, IsTrue};
+ghost use Rattle.duration_str.specs.Breakdown.{nanos_left, parts_left, sum_of_parts};
+ghost use Rattle.duration_str.specs.declared.format.Style.TheVariants.{Short};
+ghost use Rattle.duration_str.specs.Units.{rank_of};
+ghost use Rattle.duration_str_c.specs.Breakdown.{counts_of, IsBrokenDown, IsTooLarge};
+ghost use Rattle.duration_str_c.specs.Format.{format_of};
+ghost use Rattle.duration_str_c.specs.declared.breakdown.TheConstants.{UNIT_COUNT};
+
+use crate::format::short_format_of;
+use duration_str::{Breakdown, TimeUnit, UNITS};
+use std::time::Duration;
+
+/// How many units there are.
+pub const UNIT_COUNT: usize = UNITS.len();
+
+/// Breaks a duration down into the units of a set, in at most `parts` parts. Writes the count of each unit to `counts`,
+/// the longest unit first, and the nanoseconds that no part has to `rest`. A unit without a part has the count 0.
+///
+/// The set is given by its bits, as for `duration_str_format_with`. If `nanos` is a second or more, if `units` is 0 or
+/// above 2,047, or if a count or the rest needs more than 64 bits, the call returns false, and `counts` and `rest` are
+/// unchanged. Otherwise it returns true.
+pub fn duration_str_breakdown(
+    secs: u64,
+    nanos: u32,
+    units: u32,
+    parts: u32,
+    counts: &mut [u64; UNIT_COUNT],
+    rest: &mut u64,
+) -> bool
+    ensures broken_down { IsTrue result → IsBrokenDown (format_of units parts Short)
+        (secs * 1_000_000_000 + nanos) counts.new rest.new }
+    ensures right { IsTrue result → (nanos < 1_000_000_000) × (0 < units) × (units < 2048) }
+    ensures refused { IsFalse result → (1_000_000_000 ≤ nanos) ⊎ ((units ≡ 0) ⊎ ((2048 ≤ units)
+        ⊎ IsTooLarge (format_of units parts Short) (secs * 1_000_000_000 + nanos))) }
+    ensures unchanged { IsFalse result → (counts.new ≡ counts.old) × (rest.new ≡ rest.old) }
+{
+    let Some(format) = short_format_of(units, parts) else {
+        return false;
+    };
+    if nanos >= 1_000_000_000 {
+        return false;
+    }
+    let mut parts = Breakdown::new(&Duration::new(secs, nanos), format);
+    let Some(found) = counts_of(&mut parts) else {
+        return false;
+    };
+    let Ok(left) = u64::try_from(parts.rest()) else {
+        return false;
+    };
+    *counts = found;
+    *rest = left;
+    true
+}
+
+/// Takes the parts that are left, and returns the counts of all units among them, that of the longest unit first. It is
+/// `None` if a count needs more than 64 bits.
+fn counts_of(parts: &mut Breakdown) -> Option<[u64; UNIT_COUNT]>
+    ensures some { IfSome result (λ counts. (counts ≡ counts_of (parts_left parts.old))
+        × (nanos_left parts.old ≡ sum_of_parts (parts_left parts.old) + nanos_left parts.new)) }
+    ensures none { IfNone result (Any (λ n. 2 ^ 64 ≤ n) (counts_of (parts_left parts.old))) }
+{
+    let mut counts = [0; UNIT_COUNT];
+    while let Some((unit, count)) = parts.next() {
+        counts[rank(unit)] = u64::try_from(count).ok()?;
+    }
+    Some(counts)
+}
+
+/// The index of a unit in `UNITS`.
+fn rank(unit: TimeUnit) -> usize
+    ensures value { result ≡ rank_of unit }
+    ensures inside { result < UNIT_COUNT }
+{
+    unit as usize
+}
