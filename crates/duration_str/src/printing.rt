@@ -116,7 +116,7 @@ pub fn write_format<'b>(
 #[inline(always)]
 #[tactic(auto, using(crate::proofs::Printer::DigitLemmas::put_steps))]
 fn put_digit(buffer: &mut [u8], at: usize, digit: u64) -> usize
-    requires room { at < length buffer.old }
+    requires room { at + 1 ≤ length buffer.old }
     requires digit { digit < 10 }
     ensures text { take result buffer.new ≡ take at buffer.old ++ decimal digit }
     ensures end { result ≡ at + 1 }
