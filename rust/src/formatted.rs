@@ -127,45 +127,17 @@ impl FormattedDuration {
     /// first. Counts of 0 are left out, and the style does not matter. If the duration is negative,
     /// these are the parts of its magnitude.
     ///
-    /// So you can print a duration in your own way. This is a list with commas and an `and`:
-    ///
-    /// ```
-    /// use duration_str::format_duration;
-    /// use std::time::Duration;
-    ///
-    /// let uptime = format_duration(Duration::from_secs(788_645)).parts(3);
-    /// let parts = uptime.breakdown().map(|(unit, count)| format!("{count}{unit}"));
-    /// let mut parts: Vec<String> = parts.collect();
-    /// let last = parts.pop().unwrap_or_default();
-    /// assert_eq!(format!("{} and {last}", parts.join(", ")), "1w, 2d and 3h");
-    /// ```
-    ///
-    /// This is a clock:
-    ///
-    /// ```
-    /// use duration_str::{TimeUnit, format_duration};
-    /// use std::collections::HashMap;
-    /// use std::time::Duration;
-    ///
-    /// let units = [TimeUnit::Hour, TimeUnit::Minute, TimeUnit::Second];
-    /// let film = format_duration(Duration::from_secs(3_723)).only(&units);
-    /// let counts: HashMap<TimeUnit, u128> = film.breakdown().collect();
-    /// let [h, m, s] = units.map(|unit| counts.get(&unit).copied().unwrap_or(0));
-    /// assert_eq!(format!("{h}:{m:02}:{s:02}"), "1:02:03");
-    /// ```
-    ///
-    /// These are seconds with three decimals. [`Breakdown::rest`] has the nanoseconds that the parts
-    /// so far leave:
-    ///
     /// ```
     /// use duration_str::{TimeUnit, format_duration};
     /// use std::time::Duration;
     ///
-    /// let build = format_duration(Duration::from_millis(193_029)).only(&[TimeUnit::Second]);
-    /// let mut parts = build.breakdown();
-    /// let secs = parts.next().map_or(0, |(_, count)| count);
-    /// assert_eq!(format!("{secs}.{:03}s", parts.rest() / 1_000_000), "193.029s");
+    /// let mut parts = format_duration(Duration::from_millis(193_029)).parts(2).breakdown();
+    /// assert!(parts.by_ref().eq([(TimeUnit::Minute, 3), (TimeUnit::Second, 13)]));
+    /// assert_eq!(parts.rest(), 29_000_000);
     /// ```
+    ///
+    /// The README of this crate has recipes for lists, clocks, decimals, rounding and other
+    /// languages, in its section "Durations in your own words".
     #[must_use]
     pub fn breakdown(&self) -> Breakdown {
         Breakdown::new(&self.magnitude, self.format)
