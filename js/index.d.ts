@@ -87,13 +87,13 @@ export type Unit =
     | "µs" | "µsec" | "µsecond" | "us" | "usec" | "usecond" | "microsecond" | "microseconds"
     | "ns" | "nsec" | "nanosecond" | "nanoseconds";
 
-/** Limits that say which units are counted, and how many parts. They must be a plain object, and
- * only the object's own properties count. */
+/** Which units are counted, and how many parts. A format must be a plain object, and only the
+ * object's own properties count. */
 interface Counted<Name extends Unit> {
     /**
      * Only these units, in any order. A unit that is named twice counts once. With `["y", "d"]`,
      * 400 days are `1y 35d`. If you also give `largest` or `smallest`, only the units that all
-     * these limits allow are left.
+     * these options allow are left.
      */
     units?: readonly Name[] | undefined;
     /**
@@ -113,7 +113,7 @@ interface Counted<Name extends Unit> {
  * a second, the text is `0s`, even if you left out the second. In the style `long` these texts are
  * `0 hours` and `0 seconds`.
  */
-export interface Limits extends Counted<Unit> {
+export interface Format extends Counted<Unit> {
     /**
      * `short`, the default, is `1h 30min`; `compact` is `1h30min`; `long` is `1 hour 30 minutes`.
      */
@@ -121,11 +121,11 @@ export interface Limits extends Counted<Unit> {
 }
 
 /**
- * Limits for the function `parts`. By default it counts all of the duration, from days to
- * nanoseconds. Longer units are counted if they are among the `units`, or if the `largest` is
- * longer than a day.
+ * How much of a duration the function `parts` counts. By default it counts all of the duration,
+ * from days to nanoseconds. Longer units are counted if they are among the `units`, or if the
+ * `largest` is longer than a day.
  */
-export type PartLimits = Counted<Exclude<Unit, "q" | "quarter" | "quarters">>;
+export type PartFormat = Counted<Exclude<Unit, "q" | "quarter" | "quarters">>;
 
 /**
  * The parts of a duration that are not 0, by the names of their units. `Intl.DurationFormat` and
@@ -310,7 +310,7 @@ export function tryParseNs(
  * no unit between these two.
  * @throws TypeError if the duration is not a number, or if an option is unknown or of another type
  */
-export function format(milliseconds: number, options?: Limits): string;
+export function format(milliseconds: number, format?: Format): string;
 
 /**
  * Prints a duration of this many nanoseconds, and returns the text: `formatNs(5_400_000_000_000n)`
@@ -320,7 +320,7 @@ export function format(milliseconds: number, options?: Limits): string;
  * `format` throws it
  * @throws TypeError if the number is not a bigint, or for an option for which `format` throws it
  */
-export function formatNs(nanoseconds: bigint, options?: Limits): string;
+export function formatNs(nanoseconds: bigint, format?: Format): string;
 
 /**
  * Returns the parts of a duration as numbers: `parts(5_400_000)` is `{ hours: 1, minutes: 30 }`.
@@ -332,9 +332,9 @@ export function formatNs(nanoseconds: bigint, options?: Limits): string;
  * new Intl.DurationFormat("en").format(parts(parse("1h 30m"))); // 1 hr, 30 min
  * ```
  *
- * @throws RangeError if a number can't hold a count exactly, or for a duration or limit for which
- * `format` or `formatNs` throws it
- * @throws TypeError if the duration is neither a number nor a bigint, or for a limit for which
+ * @throws RangeError if a number can't hold a count exactly, or for a duration or an option for
+ * which `format` or `formatNs` throws it
+ * @throws TypeError if the duration is neither a number nor a bigint, or for an option for which
  * `format` throws it
  */
-export function parts(duration: number | bigint, limits?: PartLimits): Parts;
+export function parts(duration: number | bigint, format?: PartFormat): Parts;

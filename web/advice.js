@@ -96,8 +96,8 @@ export function sentence(text, code, options) {
 
 /** A list with a sentence that says how many days a duration has, if it is printed in years,
  * quarters or months. */
-function inDays(value, limits) {
-    const printed = formatNs(value, { ...limits, style: "short" });
+function inDays(value, format) {
+    const printed = formatNs(value, { ...format, style: "short" });
     const isPrinted = ({ names: [name] }) => new RegExp(`[0-9]${name}\\b`).test(printed);
     const units = UNITS.slice(0, 3).filter(isPrinted);
     if (units.length === 0) return [];
@@ -119,7 +119,7 @@ function inMonths(sum, month) {
 }
 
 /** The page's notes on a text that was read, and the other readings that it offers. */
-export function notesOn(text, value, options, limits) {
+export function notesOn(text, value, options, format) {
     const found = Array.from(terms(text, options));
     const sum = found[1]?.operator === "*" ? [] : found;
     const bare = sum.find(({ number, unit }) => !unit && !/^0+$/.test(number));
@@ -129,7 +129,7 @@ export function notesOn(text, value, options, limits) {
     const [unit] = bare ? defaultUnitOf(options).names.slice(-1) : [];
     if (bare) sentences.push(say`${bare.number} has no unit: ${[unit]}.`);
     if (minutes) sentences.push(say`${minutes.unit} is minutes; months are ${"mon"}.`);
-    sentences.push(...inDays(value, limits));
+    sentences.push(...inDays(value, format));
     if (!bare && !month) return { sentences, offers: [] };
     const meant = complete(month ? inMonths(sum, month) : text, options);
     const offers = offer(meant, options).filter((each) => each.value !== value);

@@ -3,7 +3,7 @@
 import { formatNs, tryParseNs } from "../js/dist/duration-str.js";
 import { markedParts, notesOn, offersFor, sentence } from "./advice.js";
 import {
-    changedOptions, choose, chosenLimits, chosenOptions, switches,
+    changedOptions, choose, chosenFormat, chosenOptions, switches,
 } from "./choices.js";
 import { LANGUAGES } from "./code.js";
 import { elsewhere } from "./elsewhere.js";
@@ -84,7 +84,7 @@ function showOffers(offers) {
 function remarksOn({ words, value, fault }) {
     const said = fault ? [sentence(words, fault.code, chosenOptions()) ?? lineOf(fault)] : [];
     if (words.length > LONG) return { sentences: said, offers: [] };
-    if (!fault) return notesOn(words, value, chosenOptions(), chosenLimits());
+    if (!fault) return notesOn(words, value, chosenOptions(), chosenFormat());
     return { sentences: said, offers: offersFor(words, chosenOptions()) };
 }
 
@@ -114,7 +114,7 @@ function fill(table, rows) {
 
 function showValue(line) {
     const { value } = line;
-    show("printed", formatNs(value, chosenLimits()));
+    show("printed", formatNs(value, chosenFormat()));
     for (const [id, length] of [["nanoseconds", 1n], ["milliseconds", 1_000_000n]]) {
         show(id, decimal(value, length), groupDigits(decimal(value, length)));
     }
@@ -140,7 +140,7 @@ function showCode(isShown) {
     element("no-code").hidden = isShown;
     for (const id of ["how", "codes"]) element(id).hidden = !isShown;
     for (const [id, [, , written]] of Object.entries(LANGUAGES)) {
-        show(id, isShown ? written(text.value, chosenOptions(), chosenLimits()) : "");
+        show(id, isShown ? written(text.value, chosenOptions(), chosenFormat()) : "");
         element(`${id}-code`).hidden = copied[id] === "";
     }
 }
@@ -170,7 +170,7 @@ function lineRow(line) {
     const { sentences, offers } = remarksOn(line);
     return [
         words.trim(),
-        ...(ok ? [make("code", formatNs(value, chosenLimits()))] : []),
+        ...(ok ? [make("code", formatNs(value, chosenFormat()))] : []),
         ...sentences.map((each) => make("p", ...parts(each))),
         ...offers.map((offer) => offerButton(offer, start, start + words.length)),
     ];

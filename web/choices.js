@@ -30,16 +30,16 @@ export const unitBoxes = UNITS.map(({ names, printed }) => {
     return box;
 });
 
-/** The limits for printing, without those that are as in WHOLE. If a unit between the largest and
- * the smallest is left out, the units are listed instead. */
-export function chosenLimits() {
+/** The format for printing, without the choices that are as in WHOLE. If a unit between the largest
+ * and the smallest is left out, the units are listed instead. */
+export function chosenFormat() {
     const chosen = Object.entries(printing).filter(([name, box]) => box.value !== WHOLE[name]);
     const valueOf = (name, box) => name === "parts" ? Number(box.value) : box.value;
-    const limits = Object.fromEntries(chosen.map(([name, box]) => [name, valueOf(name, box)]));
+    const format = Object.fromEntries(chosen.map(([name, box]) => [name, valueOf(name, box)]));
     const units = unitBoxes.filter((box) => box.checked).map((box) => box.value);
-    const { largest, smallest, ...others } = limits;
+    const { largest, smallest, ...others } = format;
     const between = printing.smallest.selectedIndex - printing.largest.selectedIndex;
-    return units.length > between ? limits : { ...others, units };
+    return units.length > between ? format : { ...others, units };
 }
 
 /** If the largest unit has become shorter than the smallest, the one that wasn't changed is set to

@@ -1,6 +1,6 @@
 // Programs that read and print the text, in each language. A text that is read has no character
 // that a language escapes differently than JSON does.
-import { format, formatNs, parse, parseNs } from "../js/dist/duration-str.js";
+import { format as printed, formatNs, parse, parseNs } from "../js/dist/duration-str.js";
 import { UNITS } from "./units.js";
 
 /** The names of the options that are on, except the default unit: in JavaScript, and in other
@@ -17,8 +17,8 @@ function rustUnit(printed) {
     return `TimeUnit::${capital(wordOf(printed)).replace(/(?<=[io])sec/, "Sec")}`;
 }
 
-/** Rust's call for a limit. */
-function rustLimit([name, value]) {
+/** Rust's call for a choice of the format. */
+function rustChoice([name, value]) {
     if (name === "parts") return `.parts(${value})`;
     if (name === "style") return `.style(Style::${capital(value)})`;
     if (name === "units") return `.only(&[${value.map(rustUnit).join(", ")}])`;
@@ -41,9 +41,9 @@ function rustReading(text, { requireUnit, defaultUnit, ...options }) {
     return `parse_with_default_unit(${literal}, ${taken}, ${unit})`;
 }
 
-function rust(text, options, limits) {
+function rust(text, options, format) {
     const reading = rustReading(text, options);
-    const printing = Object.entries(limits).map(rustLimit).join("");
+    const printing = Object.entries(format).map(rustChoice).join("");
     const isUsed = (name) => `${reading}${printing}`.includes(`${name}::`);
     const types = ["Options", "Style", "TimeUnit"].filter(isUsed);
     const imports = ["format_duration", reading.split("(", 1), ...types].join(", ");
@@ -66,7 +66,7 @@ function keywords(values) {
 }
 
 /** A `timedelta` counts microseconds, so a text with nanoseconds is read by `parse_ns`. */
-function python(text, options, limits) {
+function python(text, options, format) {
     const isWhole = parseNs(text, options) % 1_000n === 0n;
     const [name, call] = isWhole ? ["duration", "parse"] : ["nanoseconds", "parse_ns"];
     const { defaultUnit: default_unit } = options;
@@ -76,7 +76,7 @@ function python(text, options, limits) {
         "import duration_str",
         "",
         `${name} = duration_str.${call}(${JSON.stringify(text)}${taken})`,
-        `text = duration_str.format(${name}${keywords(limits)})`,
+        `text = duration_str.format(${name}${keywords(format)})`,
     ].join("\n");
 }
 
@@ -89,15 +89,15 @@ function argument(properties) {
 }
 
 /** If a number of milliseconds would lose the last nanoseconds, the text is read as a bigint. */
-function javascript(text, options, limits) {
+function javascript(text, options, format) {
     const taken = Object.fromEntries(Object.entries(options).filter(([, value]) => value));
-    const isExact = format(parse(text, options)) === formatNs(parseNs(text, options));
+    const isExact = printed(parse(text, options)) === formatNs(parseNs(text, options));
     const [name, ns] = isExact ? ["milliseconds", ""] : ["nanoseconds", "Ns"];
     return [
         `import { format${ns}, parse${ns} } from "duration-str";`,
         "",
         `const ${name} = parse${ns}(${JSON.stringify(text)}${argument(taken)});`,
-        `const text = format${ns}(${name}${argument(limits)});`,
+        `const text = format${ns}(${name}${argument(format)});`,
     ].join("\n");
 }
 
@@ -112,19 +112,19 @@ function cUnits({ units, largest = "y", smallest = "ns" }) {
 }
 
 /** C's call that prints the answer. */
-function cPrintCall(limits) {
-    if (Object.keys(limits).length === 0) {
+function cPrintCall(format) {
+    if (Object.keys(format).length === 0) {
         return [
             "char buffer[DURATION_STR_FORMAT_BUFFER_SIZE];",
             "duration_str_format(answer.nanos, buffer);",
         ];
     }
-    const { parts = UNITS.length, style = "short" } = limits;
+    const { parts = UNITS.length, style = "short" } = format;
     return [
         "char buffer[DURATION_STR_STYLED_BUFFER_SIZE];",
         "duration_str_format_with(",
         "    answer.nanos / 1000000000, answer.nanos % 1000000000,",
-        `    ${cUnits(limits)},`,
+        `    ${cUnits(format)},`,
         `    ${parts}, DURATION_STR_STYLE_${style.toUpperCase()}, buffer);`,
     ];
 }
@@ -137,7 +137,7 @@ function cLiteral(text) {
     return `"${Array.from(new TextEncoder().encode(text), written).join("")}"`;
 }
 
-function c(text, options, limits) {
+function c(text, options, format) {
     const bits = idsOf(options).map((id) => `DURATION_STR_OPTION_${id.toUpperCase()}`);
     const { defaultUnit } = options;
     if (defaultUnit) bits.push(`DURATION_STR_OPTION_DEFAULT_UNIT(${cUnit(defaultUnit)})`);
@@ -148,17 +148,17 @@ function c(text, options, limits) {
         "struct duration_str_answer answer;",
         "bool is_read = duration_str_parse_with(",
         `    text, sizeof text - 1, ${bits.join(" | ") || "0"}, &answer);`,
-        ...cPrintCall(limits),
+        ...cPrintCall(format),
     ].join("\n");
 }
 
 /** `durstr` reads lines, and prints each duration in full. `duration` can do more, but it has no
  * `no_calc`. */
-function shell(text, options, limits) {
+function shell(text, options, format) {
     if (/\p{C}/u.test(text)) return "";
     const { requireUnit, defaultUnit } = options;
     const names = idsOf(options);
-    const chosen = Object.entries(limits);
+    const chosen = Object.entries(format);
     if (!requireUnit && !defaultUnit && chosen.length === 0) {
         return ["printf '%s\\n'", `'${text}'`, "| durstr", ...names].join(" ");
     }

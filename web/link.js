@@ -2,7 +2,7 @@
 // `#text=1h%2030&lowercase&default_unit=ms&style=long&units=y,d`. In place of the default unit it
 // may have `require_unit`.
 import {
-    agree, chooseUnits, chosenLimits, defaultUnit, limitUnits, printing, REFUSED, SECOND,
+    agree, chooseUnits, chosenFormat, defaultUnit, limitUnits, printing, REFUSED, SECOND,
     showNoCalc, switches, WHOLE,
 } from "./choices.js";
 import { element, text } from "./elements.js";
@@ -27,10 +27,10 @@ export function writeLink() {
     try {
         const isChosen = (box) => box.checked && !box.disabled;
         const chosen = boxes.filter(isChosen).map((box) => box.id);
-        const limits = Object.entries(chosenLimits())
+        const printed = Object.entries(chosenFormat())
             .map(([name, value]) => `${name}=${[value].flat().map(encodeURIComponent)}`);
         const options = [...chosen, ...defaultUnitWords()];
-        const words = [`text=${encodeURIComponent(text.value)}`, ...options, ...limits];
+        const words = [`text=${encodeURIComponent(text.value)}`, ...options, ...printed];
         if (text.value.length > LONG) note = "This text is too long for the address.";
         else history.replaceState(null, "", `#${words.join("&")}`);
     } catch (error) {

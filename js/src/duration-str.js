@@ -464,8 +464,9 @@ const COUNTED_WHOLE = {
     __proto__: null, units: undefined, largest: undefined, smallest: "ns", parts: Infinity,
 };
 
-/** Reads the options for printing or for counting. `whole` has their names and default values. */
-function limitsOf(options, whole) {
+/** The format with these options for printing or for counting. `whole` has their names and default
+ * values. */
+function formatOf(options, whole) {
     checkPlain(options);
     let { units, largest, smallest, parts, style } = whole;
     const names = Object.keys(options);
@@ -483,8 +484,8 @@ function limitsOf(options, whole) {
     return { units, largest, smallest, parts, style };
 }
 
-/** The set of the units in `all` that the limits leave, and the set of the units that the limits
- * name. If no units are listed and no largest is chosen, the largest is `longest`. */
+/** The set of the units in `all` that a format leaves, and the set of the units that it names. If
+ * no units are listed and no largest is chosen, the largest is `longest`. */
 function unitsLeft({ units, largest, smallest }, all, longest) {
     const wanted = units === undefined ? all : unitsOf(units);
     if (largest === undefined) largest = units === undefined ? longest : "y";
@@ -615,10 +616,10 @@ function print(options) {
     // The duration is taken before the options are looked at, since an option may have a getter
     // that calls this package.
     const total = count();
-    const limits = limitsOf(options, PRINTED_WHOLE);
-    const { left } = unitsLeft(limits, ALL_UNITS, "y");
-    const parts = countOf(limits.parts);
-    const style = styleOf(limits.style);
+    const chosen = formatOf(options, PRINTED_WHOLE);
+    const { left } = unitsLeft(chosen, ALL_UNITS, "y");
+    const parts = countOf(chosen.parts);
+    const style = styleOf(chosen.style);
     const second = typeof total === "number" ? SECOND : BigInt(SECOND);
     const nanos = total % second;
     const secs = Number((total - nanos) / second);
@@ -674,10 +675,10 @@ export function parts(value, options = {}) {
     }
     put(value);
     let rest = count();
-    const limits = limitsOf(options, COUNTED_WHOLE);
-    const { left, named } = unitsLeft(limits, COUNTED_UNITS, "d");
+    const chosen = formatOf(options, COUNTED_WHOLE);
+    const { left, named } = unitsLeft(chosen, COUNTED_UNITS, "d");
     if (named & ~COUNTED_UNITS) throw new RangeError("parts has no quarters");
-    const most = countOf(limits.parts);
+    const most = countOf(chosen.parts);
     lengths ??= askLengths();
     const lengthOf = lengths[typeof rest];
     let counts = {};

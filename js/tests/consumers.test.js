@@ -164,7 +164,7 @@ test("has types for a CommonJS module", skipWithout("tsc"), () => {
     }
 });
 
-// tests/compare compares what the plain package reads, and what it prints without limits.
+// tests/compare compares what the plain package reads, and what it prints without a format.
 test("prints in plain JavaScript as in WebAssembly", async () => {
     const [compiled, plain] = await Promise.all(
         [import("duration-str"), import("duration-str/plain")],

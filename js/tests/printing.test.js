@@ -32,7 +32,7 @@ test("prints the vectors in the units that are chosen", () => {
     }
 });
 
-test("prints the vectors, and refuses limits that contradict each other", () => {
+test("prints the vectors, and refuses formats that contradict themselves", () => {
     for (const [text, largest, smallest, parts, short, long] of VECTORS.printed) {
         if (!tryParseNs(text).ok) continue;
         for (const [style, printed] of inStyles(short, long)) {
@@ -99,7 +99,7 @@ test("takes each name that is read for its unit", () => {
     }
 });
 
-test("refuses limits that there are not", () => {
+test("refuses formats that there are not", () => {
     const names = NAMES.join(", ");
     const noUnit = (name) => new RangeError(
         `a unit of the option units must be one of ${names}, not ${name}`,
@@ -198,17 +198,17 @@ test("counts the parts", () => {
         [5n, { units: ["µs", "d"] }, { seconds: 0 }],
         [2n ** 53n - 1n, { largest: "ns" }, { nanoseconds: Number.MAX_SAFE_INTEGER }],
     ];
-    for (const [value, limits, counted] of rows) assert.deepEqual(parts(value, limits), counted);
+    for (const [value, format, counted] of rows) assert.deepEqual(parts(value, format), counted);
     assert.throws(
         () => parts(2n ** 53n, { largest: "ns" }),
         { name: "RangeError", message: /^no number holds 9007199254740992 / },
     );
-    for (const limits of [
+    for (const format of [
         { largest: "q" }, { largest: "y", smallest: "q" }, { smallest: "w" }, { parts: 0 },
         { units: ["q", "d"] }, { largest: "quarter" }, { units: [] }, { units: ["x"] },
         { units: ["y"], largest: "d" },
     ]) {
-        assert.throws(() => parts(1n, limits), RangeError);
+        assert.throws(() => parts(1n, format), RangeError);
     }
     for (const value of [-1n, 2n ** 64n]) assert.throws(() => parts(value), RangeError);
     for (const words of [

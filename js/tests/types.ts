@@ -1,8 +1,9 @@
 // Tests the types of the package by the compiler alone. Code that must be wrong stands below a line
 // that expects an error.
 import {
-    DurationError, type Expected, type Fault, formatNs, format, type Options, parseNs, parse, type Parts, parts,
-    type Refusal, tryParseNs, tryParse, type Unit, version,
+    DurationError, type Expected, type Fault, formatNs, format, type Format, type Options, parseNs,
+    parse, type PartFormat, type Parts, parts, type Refusal, tryParseNs, tryParse, type Unit,
+    version,
 } from "duration-str";
 
 const options: Options = { noCalc: true, lowercase: false, cnUnit: undefined, requireUnit: true };
@@ -28,13 +29,15 @@ function chosen(unit: Unit | undefined, isRequired: boolean | undefined): Option
     return [{ defaultUnit: unit }, { requireUnit: isRequired }, { noCalc: isRequired }];
 }
 const milliseconds: number = parse("1m 30s", {});
+const asked: Format = { parts: 2, largest: "d", smallest: "us", style: "long" };
 const texts: string[] = [
     formatNs(nanoseconds),
     format(milliseconds),
-    formatNs(1n, { parts: 2, largest: "d", smallest: "us", style: "long" }),
+    formatNs(1n, asked),
     format(milliseconds, { units: ["y", "days"] as const }),
 ];
-const counted: Parts = parts(nanoseconds, { largest: "y", units: ["years", "d"] });
+const counting: PartFormat = { largest: "y", units: ["years", "d"] };
+const counted: Parts = parts(nanoseconds, counting);
 const hours: number = counted.hours ?? 0;
 
 try {

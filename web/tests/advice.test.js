@@ -71,8 +71,8 @@ test("has notes on texts that are read", () => {
         const { sentences } = notesOn(text, parseNs(text, options), options);
         assert.deepEqual(sentences.map(wordsOf), notes, text);
     }
-    const limits = { units: ["y", "mon", "d"], style: "long" };
-    const { sentences } = notesOn("180d", parseNs("180d"), NONE, limits);
+    const format = { units: ["y", "mon", "d"], style: "long" };
+    const { sentences } = notesOn("180d", parseNs("180d"), NONE, format);
     assert.deepEqual(sentences.map(wordsOf), ["That is 180d: a month has 30 days."]);
 });
 

@@ -556,17 +556,17 @@ def try_printing(page):
         ),
     ]
     for chosen, printed, code in rows:
-        limits = "".join(
+        words = "".join(
             f"&{name}={urllib.parse.quote(value, safe=',')}" for name, value in chosen.items()
         )
-        page.open("#text=90061s%201ns" + limits)
+        page.open("#text=90061s%201ns" + words)
         page.same(f"printed by {chosen}", printed, page.text_of("printed"))
         for name, part in code.items():
             page.same(f"{part} in {name}", True, part in page.text_of(name))
         page.type("90061s 1ns")
         time.sleep(PAUSE)
         page.same(
-            f"the link of {chosen}", "#text=90061s%201ns" + limits, page.run("return location.hash")
+            f"the link of {chosen}", "#text=90061s%201ns" + words, page.run("return location.hash")
         )
     page.open("#text=1h&largest=s&smallest=d")
     page.same("limits that contradict each other", "3600s", page.text_of("printed"))
