@@ -87,6 +87,10 @@ export type Unit =
     | "µs" | "µsec" | "µsecond" | "us" | "usec" | "usecond" | "microsecond" | "microseconds"
     | "ns" | "nsec" | "nanosecond" | "nanoseconds";
 
+/** The names of the units as they are printed, the longest first. */
+// Made by tests/repository --write.
+export type PrintedUnit = "y" | "q" | "mon" | "w" | "d" | "h" | "min" | "s" | "ms" | "µs" | "ns";
+
 /** Which units are counted, and how many parts. A format must be a plain object, and only the
  * object's own properties count. */
 interface Counted<Name extends Unit> {
@@ -118,6 +122,20 @@ export interface Format extends Counted<Unit> {
      * `short`, the default, is `1h 30min`; `compact` is `1h30min`; `long` is `1 hour 30 minutes`.
      */
     style?: "short" | "compact" | "long" | undefined;
+}
+
+/** A part of a duration, such as `{ count: 3n, unit: "min" }`. */
+export interface Part {
+    count: bigint;
+    unit: PrintedUnit;
+}
+
+/** A duration as counts of units. */
+export interface Breakdown {
+    /** The parts whose counts are not 0, the largest unit first. */
+    parts: Part[];
+    /** The nanoseconds that no part has. */
+    restNs: bigint;
 }
 
 /**
@@ -321,6 +339,25 @@ export function format(milliseconds: number, format?: Format): string;
  * @throws TypeError if the number is not a bigint, or for an option for which `format` throws it
  */
 export function formatNs(nanoseconds: bigint, format?: Format): string;
+
+/**
+ * Breaks a duration down into counts of units. The duration is a number of milliseconds or a bigint
+ * of nanoseconds. The parts are those that `format` prints, and a duration of 0 has no parts. The
+ * counts, each times the length of its unit, and the rest are together the duration.
+ *
+ * ```js
+ * const { parts, restNs } = breakdown(193_029, { parts: 2 });
+ * console.log(parts); // [ { count: 3n, unit: "min" }, { count: 13n, unit: "s" } ]
+ * console.log(restNs); // 29000000n
+ * ```
+ *
+ * @throws RangeError for a duration or an option for which `format` or `formatNs` throws it
+ * @throws TypeError if the duration is neither a number nor a bigint, for an option for which
+ * `format` throws it, or if a style is given
+ */
+export function breakdown(
+    duration: number | bigint, format?: Omit<Format, "style">,
+): Breakdown;
 
 /**
  * Returns the parts of a duration as numbers: `parts(5_400_000)` is `{ hours: 1, minutes: 30 }`.

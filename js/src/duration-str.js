@@ -319,24 +319,6 @@ function listed(names) {
     return line;
 }
 
-// ---- The lengths of units
-
-/** The lengths of all units in nanoseconds, as numbers and as bigints. */
-let lengths;
-
-/** Asks the library for the lengths. */
-function askLengths() {
-    const asked = {
-        number: new Float64Array(UNITS.length), bigint: new BigUint64Array(UNITS.length),
-    };
-    for (let unit = 0; unit < UNITS.length; unit++) {
-        const length = parseNs(`1${UNITS[unit]}`);
-        asked.number[unit] = Number(length);
-        asked.bigint[unit] = length;
-    }
-    return asked;
-}
-
 // ---- Options
 
 function typeOf(value) {
@@ -514,6 +496,15 @@ function count() {
     return high < 2 ** 21 ? high * HALF + fields.getUint32(ANSWER, true) : nanoseconds();
 }
 
+/** The arguments by which the module takes a duration: the seconds in two halves, since it takes a
+ * number of 64 bits so, and the nanoseconds. */
+function argumentsOf(total) {
+    const second = typeof total === "number" ? SECOND : BigInt(SECOND);
+    const nanos = total % second;
+    const secs = Number((total - nanos) / second);
+    return { low: secs | 0, high: Math.trunc(secs / HALF), nanos: Number(nanos) };
+}
+
 /** The number of milliseconds that is nearest to the duration. */
 function milliseconds() {
     const nanos = count();
@@ -606,7 +597,7 @@ export function parse(value, options) {
 
 // ---- Printing
 
-/** Prints the duration at ANSWER. The module takes a number of 64 bits as two halves. */
+/** Prints the duration at ANSWER. */
 function print(options) {
     if (options === undefined) {
         const low = fields.getInt32(ANSWER, true);
@@ -615,18 +606,12 @@ function print(options) {
     }
     // The duration is taken before the options are looked at, since an option may have a getter
     // that calls this package.
-    const total = count();
+    const { low, high, nanos } = argumentsOf(count());
     const chosen = formatOf(options, PRINTED_WHOLE);
     const { left } = unitsLeft(chosen, ALL_UNITS, "y");
     const parts = countOf(chosen.parts);
     const style = styleOf(chosen.style);
-    const second = typeof total === "number" ? SECOND : BigInt(SECOND);
-    const nanos = total % second;
-    const secs = Number((total - nanos) / second);
-    const high = Math.trunc(secs / HALF);
-    const length = calls.duration_str_format_with(
-        secs | 0, high, Number(nanos), left, parts, style, WRITTEN,
-    );
+    const length = calls.duration_str_format_with(low, high, nanos, left, parts, style, WRITTEN);
     return output(length);
 }
 
@@ -652,6 +637,47 @@ export function format(milliseconds, options) {
 
 // ---- Counting parts
 
+/** Breaks a duration down. Afterwards the counts of all units are at WRITTEN, and the nanoseconds
+ * that no part has are at ANSWER. `all` is the set of the units that can be counted, of which
+ * `longest` is the largest by default. Returns the set of the units that are counted. */
+function breakDown(value, options, all, longest) {
+    if (typeof value !== "number" && typeof value !== "bigint") {
+        const wanted = "a number of milliseconds or a bigint of nanoseconds";
+        throw new TypeError(`a duration is ${wanted}, not ${typeOf(value)}`);
+    }
+    put(value);
+    const { low, high, nanos } = argumentsOf(count());
+    const chosen = formatOf(options, COUNTED_WHOLE);
+    const { left, named } = unitsLeft(chosen, all, longest);
+    // The quarter is the only unit that can't be counted.
+    if (named & ~all) throw new RangeError("parts has no quarters");
+    const most = countOf(chosen.parts);
+    // There is at least a part, and each count is below 2^64, so the call refuses nothing.
+    calls.duration_str_breakdown(low, high, nanos, left, most, WRITTEN, ANSWER);
+    return left;
+}
+
+/** The count of a unit, as a bigint. */
+const countAt = (unit) => fields.getBigUint64(WRITTEN + 8 * unit, true);
+
+/** Adds an element to a list. To assign it would call a setter, if a page has given one to all
+ * arrays. */
+function add(list, value) {
+    Object.defineProperty(list, list.length, {
+        __proto__: null, value, writable: true, enumerable: true, configurable: true,
+    });
+}
+
+export function breakdown(value, options = {}) {
+    breakDown(value, options, ALL_UNITS, "y");
+    const counted = [];
+    for (let unit = 0; unit < UNITS.length; unit++) {
+        const count = countAt(unit);
+        if (count > 0n) add(counted, { count, unit: UNITS[unit] });
+    }
+    return { parts: counted, restNs: nanoseconds() };
+}
+
 /** The count as a number, which must hold it exactly. */
 function exactly(count) {
     const number = Number(count);
@@ -669,28 +695,16 @@ function withCount(counts, name, count) {
 }
 
 export function parts(value, options = {}) {
-    if (typeof value !== "number" && typeof value !== "bigint") {
-        const wanted = "a number of milliseconds or a bigint of nanoseconds";
-        throw new TypeError(`a duration is ${wanted}, not ${typeOf(value)}`);
-    }
-    put(value);
-    let rest = count();
-    const chosen = formatOf(options, COUNTED_WHOLE);
-    const { left, named } = unitsLeft(chosen, COUNTED_UNITS, "d");
-    if (named & ~COUNTED_UNITS) throw new RangeError("parts has no quarters");
-    const most = countOf(chosen.parts);
-    lengths ??= askLengths();
-    const lengthOf = lengths[typeof rest];
+    const left = breakDown(value, options, COUNTED_UNITS, "d");
     let counts = {};
-    let room = most;
-    for (let unit = 0; unit < UNITS.length && room > 0; unit++) {
-        if ((left >> unit & 1) === 0 || rest < lengthOf[unit]) continue;
-        const under = rest % lengthOf[unit];
-        counts = withCount(counts, PARTS[unit], exactly((rest - under) / lengthOf[unit]));
-        rest = under;
-        room--;
+    let isZero = true;
+    for (let unit = 0; unit < UNITS.length; unit++) {
+        const count = exactly(countAt(unit));
+        if (count === 0) continue;
+        counts = withCount(counts, PARTS[unit], count);
+        isZero = false;
     }
-    if (room < most) return counts;
+    if (!isZero) return counts;
     // There are no parts, so the result is 0 of the smallest unit, or 0 seconds if that unit is
     // shorter.
     const zero = Math.min(31 - Math.clz32(left), indexIn(UNITS, "s"));

@@ -176,6 +176,12 @@ test("prints in plain JavaScript as in WebAssembly", async () => {
             ]) {
                 assert.equal(plain.formatNs(value, options), compiled.formatNs(value, options));
             }
+            for (const options of [undefined, { parts: 2 }, { units: ["ns"] }]) {
+                assert.deepEqual(
+                    plain.breakdown(value, options), compiled.breakdown(value, options),
+                );
+            }
+            assert.deepEqual(plain.parts(value), compiled.parts(value));
         }
     }
     for (const defaultUnit of ["minutes", "USEC", "year"]) {

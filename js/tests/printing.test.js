@@ -2,7 +2,9 @@ import assert from "node:assert/strict";
 import { readFileSync } from "node:fs";
 import test from "node:test";
 
-import { formatNs, format, parseNs, parse, parts, tryParseNs } from "duration-str";
+import {
+    breakdown, formatNs, format, parseNs, parse, parts, tryParseNs,
+} from "duration-str";
 import { VECTORS } from "./vectors.js";
 
 /** The printed names of the units, the longest first. */
@@ -13,6 +15,33 @@ const ALL_NAMES = /type Unit =([^;]*);/.exec(TYPES)[1].trim().split("\n")
     .map((line) => Array.from(line.matchAll(/"(.*?)"/g), ([, name]) => name));
 const STYLES = Array.from(/style\?: (.*) \| undefined/.exec(TYPES)[1].matchAll(/\w+/g), String);
 const DAY = 86_400_000_000_000n;
+
+/** The lengths of the units in nanoseconds, by their printed names. */
+const LENGTHS = Object.fromEntries(NAMES.map((name) => [name, parseNs(`1${name}`)]));
+
+/** Checks that the parts of a duration are those that `formatNs` prints, and that they and the rest
+ * are together the duration. */
+function checkBreakdown(value, options) {
+    const { parts: counted, restNs } = breakdown(value, options);
+    const printed = formatNs(value, options);
+    const joined = counted.map(({ count, unit }) => `${count}${unit}`).join(" ");
+    // If all counts are 0, the text has a 0, and there are no parts.
+    assert.equal(joined, printed.startsWith("0") ? "" : printed);
+    const lengths = counted.map(({ count, unit }) => count * LENGTHS[unit]);
+    assert.equal(lengths.reduce((sum, each) => sum + each, restNs), value);
+}
+
+/** Returns whole numbers from 0 on that are below 2^bits, the same ones each time. (It is the
+ * generator splitmix64.) */
+function numbers(seed) {
+    let state = BigInt.asUintN(64, BigInt(seed));
+    return (bits) => {
+        state = BigInt.asUintN(64, state + 0x9e3779b97f4a7c15n);
+        let mixed = BigInt.asUintN(64, (state ^ state >> 30n) * 0xbf58476d1ce4e5b9n);
+        mixed = BigInt.asUintN(64, (mixed ^ mixed >> 27n) * 0x94d049bb133111ebn);
+        return BigInt.asUintN(bits, mixed ^ mixed >> 31n);
+    };
+}
 
 /** The printed text in each style, given the short and the long one. */
 function inStyles(short, long) {
@@ -29,6 +58,9 @@ test("prints the vectors in the units that are chosen", () => {
             if (parts === 0 || units.length === 0) assert.throws(print, RangeError);
             else assert.equal(print(), printed);
         }
+        const count = () => checkBreakdown(parseNs(text), { units, parts });
+        if (parts === 0 || units.length === 0) assert.throws(count, RangeError);
+        else count();
     }
 });
 
@@ -40,10 +72,14 @@ test("prints the vectors, and refuses formats that contradict themselves", () =>
             if (parts === 0 || NAMES.indexOf(largest) > NAMES.indexOf(smallest)) {
                 assert.throws(print, RangeError);
             }
-            else assert.equal(print(), printed);
+            else {
+                assert.equal(print(), printed);
+                checkBreakdown(parseNs(text), { largest, smallest, parts });
+            }
         }
         if (largest === "y" && smallest === "ns" && parts === 11) {
             assert.equal(formatNs(parseNs(text)), short);
+            checkBreakdown(parseNs(text));
         }
     }
     assert.equal(formatNs(1999n, { smallest: "us" }), "1µs");
@@ -161,6 +197,59 @@ test("refuses formats that there are not", () => {
     for (const [options, error] of rows) {
         assert.throws(() => formatNs(1n, options), error);
         assert.throws(() => format(1, options), error);
+        const isStyle = Object.hasOwn(options, "style");
+        const refused = isStyle ? new TypeError("unknown option: style") : error;
+        for (const value of [1, 1n]) assert.throws(() => breakdown(value, options), refused);
+    }
+});
+
+test("breaks durations down", () => {
+    const MILLISECOND = 1_000_000n;
+    const rows = [
+        [193_029n * MILLISECOND, undefined, [[3n, "min"], [13n, "s"], [29n, "ms"]], 0n],
+        [193_029n * MILLISECOND, { parts: 2 }, [[3n, "min"], [13n, "s"]], 29n * MILLISECOND],
+        [193_029, { parts: 2 }, [[3n, "min"], [13n, "s"]], 29n * MILLISECOND],
+        [0.0015, undefined, [[1n, "µs"], [500n, "ns"]], 0n],
+        [0n, undefined, [], 0n],
+        [0, { smallest: "h" }, [], 0n],
+        [1n, { smallest: "h" }, [], 1n],
+        [999n, { units: ["ms", "d"] }, [], 999n],
+        [400n * DAY, { units: ["d", "years"] }, [[1n, "y"], [35n, "d"]], 0n],
+        [400n * DAY, { largest: "w", smallest: "w" }, [[57n, "w"]], DAY],
+        [400n * DAY, { largest: "mon" }, [[13n, "mon"], [1n, "w"], [3n, "d"]], 0n],
+        [120n * DAY + 5n, { largest: "days", parts: Infinity }, [[120n, "d"], [5n, "ns"]], 0n],
+        [119n * DAY, { parts: 1 }, [[1n, "q"]], 28n * DAY],
+        [2n ** 64n - 1n, { units: ["ns"] }, [[2n ** 64n - 1n, "ns"]], 0n],
+        [2n ** 64n - 1n, { units: ["ms"] }, [[18_446_744_073_709n, "ms"]], 551_615n],
+        // No number holds this duration exactly.
+        [2n ** 53n + 1n, { largest: "us", parts: 1 }, [[9_007_199_254_740n, "µs"]], 993n],
+    ];
+    for (const [value, options, counted, restNs] of rows) {
+        const parts = counted.map(([count, unit]) => ({ count, unit }));
+        assert.deepEqual(breakdown(value, options), { parts, restNs });
+    }
+    for (const value of [-1n, -0.5, 2n ** 64n, NaN, 2e13]) {
+        assert.throws(() => breakdown(value), RangeError);
+    }
+    assert.throws(() => breakdown(-1n), { message: "a duration is not negative: -1" });
+    for (const words of [["1"], [undefined], [1n, null]]) {
+        assert.throws(() => breakdown(...words), TypeError);
+    }
+    // What is broken down is the value, whatever an option's getter calls.
+    const options = { get parts() { return breakdown(5_400_000).parts.length; } };
+    assert.deepEqual(breakdown(60_001, options).parts[1], { count: 1n, unit: "ms" });
+});
+
+test("breaks random durations down as they are printed", () => {
+    const next = numbers(20);
+    const rounds = Number(process.env.DURATION_STR_ROUNDS ?? 20_000);
+    for (let round = 0; round < rounds; round++) {
+        const value = next(Number(next(6)) + 1);
+        const set = next(11);
+        const units = NAMES.filter((_, unit) => set >> BigInt(unit) & 1n);
+        checkBreakdown(value, {
+            units: units.length > 0 ? units : undefined, parts: Number(next(4)) + 1,
+        });
     }
 });
 

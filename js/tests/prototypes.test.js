@@ -10,6 +10,7 @@ const NAMES = [
     "noCalc", "cnUnit", "defaultUnit", "units", "largest", "smallest", "parts", "style", "other",
     "code", "text", "index", "place", "found", "expected", "message", "report", "cause", "name",
     "ok", "fault", "days", "hours", "minutes", "seconds", "number", "bigint", "us", "ns",
+    "count", "unit", "restNs", "low", "high", "nanos", "left", "named",
     "ignoreBOM", "fatal",
     "get", "set", "value", "writable", "enumerable", "configurable",
 ];
@@ -62,6 +63,10 @@ const CALLS = [
     'parts(34560000000, { units: ["days", "y"] })',
     'parts(1, { largest: "q" })',
     'parts(1, { style: "long" })',
+    "breakdown(5445001)",
+    'breakdown(400n * 86400000000000n, { largest: "mon", parts: 2 })',
+    "breakdown(0n)",
+    'breakdown(1, { style: "long" })',
     "fieldsOf(() => parse('1m 3-5'))",
 ];
 /** An error's fields, and what its `toJSON` returns. */

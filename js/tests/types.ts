@@ -1,9 +1,9 @@
 // Tests the types of the package by the compiler alone. Code that must be wrong stands below a line
 // that expects an error.
 import {
-    DurationError, type Expected, type Fault, formatNs, format, type Format, type Options, parseNs,
-    parse, type PartFormat, type Parts, parts, type Refusal, tryParseNs, tryParse, type Unit,
-    version,
+    type Breakdown, breakdown, DurationError, type Expected, type Fault, formatNs, format,
+    type Format, type Options, parseNs, parse, type Part, type PartFormat, type Parts, parts,
+    type PrintedUnit, type Refusal, tryParseNs, tryParse, type Unit, version,
 } from "duration-str";
 
 const options: Options = { noCalc: true, lowercase: false, cnUnit: undefined, requireUnit: true };
@@ -39,6 +39,14 @@ const texts: string[] = [
 const counting: PartFormat = { largest: "y", units: ["years", "d"] };
 const counted: Parts = parts(nanoseconds, counting);
 const hours: number = counted.hours ?? 0;
+const broken: Breakdown = breakdown(nanoseconds, { largest: "days", smallest: "us", parts: 2 });
+const rest: bigint = broken.restNs + breakdown(milliseconds).restNs;
+const words: Record<PrintedUnit, string> = {
+    y: "a", q: "b", mon: "c", w: "d", d: "e", h: "f", min: "g", s: "h", ms: "i", µs: "j", ns: "k",
+};
+const inWords = ({ count, unit }: Part): string => `${count + 1n} ${words[unit]}`;
+// A printed name is a name that is read.
+const units: Unit[] = broken.parts.map(({ unit }) => unit);
 
 try {
     parseNs(texts.join(" "));
@@ -104,6 +112,12 @@ formatNs(1n, { units: "d" });
 format(1, { unit: "d" });
 // @ts-expect-error: no style
 formatNs(1n, { style: "wide" });
+// @ts-expect-error: no text has a style
+breakdown(1n, { style: "long" });
+// @ts-expect-error: no unit
+breakdown(1n, { units: ["fortnights"] });
+// @ts-expect-error: no duration
+breakdown("1h");
 // @ts-expect-error: quarters are not counted
 parts(1n, { largest: "q" });
 // @ts-expect-error: quarters are not counted, even if they are chosen
@@ -120,4 +134,4 @@ const lines: string[] = [result.fault?.message ?? "", version];
 const inMs: number | undefined = tryParse("1s").value;
 
 void [inMilliseconds, timeouts, chosen, contradictory, withFactors, hours, wrong, read, fault];
-void [lines, inMs];
+void [lines, inMs, rest, inWords, units];
