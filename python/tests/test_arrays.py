@@ -11,7 +11,15 @@ import sys
 import unittest
 from array import array
 
-from duration_str import Cause, DurationError, format, format_many, parse_many, to_timedelta
+from duration_str import (
+    Cause,
+    DurationError,
+    breakdown,
+    format,
+    format_many,
+    parse_many,
+    to_timedelta,
+)
 from tests.vectors import REFUSED_IN_JSON, value_columns
 
 try:
@@ -446,16 +454,20 @@ class Printing(unittest.TestCase):
         self.assertEqual(format(numpy.int64(5)), "5ns")
         self.assertEqual(format(numpy.uint8(5)), "5ns")
         self.assertEqual(format(numpy.timedelta64(5, "s")), "5s")
-        with self.assertRaisesRegex(ValueError, "missing"):
-            format(numpy.timedelta64("NaT"))
+        for value in [numpy.timedelta64(90, "s"), numpy.int64(90 * SECOND)]:
+            self.assertEqual(breakdown(value, parts=1), (((1, "min"),), 30 * SECOND))
+        for call in [format, breakdown]:
+            with self.assertRaisesRegex(ValueError, "missing"):
+                call(numpy.timedelta64("NaT"))
         for value in [
             numpy.bool_(True),
             numpy.float64(1),
             numpy.timedelta64(1, "Y"),
             numpy.timedelta64(1),
         ]:
-            with self.assertRaises(TypeError):
-                format(value)
+            for call in [format, breakdown]:
+                with self.assertRaises(TypeError):
+                    call(value)
 
     def test_prints_units_beyond_nanoseconds(self):
         for unit, length in [("W", 604_800), ("D", 86_400), ("h", 3_600), ("m", 60), ("s", 1)]:

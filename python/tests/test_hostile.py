@@ -22,6 +22,7 @@ import duration_str
 from duration_str import (
     DurationError,
     DurationTypeError,
+    breakdown,
     format,
     format_many,
     parse,
@@ -134,12 +135,14 @@ class Hostile(unittest.TestCase):
         self.assertEqual(format(Number(SECOND)), "1s")
         self.assertEqual(format(Number(2**64)), format(2**64))
         self.assertEqual(format_many([Number(2**70)]), [format(2**70)])
-        for value in [2**64 * SECOND, 10**400]:
-            with self.assertRaises(OverflowError):
-                format(value)
-        for value in [-1, -(2**64), Number(-1), -(10**400), -(10**5000)]:
-            with self.assertRaisesRegex(ValueError, "^a negative duration has no text: "):
-                format(value)
+        self.assertEqual(breakdown(Number(2**70)), breakdown(2**70))
+        for call in [format, breakdown]:
+            for value in [2**64 * SECOND, 10**400]:
+                with self.assertRaises(OverflowError):
+                    call(value)
+            for value in [-1, -(2**64), Number(-1), -(10**400), -(10**5000)]:
+                with self.assertRaisesRegex(ValueError, "^a negative duration has no text: "):
+                    call(value)
 
     def test_hides_no_error_of_a_value(self):
         for error in [MemoryError, ZeroDivisionError]:
@@ -150,6 +153,7 @@ class Hostile(unittest.TestCase):
             value = type("Failing", (), {"__index__": fail, "__bool__": fail})()
             for call in [
                 lambda: format(5, parts=value),
+                lambda: breakdown(5, parts=value),
                 lambda: format_many([5], parts=value),
                 lambda: parse("1s", no_calc=value),
             ]:
@@ -320,6 +324,8 @@ class Hostile(unittest.TestCase):
                 duration_str.parse_seconds("1h")
                 format(SECOND)
                 format(2**64)
+                duration_str.breakdown(SECOND + 1)
+                duration_str.breakdown(2**93 + 1, units=["ms", "ns"])
                 for text in ["1x", "\ud800", "", "600y", None]:
                     try:
                         parse_ns(text)

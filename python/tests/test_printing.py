@@ -1,15 +1,29 @@
 """Tests how durations are printed."""
 
 import datetime
+import os
+import pickle
 import random
 import re
 import typing
 import unittest
 
-from duration_str import DurationError, Style, Unit, format, format_many, parse, parse_ns
+from duration_str import (
+    Breakdown,
+    DurationError,
+    Part,
+    Style,
+    Unit,
+    breakdown,
+    format,
+    format_many,
+    parse,
+    parse_ns,
+)
 from tests.vectors import VECTORS
 
 SECOND = 10**9
+DAY = 86_400 * SECOND
 UNITS = ["y", "q", "mon", "w", "d", "h", "min", "s", "ms", "µs", "ns"]
 
 
@@ -24,6 +38,22 @@ def length_of(text):
     """The nanoseconds of a text of the vectors, also if the duration is too long to be read."""
     secs, is_long, nanos = text.removesuffix(" ns").partition(" s ")
     return int(secs) * SECOND + int(nanos) if is_long else parse_ns(text)
+
+
+#: The lengths of the units in nanoseconds, by their printed names
+LENGTHS = {unit: parse_ns(f"1{unit}") for unit in UNITS}
+
+
+def check_breakdown(test, nanos, **words):
+    """Checks that the parts of a duration are those that are printed, and that they and the rest
+    are together the duration.
+    """
+    parts, rest_ns = breakdown(nanos, **words)
+    printed = format(nanos, **words)
+    joined = " ".join(f"{count}{unit}" for count, unit in parts)
+    # If all counts are 0, the text has a 0, and there are no parts.
+    test.assertEqual(joined, "" if printed.startswith("0") else printed)
+    test.assertEqual(sum(count * LENGTHS[unit] for count, unit in parts) + rest_ns, nanos)
 
 
 def in_styles(short, long):
@@ -52,6 +82,11 @@ class Printing(unittest.TestCase):
                         )
                     if (largest, smallest, parts, style) == ("y", "ns", 11, "short"):
                         self.assertEqual(format(value), printed)
+                        check_breakdown(self, value)
+                    if style == "short":
+                        check_breakdown(
+                            self, value, largest=largest, smallest=smallest, parts=parts
+                        )
         self.assertRaises(OverflowError, format, 2**64 * SECOND)
 
     def test_prints_the_vectors_in_chosen_units(self):
@@ -65,6 +100,7 @@ class Printing(unittest.TestCase):
                     else:
                         self.assertEqual(format(value, **words), printed)
                         self.assertEqual(format_many([value], **words), [printed])
+                        check_breakdown(self, value, units=units, parts=parts)
 
     def test_prints_a_timedelta(self):
         for value in [
@@ -89,8 +125,9 @@ class Printing(unittest.TestCase):
 
     def test_refuses_negative_durations(self):
         for value in [-1, datetime.timedelta(microseconds=-1), datetime.timedelta.min]:
-            with self.subTest(value=value), self.assertRaisesRegex(ValueError, "negative"):
-                format(value)
+            for call in [format, breakdown]:
+                with self.subTest(value=value), self.assertRaisesRegex(ValueError, "negative"):
+                    call(value)
 
     def test_takes_each_limit_alone(self):
         rows = [
@@ -197,17 +234,87 @@ class Printing(unittest.TestCase):
             for call in [lambda: format(5, **limits), lambda: format_many([], **limits)]:
                 with self.subTest(**limits):
                     self.assertRaisesRegex(error, told, call)
+            if "style" in limits:
+                error, told = (
+                    TypeError,
+                    r"^breakdown\(\) got an unexpected keyword argument 'style'$",
+                )
+            with self.subTest(**limits):
+                self.assertRaisesRegex(error, told, breakdown, 5, **limits)
         for call in [
             lambda: format(5, 2),
             lambda: format(),
             lambda: format(5, part=2),
             lambda: format(value=5),
+            lambda: breakdown(5, 2),
+            lambda: breakdown(),
+            lambda: breakdown(5, part=2),
+            lambda: breakdown(value=5),
         ]:
             self.assertRaises(TypeError, call)
 
     def test_wants_an_int_or_a_timedelta(self):
         for value in [None, "1s", 1.0, True, datetime.datetime(2000, 1, 1)]:
-            with self.subTest(value=value), self.assertRaisesRegex(
-                TypeError, "must be an int .* not "
-            ):
-                format(value)
+            for call in [format, breakdown]:
+                with self.subTest(value=value), self.assertRaisesRegex(
+                    TypeError, "must be an int .* not "
+                ):
+                    call(value)
+
+
+class Breakdowns(unittest.TestCase):
+    def test_breaks_durations_down(self):
+        minutes = 193_029 * 10**6
+        largest = 2**64 * SECOND - 1
+        for value, words, parts, rest_ns in [
+            (minutes, {}, [(3, "min"), (13, "s"), (29, "ms")], 0),
+            (minutes, {"parts": 2}, [(3, "min"), (13, "s")], 29_000_000),
+            (datetime.timedelta(milliseconds=193_029), {"parts": 1}, [(3, "min")], 13_029_000_000),
+            (0, {}, [], 0),
+            (datetime.timedelta(0), {"smallest": "h"}, [], 0),
+            (1, {"smallest": "h"}, [], 1),
+            (999, {"units": ["ms", "d"]}, [], 999),
+            (400 * DAY, {"units": {"d", "years"}}, [(1, "y"), (35, "d")], 0),
+            (400 * DAY, {"largest": "w", "smallest": "w"}, [(57, "w")], DAY),
+            (400 * DAY, {"largest": "mon"}, [(13, "mon"), (1, "w"), (3, "d")], 0),
+            (120 * DAY + 5, {"largest": "days", "parts": 10**30}, [(120, "d"), (5, "ns")], 0),
+            (119 * DAY, {"parts": 1}, [(1, "q")], 28 * DAY),
+            (2**64 - 1, {"units": ["ns"]}, [(2**64 - 1, "ns")], 0),
+            (2**64, {"units": ["ns"]}, [(2**64, "ns")], 0),
+            (2**64 * 1000 - 1, {"units": ["us"]}, [(2**64 - 1, "µs")], 999),
+            (2**64 * 1000, {"units": ["us"]}, [(2**64, "µs")], 0),
+            (2**64 * 10**6 + 7, {"largest": "ms"}, [(2**64, "ms"), (7, "ns")], 0),
+            (
+                2**64 * 10**6 + 7_007,
+                {"largest": "ms", "parts": 2},
+                [(2**64, "ms"), (7, "µs")],
+                7,
+            ),
+            (2**63 * SECOND, {"units": ["ms"]}, [(2**63 * 1000, "ms")], 0),
+            (2**63 * SECOND + 7, {"largest": "ms", "parts": 1}, [(2**63 * 1000, "ms")], 7),
+            (largest, {"units": ["ms"]}, [(2**64 * 1000 - 1, "ms")], 999_999),
+            (largest, {"units": ["ms", "ns"]}, [(2**64 * 1000 - 1, "ms"), (999_999, "ns")], 0),
+            (largest, {"units": ["s"]}, [(2**64 - 1, "s")], SECOND - 1),
+        ]:
+            with self.subTest(value=value, **words):
+                told = breakdown(value, **words)
+                self.assertEqual(told, (tuple(parts), rest_ns))
+                self.assertEqual(told, Breakdown(tuple(Part(*part) for part in parts), rest_ns))
+        with self.assertRaisesRegex(OverflowError, r"^a duration of 2\*\*64 seconds or more "):
+            breakdown(2**64 * SECOND)
+
+    def test_has_named_parts(self):
+        told = breakdown(datetime.timedelta(hours=1, minutes=30), smallest="h")
+        self.assertEqual(
+            (told.parts[0].count, told.parts[0].unit, told.rest_ns), (1, "h", 1800 * SECOND)
+        )
+        self.assertEqual(repr(told.parts), "(Part(count=1, unit='h'),)")
+        self.assertEqual(pickle.loads(pickle.dumps(told)), told)
+
+    def test_breaks_random_durations_down_as_they_are_printed(self):
+        seed = random.Random(19)
+        # With all seconds that there are, a duration has 94 bits.
+        for _ in range(int(os.environ.get("DURATION_STR_ROUNDS", 10_000))):
+            nanos = min(seed.getrandbits(seed.randrange(1, 95)), 2**64 * SECOND - 1)
+            units = seed.sample(UNITS, seed.randrange(12)) or None
+            check_breakdown(self, nanos, units=units, parts=seed.randrange(1, 13))

@@ -29,6 +29,17 @@ assert_type(duration_str.format(datetime.timedelta(1)), str)
 assert_type(duration_str.format(numpy.int64(5)), str)
 assert_type(duration_str.format(numpy.timedelta64(5, "s")), str)
 assert_type(duration_str.format(5, parts=2, largest="d", smallest="us"), str)
+broken = duration_str.breakdown(5, parts=2, units=["years", "d"], largest="d", smallest="us")
+assert_type(broken, duration_str.Breakdown)
+assert_type(broken.rest_ns, int)
+assert_type(duration_str.breakdown(datetime.timedelta(1)).parts[0].count, int)
+part: duration_str.Part = duration_str.breakdown(numpy.timedelta64(5, "s")).parts[0]
+assert_type(part.unit, duration_str.Unit)
+count, printed = part
+assert_type(duration_str.format(count, largest=printed), str)
+duration_str.breakdown(5, style="long")  # type: ignore[call-arg]
+duration_str.breakdown(5, largest="mins")  # type: ignore[arg-type]
+duration_str.breakdown("1m")  # type: ignore[arg-type]
 unit: duration_str.Unit = "h"
 style: duration_str.Style = "long"
 assert_type(duration_str.format(5, largest=unit, style=style), str)

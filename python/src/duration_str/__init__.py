@@ -51,6 +51,9 @@ To print an int of nanoseconds or a timedelta:
 format(value, /, *, parts=11, units=None, largest="y", smallest="ns",
        style="short")
 
+To get the counts of such a duration, for a text of your own, call `breakdown`
+with the same options except `style`. It returns a `Breakdown`.
+
 `format` is not in `__all__`, so `from duration_str import *` doesn't hide
 the builtin function. `Unit` and `Style` are the types of its options.
 
@@ -79,10 +82,20 @@ from ._arrays import format_many, to_timedelta
 from ._columns import parse_buffers, parse_many
 from ._models import Duration, DurationField, DurationRequireUnit
 from ._native import format as format
-from ._native import parse, parse_ns, parse_seconds
-from ._texts import Cause, DurationError, DurationTypeError, Expected, Style, Unit
+from ._native import breakdown, parse, parse_ns, parse_seconds
+from ._texts import (
+    Breakdown,
+    Cause,
+    DurationError,
+    DurationTypeError,
+    Expected,
+    Part,
+    Style,
+    Unit,
+)
 
 __all__ = [
+    "Breakdown",
     "Cause",
     "Duration",
     "DurationError",
@@ -90,10 +103,12 @@ __all__ = [
     "DurationTypeError",
     "DurationRequireUnit",
     "Expected",
+    "Part",
     "Style",
     "Unit",
 ]
 __all__ += [
+    "breakdown",
     "format_many",
     "parse",
     "parse_buffers",

@@ -33,6 +33,8 @@ enum kept {
     TYPE_ERROR_OF,
     NANOS_OF,
     WHOLE_OF,
+    PART,
+    BREAKDOWN,
     UNNAMED,
     UNSAID,
     TIMEDELTA,
@@ -434,12 +436,12 @@ static int take_units(struct state *state, PyObject *value, uint32_t *units) {
     return 0;
 }
 
-/* Takes the value of a keyword into the limits. The largest and the smallest unit go to `*largest`
- * and `*smallest` instead. Returns -1 with an error. */
-static int take_limit(struct state *state, PyObject *keyword, PyObject *value,
-    struct limits *limits, int *largest, int *smallest) {
-    const int limit = name_of(state, "format", keyword, PARTS, STYLE);
-    switch (limit) {
+/* Takes the value of a keyword, one from PARTS to STYLE, into the limits. The largest and the
+ * smallest unit go to `*largest` and `*smallest` instead. Returns -1 with an error, also for a
+ * keyword of -1, whose error name_of has set. */
+static int take_limit(struct state *state, int keyword, PyObject *value, struct limits *limits,
+    int *largest, int *smallest) {
+    switch (keyword) {
     case PARTS:
         return take_parts(value, &limits->parts);
     case UNITS:
@@ -456,16 +458,18 @@ static int take_limit(struct state *state, PyObject *keyword, PyObject *value,
     return -1;
 }
 
-/* Takes the limits that a call is given by keywords. Returns -1 with an error. */
-static int take_limits(
-    struct state *state, PyObject *const *values, PyObject *keywords, struct limits *limits) {
+/* Takes the limits that a call is given by keywords, of which it knows those from PARTS to `last`.
+ * Returns -1 with an error. */
+static int take_limits(struct state *state, const char *call, int last, PyObject *const *values,
+    PyObject *keywords, struct limits *limits) {
     const Py_ssize_t words = keywords ? PyTuple_Size(keywords) : 0;
     int largest = DURATION_STR_UNIT_YEAR, smallest = DURATION_STR_UNIT_NANOSECOND;
     *limits = no_limits;
-    for (Py_ssize_t at = 0; at < words; at++)
-        if (take_limit(
-                state, PyTuple_GetItem(keywords, at), values[at], limits, &largest, &smallest))
+    for (Py_ssize_t at = 0; at < words; at++) {
+        const int keyword = name_of(state, call, PyTuple_GetItem(keywords, at), PARTS, last);
+        if (take_limit(state, keyword, values[at], limits, &largest, &smallest))
             return -1;
+    }
     limits->units &= DURATION_STR_UNITS_BETWEEN(largest, smallest);
     if (limits->units)
         return 0;
@@ -475,38 +479,41 @@ static int take_limits(
     return -1;
 }
 
-/* The text of a duration. If there are no limits, it uses the call without limits, which is faster.
- * */
-static PyObject *text_of(uint64_t secs, uint32_t nanos, const struct limits *limits) {
-    char buffer[DURATION_STR_STYLED_BUFFER_SIZE];
-    const bool is_whole = !memcmp(limits, &no_limits, sizeof *limits);
-    const size_t length = is_whole && secs < UINT64_MAX / SECOND
-                              ? duration_str_format(secs * SECOND + nanos, buffer)
-                              : duration_str_format_with(secs, nanos, limits->units, limits->parts,
-                                    limits->style, buffer);
-    return PyUnicode_FromStringAndSize(buffer, (Py_ssize_t)length);
-}
+/* A duration: seconds, and nanoseconds below a second. */
+struct duration {
+    uint64_t secs;
+    uint32_t nanos;
+};
 
-static PyObject *text_of_int(struct state *state, PyObject *nanos, const struct limits *limits) {
+/* Takes the duration of an int of nanoseconds. Returns -1 with an error. */
+static inline int take_int(struct state *state, PyObject *value, struct duration *duration) {
     int overflow;
-    const long long few = PyLong_AsLongLongAndOverflow(nanos, &overflow);
-    /* Python refuses to print an int of more than some thousand digits. */
-    if (overflow < 0)
-        return PyErr_Format(
+    const long long few = PyLong_AsLongLongAndOverflow(value, &overflow);
+    if (overflow < 0) {
+        /* Python refuses to print an int of more than some thousand digits. */
+        PyErr_SetString(
             PyExc_ValueError, "a negative duration has no text: below -2**63 nanoseconds");
-    if (!overflow && few < 0)
-        return PyErr_Format(PyExc_ValueError, "a negative duration has no text: %R", nanos);
-    if (!overflow)
-        return text_of((uint64_t)few / SECOND, (uint32_t)((uint64_t)few % SECOND), limits);
-    PyObject *both = PyNumber_Divmod(nanos, state->kept[A_SECOND]);
+        return -1;
+    }
+    if (!overflow && few < 0) {
+        PyErr_Format(PyExc_ValueError, "a negative duration has no text: %R", value);
+        return -1;
+    }
+    if (!overflow) {
+        duration->secs = (uint64_t)few / SECOND;
+        duration->nanos = (uint32_t)((uint64_t)few % SECOND);
+        return 0;
+    }
+    PyObject *both = PyNumber_Divmod(value, state->kept[A_SECOND]);
     if (!both)
-        return NULL;
-    const uint64_t secs = PyLong_AsUnsignedLongLong(PyTuple_GetItem(both, 0));
-    const uint32_t rest = (uint32_t)PyLong_AsUnsignedLong(PyTuple_GetItem(both, 1));
+        return -1;
+    duration->secs = PyLong_AsUnsignedLongLong(PyTuple_GetItem(both, 0));
+    duration->nanos = (uint32_t)PyLong_AsUnsignedLong(PyTuple_GetItem(both, 1));
     Py_DECREF(both);
-    if (PyErr_Occurred())
-        return PyErr_Format(PyExc_OverflowError, "a duration of 2**64 seconds or more has no text");
-    return text_of(secs, rest, limits);
+    if (!PyErr_Occurred())
+        return 0;
+    PyErr_SetString(PyExc_OverflowError, "a duration of 2**64 seconds or more has no text");
+    return -1;
 }
 
 /* Gets the days, seconds and microseconds of a value whose type is exactly timedelta. Returns -1
@@ -520,31 +527,60 @@ static int parts_of(struct state *state, PyObject *value, long *parts) {
     return PyErr_Occurred() ? -1 : 0;
 }
 
-static PyObject *text_of_timedelta(
-    struct state *state, PyObject *value, const struct limits *limits) {
+/* Takes the duration of a value whose type is exactly timedelta. Returns -1 with an error. */
+static int take_timedelta(struct state *state, PyObject *value, struct duration *duration) {
     long parts[3];
     if (parts_of(state, value, parts))
-        return NULL;
-    if (parts[0] < 0)
-        return PyErr_Format(PyExc_ValueError, "a negative duration has no text: %R", value);
-    return text_of(
-        (uint64_t)parts[0] * 86400 + (uint64_t)parts[1], (uint32_t)parts[2] * 1000, limits);
+        return -1;
+    if (parts[0] < 0) {
+        PyErr_Format(PyExc_ValueError, "a negative duration has no text: %R", value);
+        return -1;
+    }
+    duration->secs = (uint64_t)parts[0] * 86400 + (uint64_t)parts[1];
+    duration->nanos = (uint32_t)parts[2] * 1000;
+    return 0;
 }
 
-/* The text of a duration. `function` is called for a value that is neither int nor timedelta. If it
- * returns None, since the value is missing, the result is None. */
+/* Takes the duration of a value. `function` is called for a value that is neither int nor
+ * timedelta. Returns 1 if the duration is taken, and 0 if the function returns None, since the
+ * value is missing. Returns -1 with an error. */
+static inline int take_duration(
+    struct state *state, PyObject *value, PyObject *function, struct duration *duration) {
+    if (PyLong_CheckExact(value))
+        return take_int(state, value, duration) ? -1 : 1;
+    if (Py_IS_TYPE(value, (PyTypeObject *)state->kept[TIMEDELTA]))
+        return take_timedelta(state, value, duration) ? -1 : 1;
+    PyObject *nanos = PyObject_CallFunctionObjArgs(function, value, NULL);
+    if (!nanos)
+        return -1;
+    const bool is_missing = Py_IsNone(nanos);
+    const bool failed = !is_missing && take_int(state, nanos, duration);
+    Py_DECREF(nanos);
+    return failed ? -1 : !is_missing;
+}
+
+/* The text of a duration. If there are no limits, it uses the call without limits, which is faster.
+ * */
+static PyObject *text_of(const struct duration *duration, const struct limits *limits) {
+    char buffer[DURATION_STR_STYLED_BUFFER_SIZE];
+    const bool is_whole = !memcmp(limits, &no_limits, sizeof *limits);
+    const size_t length =
+        is_whole && duration->secs < UINT64_MAX / SECOND
+            ? duration_str_format(duration->secs * SECOND + duration->nanos, buffer)
+            : duration_str_format_with(duration->secs, duration->nanos, limits->units,
+                  limits->parts, limits->style, buffer);
+    return PyUnicode_FromStringAndSize(buffer, (Py_ssize_t)length);
+}
+
+/* The text of a value's duration, or None if the value is missing. `function` is called as
+ * take_duration says. */
 static PyObject *text_of_value(
     struct state *state, PyObject *value, PyObject *function, const struct limits *limits) {
-    if (PyLong_CheckExact(value))
-        return text_of_int(state, value, limits);
-    if (Py_IS_TYPE(value, (PyTypeObject *)state->kept[TIMEDELTA]))
-        return text_of_timedelta(state, value, limits);
-    PyObject *nanos = PyObject_CallFunctionObjArgs(function, value, NULL);
-    PyObject *text = !nanos             ? NULL
-                     : Py_IsNone(nanos) ? Py_NewRef(nanos)
-                                        : text_of_int(state, nanos, limits);
-    Py_XDECREF(nanos);
-    return text;
+    struct duration duration;
+    const int is_there = take_duration(state, value, function, &duration);
+    if (is_there < 0)
+        return NULL;
+    return is_there ? text_of(&duration, limits) : Py_NewRef(Py_None);
 }
 
 static PyObject *format(
@@ -553,9 +589,74 @@ static PyObject *format(
     struct limits limits;
     if (!has_one("format", count))
         return NULL;
-    if (take_limits(state, arguments + 1, keywords, &limits))
+    if (take_limits(state, "format", STYLE, arguments + 1, keywords, &limits))
         return NULL;
     return text_of_value(state, arguments[0], state->kept[NANOS_OF], &limits);
+}
+
+/* The count of the first part of a duration, of any size: the number with which its text begins. */
+static PyObject *printed_count(const struct duration *duration, uint32_t units) {
+    char buffer[DURATION_STR_STYLED_BUFFER_SIZE];
+    duration_str_format_with(
+        duration->secs, duration->nanos, units, 1, DURATION_STR_STYLE_SHORT, buffer);
+    buffer[strspn(buffer, "0123456789")] = '\0';
+    return PyLong_FromString(buffer, NULL, 10);
+}
+
+/* The parts whose counts are not 0, as a list. `first` is the count of the first part if it is 2^64
+ * or more, and otherwise NULL. */
+static PyObject *list_of_parts(struct state *state, const uint64_t *counts, PyObject *first) {
+    PyObject *parts = PyList_New(0);
+    for (int unit = 0; parts && unit < DURATION_STR_UNIT_COUNT; unit++) {
+        if (!counts[unit])
+            continue;
+        const bool is_large = first && PyList_Size(parts) == 0;
+        PyObject *count = is_large ? Py_NewRef(first) : PyLong_FromUnsignedLongLong(counts[unit]);
+        PyObject *part =
+            PyObject_CallFunction(state->kept[PART], "NO", count, state->kept[UNIT_NAMES + unit]);
+        if (!part || PyList_Append(parts, part))
+            Py_CLEAR(parts);
+        Py_XDECREF(part);
+    }
+    return parts;
+}
+
+/* The breakdown of a duration. */
+static PyObject *breakdown_of(
+    struct state *state, const struct duration *duration, const struct limits *limits) {
+    uint64_t counts[DURATION_STR_UNIT_COUNT], rest = 0;
+    PyObject *first = NULL;
+    if (!duration_str_breakdown(
+            duration->secs, duration->nanos, limits->units, limits->parts, counts, &rest)) {
+        /* The count of the longest unit is 2^64 or more, so each unit is shorter than a second, and
+         * a second is a multiple of it. Then the other counts and the rest are those of the
+         * nanoseconds and any number of seconds except 0. */
+        first = printed_count(duration, limits->units);
+        if (!first || !duration_str_breakdown(
+                          1, duration->nanos, limits->units, limits->parts, counts, &rest))
+            return NULL;
+    }
+    PyObject *list = list_of_parts(state, counts, first);
+    PyObject *parts = list ? PyList_AsTuple(list) : NULL;
+    Py_XDECREF(list);
+    Py_XDECREF(first);
+    if (!parts)
+        return NULL;
+    return PyObject_CallFunction(state->kept[BREAKDOWN], "NK", parts, (unsigned long long)rest);
+}
+
+static PyObject *breakdown(
+    PyObject *self, PyObject *const *arguments, Py_ssize_t count, PyObject *keywords) {
+    struct state *state = PyModule_GetState(self);
+    struct limits limits;
+    struct duration duration;
+    if (!has_one("breakdown", count))
+        return NULL;
+    if (take_limits(state, "breakdown", SMALLEST, arguments + 1, keywords, &limits))
+        return NULL;
+    if (take_duration(state, arguments[0], state->kept[NANOS_OF], &duration) < 0)
+        return NULL;
+    return breakdown_of(state, &duration, &limits);
 }
 
 /* limits(*, parts, units, largest, smallest, style): returns the limits in the form that
@@ -563,7 +664,7 @@ static PyObject *format(
 static PyObject *limits(
     PyObject *self, PyObject *const *arguments, Py_ssize_t count, PyObject *keywords) {
     struct limits limits;
-    if (take_limits(PyModule_GetState(self), arguments + count, keywords, &limits))
+    if (take_limits(PyModule_GetState(self), "format", STYLE, arguments + count, keywords, &limits))
         return NULL;
     return Py_BuildValue("(III)", limits.units, limits.parts, limits.style);
 }
@@ -945,6 +1046,21 @@ PyDoc_STRVAR(format_doc,
     "'3 minutes 13 seconds 29 milliseconds'\n"
     ">>> duration_str.format(500 * 86_400 * 10**9, units=('y', 'mon', 'd'))\n"
     "'1y 4mon 15d'");
+PyDoc_STRVAR(breakdown_doc,
+    "breakdown($module, value, /, *, parts=11, units=None, largest='y', smallest='ns')"
+    "\n--\n\n"
+    "Breaks a duration down into counts of units. The duration is an int of\n"
+    "nanoseconds, or a timedelta (also NumPy's).\n\n"
+    "Returns a named tuple of the `parts` and of the nanoseconds that no part has,\n"
+    "`rest_ns`. The parts are those that `format` prints. Each is a named tuple of\n"
+    "the `count` and the `unit`, by the name that `format` prints. There are none\n"
+    "for a duration of 0. The counts and the rest are ints of any size.\n\n"
+    "The options and the errors are those of `format`, which also has a style.\n\n"
+    ">>> parts, rest_ns = duration_str.breakdown(193_029_000_000, parts=2)\n"
+    ">>> parts\n"
+    "(Part(count=3, unit='min'), Part(count=13, unit='s'))\n"
+    ">>> rest_ns\n"
+    "29000000");
 
 #define FAST(call) (PyCFunction)(void (*)(void)) call, METH_FASTCALL | METH_KEYWORDS
 static PyMethodDef methods[] = {
@@ -952,6 +1068,7 @@ static PyMethodDef methods[] = {
     {"parse", FAST(parse), parse_doc},
     {"parse_seconds", FAST(parse_seconds), parse_seconds_doc},
     {"format", FAST(format), format_doc},
+    {"breakdown", FAST(breakdown), breakdown_doc},
     {"reading", FAST(reading), NULL},
     {"limits", FAST(limits), NULL},
     {"format_list", format_list, METH_VARARGS, NULL},
@@ -977,6 +1094,8 @@ static int begin(PyObject *module) {
     state->kept[TYPE_ERROR_OF] = member("duration_str._texts", "type_error_of");
     state->kept[NANOS_OF] = member("duration_str._texts", "nanos_of");
     state->kept[WHOLE_OF] = member("duration_str._texts", "whole_of");
+    state->kept[PART] = member("duration_str._texts", "Part");
+    state->kept[BREAKDOWN] = member("duration_str._texts", "Breakdown");
     state->kept[UNNAMED] = member("duration_str._texts", "UNNAMED");
     state->kept[UNSAID] = member("duration_str._texts", "UNSAID");
     state->kept[TIMEDELTA] = member("datetime", "timedelta");

@@ -3,7 +3,7 @@ from collections.abc import Callable, Iterable
 from datetime import timedelta
 from typing import Any, Literal, Protocol, SupportsIndex, overload, type_check_only
 
-from ._texts import Style, Unit
+from ._texts import Breakdown, Style, Unit
 
 @type_check_only
 class NumpyDuration(Protocol):
@@ -87,6 +87,15 @@ def format(
     smallest: Unit = "ns",
     style: Style = "short",
 ) -> str: ...
+def breakdown(
+    value: int | timedelta | NumpyDuration,
+    /,
+    *,
+    parts: int = 11,
+    units: Iterable[Unit] | None = None,
+    largest: Unit = "y",
+    smallest: Unit = "ns",
+) -> Breakdown: ...
 def reading(
     *,
     no_calc: bool,

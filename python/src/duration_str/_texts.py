@@ -1,4 +1,5 @@
-"""The errors that say why and where a text is refused, and the nanoseconds of a duration.
+"""The errors that say why and where a text is refused, the parts of a duration, and its
+nanoseconds.
 """
 
 from __future__ import annotations
@@ -7,7 +8,7 @@ import datetime
 import enum
 import sys
 from importlib import import_module
-from typing import Any, Literal
+from typing import Any, Literal, NamedTuple
 
 #: A unit by one of its names
 # Made by tests/repository --write.
@@ -23,6 +24,26 @@ Unit = Literal[
 
 #: How a duration is printed: `1h 30min`, `1h30min`, `1 hour 30 minutes`
 Style = Literal["short", "compact", "long"]
+
+
+class Part(NamedTuple):
+    """A part of a duration, such as `Part(count=3, unit='min')`."""
+
+    # Each tuple has a method of this name.
+    count: int  # type: ignore[assignment]
+    """How many there are of the unit, at least 1."""
+    unit: Unit
+    """The unit, by the name that `format` prints in the short style."""
+
+
+class Breakdown(NamedTuple):
+    """A duration as counts of units. The counts, each times the length of its unit,
+    and the rest are together the duration."""
+
+    parts: tuple[Part, ...]
+    """The parts whose counts are not 0, the largest unit first."""
+    rest_ns: int
+    """The nanoseconds that no part has."""
 
 
 class _Unnamed(str):
