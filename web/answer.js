@@ -10,7 +10,7 @@ import { elsewhere } from "./elsewhere.js";
 import { button, element, make, MOST_LINES, parts, text, write } from "./elements.js";
 import { AROUND, lineOf } from "./sentences.js";
 import { LONG } from "./units.js";
-import { decimal, groupDigits, iso, seconds, termRows } from "./values.js";
+import { counts, decimal, groupDigits, iso, seconds, termRows } from "./values.js";
 
 /** The texts that the copy buttons copy, by the names of the elements that show them. */
 export const copied = {};
@@ -120,6 +120,8 @@ function showValue(line) {
     }
     show("seconds", seconds(value), groupDigits(seconds(value)));
     show("iso", iso(value));
+    const counted = counts(value, chosenFormat());
+    show("counts", counted, counted.replace(/[0-9]+/g, groupDigits));
     const rows = termRows(text.value, chosenOptions());
     element("terms").hidden = rows.length === 0;
     fill(element("terms"), rows);

@@ -1,5 +1,5 @@
 // Values in words, as decimals, in ISO 8601 and term by term.
-import { parseNs, parts } from "../js/dist/duration-str.js";
+import { breakdown, parseNs, parts } from "../js/dist/duration-str.js";
 import { defaultUnitOf, terms, UNITS, unitOf } from "./units.js";
 
 const [MINUTE, SECOND] = ["m", "s"].map((name) => unitOf(name).nanos);
@@ -25,6 +25,15 @@ export function inWords(text, options) {
         return countInWords(number, unit ? unitOf(unit) : defaultUnitOf(options));
     });
     return counts.join(" ");
+}
+
+/** The counts of the units in which a duration is printed, and the nanoseconds that they leave out:
+ * `3 min, 13 s, 29000000 ns left out`. */
+export function counts(nanos, { style, ...format }) {
+    const { parts: counted, restNs } = breakdown(nanos, format);
+    const words = counted.map(({ count, unit }) => `${count} ${unit}`);
+    if (restNs > 0n) words.push(`${restNs} ns left out`);
+    return words.join(", ") || "none";
 }
 
 /** A count of nanoseconds in units of this length, exactly: `193.029`. */

@@ -9,7 +9,7 @@ import { formatNs, parseNs, tryParseNs } from "../../js/dist/duration-str.js";
 import { markedParts, notesOn, offersFor, sentence } from "../advice.js";
 import { elsewhere } from "../elsewhere.js";
 import { lineOf, shorten } from "../sentences.js";
-import { decimal, groupDigits, iso, seconds, termRows } from "../values.js";
+import { counts, decimal, groupDigits, iso, seconds, termRows } from "../values.js";
 
 const TEXTS = JSON.parse(readFileSync(new URL("texts.json", import.meta.url), "utf8"));
 /** The most words in a sentence of the page. A quoted text counts as one. */
@@ -53,6 +53,18 @@ test("shows a value in each notation", () => {
         const value = parseNs(text, optionsOf(names));
         const numbers = [decimal(value, 1n), decimal(value, 1_000_000n), seconds(value)];
         assert.deepEqual([formatNs(value), ...numbers.map(groupDigits), iso(value)], wanted, text);
+    }
+});
+
+test("counts the units in which a value is printed", () => {
+    for (const [text, format, wanted] of [
+        ["3m + 13s + 29ms", {}, "3 min, 13 s, 29 ms"],
+        ["3m + 13s + 29ms", { parts: 2, style: "long" }, "3 min, 13 s, 29000000 ns left out"],
+        ["3m + 13s + 29ms", { units: ["ms"] }, "193029 ms"],
+        ["1ns", { smallest: "h" }, "1 ns left out"],
+        ["0", { smallest: "h" }, "none"],
+    ]) {
+        assert.equal(counts(parseNs(text), format), wanted);
     }
 });
 

@@ -517,6 +517,7 @@ def try_printing(page):
             {"style": "long", "parts": "2"},
             "1 day 1 hour",
             {
+                "counts": "1 d, 1 h, 61,000,000,001 ns left out",
                 "rust": ".style(Style::Long).parts(2)",
                 "python": 'style="long", parts=2',
                 "c": "answer.nanos / 1000000000, answer.nanos % 1000000000,\n"
@@ -632,17 +633,18 @@ def literal_of_c(code):
 def try_copying(page):
     permissions = ["clipboardReadWrite", "clipboardSanitizedWrite"]
     page.driver.execute_cdp_cmd("Browser.grantPermissions", {"permissions": permissions})
-    page.open("#text=1h%2030m%201ms")
+    page.open("#text=1h%2030m%201ms&parts=2")
     copied = {
-        "printed": "1h 30min 1ms",
+        "printed": "1h 30min",
         "nanoseconds": "5400001000000",
         "milliseconds": "5400001",
         "seconds": "5400.001",
         "iso": "PT1H30M0.001S",
+        "counts": "1 h, 30 min, 1000000 ns left out",
         "python": page.text_of("python"),
-        "link-note": page.address + "#text=1h%2030m%201ms",
+        "link-note": page.address + "#text=1h%2030m%201ms&parts=2",
     }
-    page.same("copy buttons", 11, len(page.driver.find_elements(By.CSS_SELECTOR, "[data-copies]")))
+    page.same("copy buttons", 12, len(page.driver.find_elements(By.CSS_SELECTOR, "[data-copies]")))
     for name, expected in copied.items():
         page.click(f"[data-copies={name}]")
         time.sleep(0.1)
