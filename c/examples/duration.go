@@ -1,6 +1,7 @@
 // Durations for Go, by the library for C, for a field of a configuration such as
 // `{"timeout": "1h 30m"}`. `go run duration.go TEXT` reads a text as such a field, and prints the
-// duration by itself and in JSON. pkg-config finds the library that `make install` has installed.
+// duration by itself, as a clock and in JSON. pkg-config finds the library that `make install` has
+// installed.
 package main
 
 // #cgo pkg-config: duration_str
@@ -57,6 +58,21 @@ func (duration Duration) String() string {
 	return C.GoString(&text[0])
 }
 
+// Clock prints hours, minutes and seconds, such as 1:02:03. It leaves out what is below a second,
+// and prints a duration below zero as zero.
+func (duration Duration) Clock() string {
+	const h, min, s = C.DURATION_STR_UNIT_HOUR, C.DURATION_STR_UNIT_MINUTE, C.DURATION_STR_UNIT_SECOND
+	nanos := duration.Duration
+	if nanos < 0 {
+		nanos = 0
+	}
+	secs, rest := C.uint64_t(nanos/time.Second), C.uint32_t(nanos%time.Second)
+	var counts [C.DURATION_STR_UNIT_COUNT]C.uint64_t
+	var left C.uint64_t
+	C.duration_str_breakdown(secs, rest, 1<<h|1<<min|1<<s, 3, &counts[0], &left)
+	return fmt.Sprintf("%d:%02d:%02d", counts[h], counts[min], counts[s])
+}
+
 func main() {
 	var settings struct{ Timeout Duration }
 	if len(os.Args) != 2 {
@@ -69,5 +85,5 @@ func main() {
 		os.Exit(1)
 	}
 	text, _ = json.Marshal(settings)
-	fmt.Println(settings.Timeout, string(text))
+	fmt.Println(settings.Timeout, settings.Timeout.Clock(), string(text))
 }
