@@ -496,8 +496,8 @@ function count() {
     return high < 2 ** 21 ? high * HALF + fields.getUint32(ANSWER, true) : nanoseconds();
 }
 
-/** The arguments by which the module takes a duration: the seconds in two halves, since it takes a
- * number of 64 bits so, and the nanoseconds. */
+/** The arguments of the calls that take seconds and nanoseconds. The module takes a number of 64
+ * bits, such as the seconds, as two halves. */
 function argumentsOf(total) {
     const second = typeof total === "number" ? SECOND : BigInt(SECOND);
     const nanos = total % second;
@@ -649,7 +649,7 @@ function breakDown(value, options, all, longest) {
     const { low, high, nanos } = argumentsOf(count());
     const chosen = formatOf(options, COUNTED_WHOLE);
     const { left, named } = unitsLeft(chosen, all, longest);
-    // The quarter is the only unit that can't be counted.
+    // `breakdown` counts all units, and `parts` all except the quarter.
     if (named & ~all) throw new RangeError("parts has no quarters");
     const most = countOf(chosen.parts);
     // There is at least a part, and each count is below 2^64, so the call refuses nothing.
