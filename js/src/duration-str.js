@@ -544,14 +544,14 @@ function put(value) {
 const notText = (value, help = "") =>
     new TypeError(`a duration's text must be a string, not ${typeOf(value)}${help}`);
 
-/** The digits of a number or a bigint. For a number with a fraction it is the text that JavaScript
- * prints, which the library refuses. */
+/** The digits of a number or a bigint. For a fraction or a negative number it is the text that
+ * JavaScript prints, which the library refuses. */
 function digitsOf(value, bits) {
     if (!(bits & READS_NUMBERS)) {
         throw notText(value, ": to read numbers, name their unit, as by { defaultUnit: 'ms' }");
     }
     // From 2^53 on a number can have lost digits. NaN is not below it.
-    if (typeof value === "bigint" || Math.abs(value) < 2 ** 53) return `${value}`;
+    if (typeof value === "bigint" || value < 2 ** 53) return `${value}`;
     throw new RangeError(`a number must be below 2^53, or a bigint, not ${value}`);
 }
 

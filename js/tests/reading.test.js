@@ -191,7 +191,8 @@ test("reads a number of JSON, and says why it reads no other", () => {
 
 test("refuses a number as its text, or says why it is no whole number", () => {
     const options = { defaultUnit: "ms" };
-    const refused = [1.5, -1, -1n, 1e-7, 18_446_744_073_710, 10n ** 20n, 10n ** 1000n];
+    const negative = [-1, -1n, -(2 ** 53), -1e21, -Number.MAX_VALUE, -Infinity];
+    const refused = [...negative, 1.5, 1e-7, 18_446_744_073_710, 10n ** 20n, 10n ** 1000n];
     for (const number of refused) {
         const text = String(number);
         const { fault } = tryParse(number, options);
@@ -200,7 +201,7 @@ test("refuses a number as its text, or says why it is no whole number", () => {
         assert.throws(() => parseNs(number, options), { name: "DurationError", code: fault.code });
     }
     // From 2^53 on a number can have lost digits.
-    for (const number of [NaN, Infinity, -Infinity, 2 ** 53, -(2 ** 53), 1e21, Number.MAX_VALUE]) {
+    for (const number of [NaN, Infinity, 2 ** 53, 1e21, Number.MAX_VALUE]) {
         const error = new RangeError(`a number must be below 2^53, or a bigint, not ${number}`);
         for (const call of [parse, parseNs, tryParse, tryParseNs]) {
             assert.throws(() => call(number, options), error);
