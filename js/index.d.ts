@@ -281,11 +281,11 @@ export declare const version: string;
  * `7200000`. A number with a fraction is refused as its text would be.
  *
  * @throws DurationError if the text or the number is refused
- * @throws TypeError if `text` is not a string, and not a number beside `defaultUnit`, or if an
- * option is unknown or of another type
+ * @throws TypeError if `text` is not a string, except for a number or a bigint if you name a
+ * `defaultUnit`, or if an option is unknown or of another type
  * @throws RangeError if no unit has the name of `defaultUnit`, if it stands beside `requireUnit`,
- * if it is not the second and `noCalc` is `false`, or if a number is NaN, or is 2^53 or more, where
- * it can have lost digits
+ * or if it is not the second and `noCalc` is `false`. It is also thrown if a number is NaN, or if
+ * it is 2^53 or more, since it can have lost digits then.
  * @throws Error if WebAssembly is missing or refused. The other functions throw it too. The message
  * says what to do, and the `cause` is the engine's error. The next call tries again.
  */
