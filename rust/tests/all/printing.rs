@@ -6,6 +6,7 @@ use duration_str::{
 };
 #[cfg(any(feature = "chrono", feature = "time"))]
 use proptest::prelude::*;
+use std::iter::FusedIterator;
 use std::time::Duration;
 
 /// The duration that this text stands for, also if it is too long to be read by the crate.
@@ -113,6 +114,19 @@ fn bounds_the_number_of_parts() {
     let build = format_duration(Duration::from_millis(193_029));
     for (printed, most) in [(build, 11), (build.parts(2), 2), (build.parts(0), 0)] {
         assert_eq!(printed.breakdown().size_hint(), (0, Some(most)));
+    }
+}
+
+/// After its last part a breakdown returns `None` each time, and its type says so.
+#[test]
+fn returns_no_part_after_the_last_one() {
+    fn is_ended(mut parts: impl FusedIterator<Item = (TimeUnit, u128)>) -> bool {
+        parts.by_ref().for_each(drop);
+        parts.next().is_none() && parts.next().is_none()
+    }
+    let build = format_duration(Duration::from_millis(193_029));
+    for printed in [build, build.parts(2), build.parts(0), build.only(&[])] {
+        assert!(is_ended(printed.breakdown()), "{printed}");
     }
 }
 
