@@ -5,6 +5,14 @@ BEGIN { RS = "" }
 
 function literal(text) { return ".Bd -literal\n" text "\n.Ed" }
 
+# Code that a comment shows. It is indented by four spaces.
+function code(text) {
+    gsub(/\n \*(     )?/, "\n", text)
+    sub(/^    /, "", text)
+    gsub(/\\/, "\\e", text)
+    return literal(text)
+}
+
 # Prints words in lines of up to 50 bytes, each sentence on a line of its own, as manual pages want it.
 function fill(text, word, count, line, at) {
     count = split(text, word, " ")
@@ -35,6 +43,10 @@ function fill(text, word, count, line, at) {
         print ".Ss " substr(declaration, RSTART, RLENGTH - 1) "\n.nh\n" literal(declaration)
     count = split(comment, paragraph, /\n \*\n \* /)
     for (at = 1; at <= count; at++) {
+        if (paragraph[at] ~ /^    /) {
+            print code(paragraph[at])
+            continue
+        }
         gsub(/\n \*/, "", paragraph[at])
         if (NR > 1 || at > 1)
             print ".Pp"
