@@ -478,6 +478,8 @@ pub record Lines : Type 0 where
       ≡ codes "expected a unit at column 3, found \"0\" (write 0s)"
   pub line-number_after_zero : one_line_of (codes "0 5") (Syntax 2 unit_alone)
       ≡ codes "expected a unit at column 3, found \"5\" (write the number's unit: y, q, mon, w, d, h, min, s, ms, us or ns)"
+  pub line-zero_after_a_unit : one_line_of (codes "1h 0") (Syntax 4 unit_alone)
+      ≡ codes "expected a unit at column 5, found the end (write the number's unit: y, q, mon, w, d, h, min, s, ms, us or ns)"
   pub line-unit_or_the_end : one_line_of (codes "0 0") (Syntax 2 after_number-no_calc)
       ≡ codes "expected a unit or the end at column 3, found \"0\""
   pub line-clock_without_a_unit : one_line_of (codes "0:00") (Syntax 1 unit_alone)

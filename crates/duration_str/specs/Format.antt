@@ -79,7 +79,7 @@ pub record IsWithin (lengths : List ℕ) (parts nanos : ℕ) (counts : List ℕ)
   pub few : part_count counts ≤ parts
   pub no_more : weighted_sum lengths counts ≤ nanos
 
--- The counts are within these limits, and all other counts within them come before.
+-- The counts fit (`IsWithin`), and all other counts that fit come before them.
 pub record IsGreatestWithin (lengths : List ℕ) (parts nanos : ℕ) (counts : List ℕ) : Type 0 where
   pub within : IsWithin lengths parts nanos counts
   pub greatest : (others : List ℕ) → IsWithin lengths parts nanos others → (others ≡ counts) ⊎ IsBefore others counts

@@ -263,7 +263,7 @@ pub record OlderTexts : Type 0 where
   pub value : (o : Options) (text : Characters) (nanos : ℕ) → WasRead o text nanos → IsRead o text nanos
   pub cause : (o : Options) (text : Characters) (cause : Cause) → WasRefused o text cause → IsRefused o text cause
 
--- If a format has all units and at least as many parts as there are units, a duration prints as it does without limits.
+-- If a format has all units and at least as many parts as there are units, a duration is printed in full.
 abbrev pub AllParts : Type 0
 AllParts = (style : Style) (parts nanos : ℕ) (text : Characters) → length units ≤ parts
     → (IsPrintedWithin (record whole_format { parts = parts; style = style }) nanos text ↔ IsPrintedIn style nanos text)

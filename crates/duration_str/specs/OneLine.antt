@@ -170,8 +170,8 @@ help_at expected text place piece =
     else []
 
 -- the help at the end of a line that says what was expected. It is the help for the place, if there is some. Otherwise,
--- if only a unit could stand at the place, a number lacks its unit, and the help says what to write. That is `0s` if the
--- whole text is zeros and blanks, since zero is the same in each unit
+-- if a unit could stand at the place, and neither an operator nor the end, a number lacks its unit, and the help says
+-- what to write. That is `0s` if the whole text is zeros and blanks, since zero is the same in each unit
 abbrev pub missing_unit_help : Expected → Bytes → Bytes → Bytes
 missing_unit_help expected text help =
     let lacks_unit = expected.unit_word && not (expected.operator || expected.text_end) in

@@ -80,7 +80,7 @@ pub fn equal_texts()
     ensures { EqualTexts }
 {}
 
-/// A duration printed in any style, without limits, is read back as itself if it is below 2^64 nanoseconds. Otherwise
+/// A duration that is printed in full, in any style, is read back as itself if it is below 2^64 nanoseconds. Otherwise
 /// its text is refused as an overflow: without a place below 585 years, and with place 0 from there on. So
 /// `584y 3q 2mon 1w 3d 23h 34min 33s 709ms 551µs 615ns` is read as 2^64 - 1 nanoseconds, and with `616ns` it overflows.
 #[tactic(auto, using(crate::proofs::LawProofs::ReadsBack::reads_back_holds))]

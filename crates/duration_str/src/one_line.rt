@@ -517,9 +517,9 @@ fn digit_help(piece: &str, next: u8) -> &'static str
     }
 }
 
-/// The help at the end of a line that says what was expected. It is `help`, if that is not empty. Otherwise, if only a
-/// unit could stand at the place, a number lacks its unit, and the help says what to write. That is `0s` if the whole
-/// text is zeros and blanks, since zero is the same in each unit.
+/// The help at the end of a line that says what was expected. It is `help`, if that is not empty. Otherwise, if a unit
+/// could stand at the place, and neither an operator nor the end, a number lacks its unit, and the help says what to
+/// write. That is `0s` if the whole text is zeros and blanks, since zero is the same in each unit.
 fn missing_unit_help(expected: Expected, text: &[u8], help: &'static str) -> &'static str
     ensures { result.now ≡ missing_unit_help expected text.now help.now }
 {
