@@ -14,6 +14,7 @@ from array import array
 from duration_str import (
     Cause,
     DurationError,
+    DurationTypeError,
     breakdown,
     format,
     format_many,
@@ -194,7 +195,7 @@ class Reading(unittest.TestCase):
                 self.assertEqual(numbers(coerced), [None, None])
 
     def test_refuses_numbers_as_their_texts(self):
-        for value in [1.5, -1, 2**63, 1e300, float("inf")]:
+        for value in [1.5, -1, 2**63]:
             column = pandas.Series(["1", value])
             with self.assertRaises(DurationError) as raised:
                 to_timedelta(column, default_unit="ns")
@@ -202,6 +203,16 @@ class Reading(unittest.TestCase):
             self.assertEqual((raised.exception.index, raised.exception.text), (1, text))
             with self.assertRaisesRegex(ValueError, f"^{re.escape(str(raised.exception))}$"):
                 to_timedelta(["1", text], default_unit="ns")
+            coerced = to_timedelta(column, default_unit="ns", errors="coerce")
+            self.assertEqual(numbers(coerced), [1, None])
+
+    def test_refuses_floats_that_can_have_lost_digits(self):
+        for value in [2.0**53, 1e300, float("inf")]:
+            column = pandas.Series(["1", value])
+            line = r"^at index 1: .*, not a float of 2\*\*53 or more"
+            for call in (to_timedelta, parse_many):
+                with self.assertRaisesRegex(DurationTypeError, line):
+                    call(column, default_unit="ns")
             coerced = to_timedelta(column, default_unit="ns", errors="coerce")
             self.assertEqual(numbers(coerced), [1, None])
 

@@ -143,19 +143,7 @@ class Reading(unittest.TestCase):
             self.assertEqual(parse_ns(number, default_unit="s"), 0)
         self.assertEqual(parse_ns(2**64 - 1, default_unit="ns"), 2**64 - 1)
         self.assertEqual(parse_ns(2.0**53 - 1, default_unit="ns"), 2**53 - 1)
-        # A float from 2**53 on can have lost digits.
-        for number in [
-            -1,
-            -1.0,
-            2**64,
-            1.5,
-            0.1,
-            1e-07,
-            2.0**53,
-            1e22,
-            float("inf"),
-            10**4_000,
-        ]:
+        for number in [-1, -1.0, -(2.0**53), 2**64, 1.5, 0.1, 1e-07, 10**4_000]:
             texts = [str(number), str(number).removesuffix(".0")]
             for unit in ["ns", "s", "y"]:
                 with self.subTest(number=number, unit=unit):
@@ -173,6 +161,11 @@ class Reading(unittest.TestCase):
         for value in [*others, fractions.Fraction(1), Place()]:
             with self.assertRaisesRegex(DurationTypeError, "must be a str or a whole number, not "):
                 parse(value, default_unit="ms")
+        # A float from 2**53 on can have lost digits.
+        for number in [2.0**53, 2.0**64, 1e22, float("inf")]:
+            line = r"not a float of 2\*\*53 or more, which can have lost digits$"
+            with self.assertRaisesRegex(DurationTypeError, line):
+                parse(number, default_unit="ms")
 
     def test_reads_the_numbers_of_the_vectors(self):
         for unit, number, secs, nanos in VECTORS["numbers"]:

@@ -165,9 +165,9 @@ static int read_str(struct state *state, PyObject *given, uint32_t options, uint
     return -1;
 }
 
-/* The digits of a whole number, as a str. For a float that is not whole, or can have lost digits,
- * it is what Python prints, which the library refuses. Returns NULL if the value is no number, or
- * with an error if Python refuses to print the number. */
+/* The digits of a whole number, as a str. For a float that is not whole, or is below -2^53, it is
+ * what Python prints, which the library refuses. Returns NULL if the value is no number, or a float
+ * that can have lost digits, or with an error if Python refuses to print the number. */
 static PyObject *digits_of(struct state *state, PyObject *value) {
     PyObject *number = NULL, *digits = NULL;
     if (PyBool_Check(value))
@@ -176,10 +176,11 @@ static PyObject *digits_of(struct state *state, PyObject *value) {
         number = Py_NewRef(value);
     } else if (PyFloat_Check(value)) {
         const double given = PyFloat_AsDouble(value);
-        const bool is_exact =
-            given > -INEXACT && given < INEXACT && given == (double)(int64_t)given;
-        if (given == given)
-            number = is_exact ? PyLong_FromDouble(given) : PyFloat_FromDouble(given);
+        /* NaN is not below anything. */
+        const bool is_below = given < INEXACT;
+        const bool is_whole = is_below && given > -INEXACT && given == (double)(int64_t)given;
+        if (is_below)
+            number = is_whole ? PyLong_FromDouble(given) : PyFloat_FromDouble(given);
     } else if (PyIndex_Check(value)) {
         number = PyObject_CallFunctionObjArgs(state->kept[WHOLE_OF], value, NULL);
     }

@@ -172,8 +172,10 @@ def type_error_of(value: Any, takes_numbers: bool, index: int) -> DurationTypeEr
     where = "" if index < 0 else f"at index {index}: "
     what = type(value).__name__
     if takes_numbers:
-        # NaN is the only float that is no number.
-        what = "NaN" if isinstance(value, float) else what
+        if isinstance(value, float):
+            what = (
+                "NaN" if value != value else "a float of 2**53 or more, which can have lost digits"
+            )
         return DurationTypeError(f"{where}a duration must be a str or a whole number, not {what}")
     is_number = isinstance(value, (int, float)) and not isinstance(value, bool) and value == value
     help = ""
