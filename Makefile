@@ -181,9 +181,9 @@ space := $() $()
 up = $(if $(filter $(prefix)/%,$(1)),$(2)$(subst $(space),,$(patsubst %,/..,$(subst /, ,$(1:$(prefix)/%=%)))),$(prefix))
 
 # $(call filled,FILE,VARIABLE,PREFIX): the template in this file, filled for the installed folders.
-# In these, ${VARIABLE} is written in place of the prefix
+# In these, ${VARIABLE} is written in place of the prefix. $$pointer has the bytes of a pointer
 filled = sed 's|@PREFIX@|$(3)|; s|@VERSION@|$(version)|; s|@LIBDIR@|$(call below,$(libdir),$(2))|; \
-    s|@INCLUDEDIR@|$(call below,$(includedir),$(2))|' c/$(1).in
+    s|@INCLUDEDIR@|$(call below,$(includedir),$(2))|; s|@POINTER@|'"$$pointer|" c/$(1).in
 below = $(patsubst $(prefix)/%,$${$(2)}/%,$(1))
 cmake_up = $(call up,$(libdir)/cmake/duration_str,$${CMAKE_CURRENT_LIST_DIR})
 
@@ -229,6 +229,8 @@ install: installable
 	for link in "$$DESTDIR$(libdir)"/libduration_str.so.[0-9]*; do
 	    [ ! -L "$$link" ] || grep -aqF "$${link##*/}" "$$link" || rm -fv "$$link"
 	done
+	# The fifth byte of an ELF file is 1 if its pointers have four bytes, and 2 if they have eight.
+	pointer=$$((4 * $$(od -An -tu1 -j4 -N1 "$$libraries/libduration_str.so")))
 	$(call filled,duration_str.pc,prefix,$(call up,$(libdir)/pkgconfig,$${pcfiledir})) |
 	    put_text $(libdir)/pkgconfig/duration_str.pc
 	$(foreach file,$(cmake_files),$(call filled,$(notdir $(file)),duration_str_prefix,$(cmake_up)) | \
