@@ -2,7 +2,7 @@
 #                      command duration, and says where they are
 # make program         builds only the program
 # make library         builds only the library: an archive and a shared library, or a WebAssembly
-#                      module
+#                      module, or for a machine without an operating system only an archive
 # make duration        builds the command duration, if Debian's packages of the crates that it uses
 #                      are installed
 # make setup           installs what the tests need, on Debian, as root or by sudo without a
@@ -91,7 +91,8 @@ library:
 	@archive="$(built)/libduration_str.a"
 	if ! $(call serves,"$$archive",c); then
 	    object="$(built)/duration_str.o"
-	    $(call cargo,core rustc) -p duration-str-c -- \
+	    $(call cargo,core rustc) -p duration-str-c \
+	        $(if $(findstring -none,$(target)),--crate-type staticlib) -- \
 	        $(if $(filter wasm%,$(target)),,--emit "obj=$$object")
 	    [ ! -e "$$object" ] || { rm -f "$$archive" && ar rcs "$$archive" "$$object"; }
 	fi
