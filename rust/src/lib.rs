@@ -67,19 +67,7 @@
 //! For clap, use [`HumanDuration`] as the field's type, or a `Duration` with [`parse_duration`] as
 //! its `value_parser`. To refuse a number without a unit, take [`parse_require_unit`] instead. If
 //! you set `allow_hyphen_values`, `-5m` is refused as a negative duration, and not taken for an
-//! option.
-//!
-//! ```text
-//! /// How long a request may take
-//! #[arg(long, allow_hyphen_values = true, value_parser = duration_str::parse_duration)]
-//! timeout: Option<Duration>,
-//! /// The time between two attempts
-//! #[arg(long, allow_hyphen_values = true, default_value = "1s 500ms")]
-//! pause: duration_str::HumanDuration,
-//!
-//! $ service --timeout '5 mins'
-//! error: Invalid value '5 mins' for '--timeout <TIMEOUT>': unknown unit "mins" at column 3 (did you mean "min"?)
-//! ```
+//! option. The README of this crate has a program with clap.
 //!
 //! # Printing
 //!
