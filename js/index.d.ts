@@ -146,8 +146,8 @@ export interface Breakdown {
 export type PartFormat = Counted<Exclude<Unit, "q" | "quarter" | "quarters">>;
 
 /**
- * The parts of a duration that are not 0, by the names of their units. `Intl.DurationFormat` and
- * `Temporal.Duration.from` take objects with these names.
+ * The counts of a duration, by the names of their units. A count of 0 is there only if all counts
+ * are 0. `Intl.DurationFormat` and `Temporal.Duration.from` take objects with these names.
  */
 export type Parts = Partial<Record<PartName, number>>;
 type PartName =
@@ -362,15 +362,16 @@ export function breakdown(
 /**
  * Returns the parts of a duration as numbers: `parts(5_400_000)` is `{ hours: 1, minutes: 30 }`.
  * The duration is a number of milliseconds or a bigint of nanoseconds. Quarters are not counted.
- * The parts of a duration of 0 are `{ seconds: 0 }`, or 0 of the smallest unit if that unit is
+ * If all counts are 0, the parts are `{ seconds: 0 }`, or 0 of the smallest unit if that unit is
  * longer than a second.
  *
  * ```js
  * new Intl.DurationFormat("en").format(parts(parse("1h 30m"))); // 1 hr, 30 min
  * ```
  *
- * @throws RangeError if a number can't hold a count exactly, or for a duration or an option for
- * which `format` or `formatNs` throws it
+ * @throws RangeError if a number can't hold a count exactly, if the quarter is named, or if
+ * `smallest` is longer than a day and you give neither `largest` nor `units`. It is also thrown for
+ * a duration or an option for which `format` or `formatNs` throws it.
  * @throws TypeError if the duration is neither a number nor a bigint, or for an option for which
  * `format` throws it
  */
