@@ -29,14 +29,15 @@ int memcmp(const void *first, const void *second, size_t length) {
     return 0;
 }
 
-/* A panic of the library would end here. It is proved that there is none. */
+/* A panic of the library would end here. For 64-bit processors it is proved that the code behind
+ * each call has none. */
 _Noreturn void abort(void) {
     for (;;)
         ;
 }
 
 #ifdef __arm__
-/* On ARM compilers call these names. `memset` has its arguments in another order there. */
+/* Compilers for ARM call these names. `__aeabi_memset` has its arguments in another order. */
 void __aeabi_memcpy(void *to, const void *from, size_t length) { memcpy(to, from, length); }
 void __aeabi_memcpy4(void *to, const void *from, size_t length) { memcpy(to, from, length); }
 void __aeabi_memcpy8(void *to, const void *from, size_t length) { memcpy(to, from, length); }
