@@ -600,7 +600,10 @@ static PyObject *printed_count(const struct duration *duration, uint32_t units) 
     char buffer[DURATION_STR_STYLED_BUFFER_SIZE];
     duration_str_format_with(
         duration->secs, duration->nanos, units, 1, DURATION_STR_STYLE_SHORT, buffer);
-    buffer[strspn(buffer, "0123456789")] = '\0';
+    char *end = buffer;
+    while (*end >= '0' && *end <= '9')
+        end++;
+    *end = '\0';
     return PyLong_FromString(buffer, NULL, 10);
 }
 
@@ -1103,13 +1106,10 @@ static int begin(PyObject *module) {
     if (state->kept[TIMEDELTA])
         state->kept[A_MICROSECOND] = PyObject_GetAttrString(state->kept[TIMEDELTA], "resolution");
     state->kept[A_SECOND] = PyLong_FromLong(SECOND);
-    for (int unit = 0; unit <= DURATION_STR_UNIT_NANOSECOND; unit++) {
-        const char *name = unit_names[unit];
-        PyObject **kept = state->kept + UNIT_NAMES + unit;
-        *kept = PyUnicode_DecodeLatin1(name, (Py_ssize_t)strlen(name), NULL);
-        if (*kept)
-            PyUnicode_InternInPlace(kept);
-    }
+    /* Python takes UTF-8 here, and unit_names are Latin-1, which differs in one name. */
+    for (int unit = 0; unit <= DURATION_STR_UNIT_NANOSECOND; unit++)
+        state->kept[UNIT_NAMES + unit] = PyUnicode_InternFromString(
+            unit == DURATION_STR_UNIT_MICROSECOND ? "\xc2\xb5s" : unit_names[unit]);
     for (int at = 0; at < KEPT; at++)
         is_there = is_there && state->kept[at];
     return is_there ? 0 : -1;
