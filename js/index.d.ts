@@ -9,8 +9,9 @@
  * a number or a unit. Each number must be below 2^64. Each term, each step of the evaluation and
  * the value must be below 2^64 nanoseconds.
  *
- * The WebAssembly module inside is made of source that is proved for 64 bits. That the results are
- * the same with its 32 bits follows by an argument in docs/PROMISES.md. The JavaScript is tested.
+ * The WebAssembly module inside is made of source that is proved for 64 bits. The module has 32
+ * bits. An argument in docs/PROMISES.md says why its results are the same. The JavaScript is only
+ * tested.
  */
 
 /**
