@@ -168,12 +168,13 @@ put = said=$$(mktemp) && trap 'rm -f "$$said"*' EXIT; \
     put_program() { LC_ALL=C $(INSTALL_PROGRAM) -v -D "$$1" "$$DESTDIR$$2" >>"$$said"; }
 folders = $(docdir)/folders
 
-# $(call page,FILE): the manual page in this file, with the calls, the header and the units of the
+# $(call page,FILE): the manual page in this file, with the calls, the header and the grammar of the
 # installed version
 description = LC_ALL=C awk $(1) -f c/manual-page.awk $(header)
 page = sed -e 's/^@CALLS@$$/.Nm $(subst $(space), $(comma)\n.Nm ,$(calls))/' \
     -e '/^@SYNOPSIS@$$/{e $(call description,-v synopsis=1)' -e 'd}' -e '/^@HEADER@$$/{e $(call description)' -e 'd}' \
-    -e '/^@UNITS@$$/{e $(call description) | sed -n "/^Units: /,/^A year has/p"' -e 'd}' -e 's/@VERSION@/$(version)/' $(1)
+    -e '/^@GRAMMAR@$$/{e $(call description) | sed -n "/^A text is one term/,/^A year has/p"' \
+    -e 'd}' -e 's/@VERSION@/$(version)/' $(1)
 
 # $(call up,FOLDER,FROM): the way from an installed folder up to the prefix, so that the prefix can
 # be moved with all that is in it. The way begins with FROM, which stands for the folder. If the

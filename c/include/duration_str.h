@@ -13,12 +13,16 @@
  * No function allocates memory, keeps state, calls back or throws. All
  * functions may be called from several threads at once.
  *
- * The grammar: a text is one term or several. A term is a number and a unit,
- * such as `3m` or `29 ms`. Terms are joined by `+` or by `*`. If the operator
- * is left out, as in `3m 13s`, the terms are added. A number without a unit
- * counts seconds, unless an option says otherwise. Such a number must be last
- * or before an operator. Blanks (space, tab, carriage return, line feed) may
- * be anywhere except inside a number or a unit.
+ * A text is one term or several. A term is a number and a unit, such as `3m`
+ * or `29 ms`. Terms are joined by `+` or by `*`. If the operator is left out,
+ * as in `3m 13s`, the terms are added. A text is a sum or a product, and can't
+ * mix both. A product multiplies its terms in seconds: `1m*10ms` is 600 ms.
+ * Each of its steps is rounded down to nanoseconds. A number without a unit
+ * counts seconds, unless another default unit is named or units are required.
+ * Such a number must be last or before an operator. Blanks (space, tab,
+ * carriage return, line feed) may be anywhere except inside a number or a
+ * unit. Each number must be below 2^64. Each term, each step of the evaluation
+ * and the value must be below 2^64 nanoseconds, which is some 584 years.
  *
  * Units: y year years, q quarter quarters, mon month months, w week weeks, d
  * day days, h hr hour hours, m min minute minutes, s sec second seconds, ms
@@ -26,9 +30,7 @@
  * microseconds, ns nsec nanosecond nanoseconds. The Chinese names, which an
  * option adds: 年 year, 月 month, 周 week, 日 天 day, 时 hour, 分 minute, 秒 second,
  * 毫秒 millisecond, 微秒 microsecond, 纳秒 nanosecond.
- * A year has 365 days, a quarter 91 and a month 30. Each number must be below
- * 2^64. Each term, each step of the evaluation and the value must be below 2^64
- * nanoseconds. */
+ * A year has 365 days, a quarter 91 and a month 30. */
 #ifndef DURATION_STR_H
 #define DURATION_STR_H
 

@@ -9,13 +9,16 @@ datetime.timedelta(seconds=193, microseconds=29000)
 >>> duration_str.format(193_029_000_000)
 '3min 13s 29ms'
 
-A text is one term or several. A term is a number and a unit, such as `3m`.
-Terms are joined by `+` or by `*`. If the operator is left out, as in `3m 13s`,
-the terms are added. A product multiplies its terms in seconds. A number
-without a unit counts seconds, unless an option says otherwise. Such a number
-must be last or before an operator. Blanks may be anywhere except inside a
-number or a unit. Each number must be below 2**64. Each term, each step of the
-evaluation and the value must be below 2**64 nanoseconds.
+A text is one term or several. A term is a number and a unit, such as `3m` or
+`29 ms`. Terms are joined by `+` or by `*`. If the operator is left out, as in
+`3m 13s`, the terms are added. A text is a sum or a product, and can't mix
+both. A product multiplies its terms in seconds: `1m*10ms` is 600 ms. Each of
+its steps is rounded down to nanoseconds. A number without a unit counts
+seconds, unless another default unit is named or units are required. Such a
+number must be last or before an operator. Blanks (space, tab, carriage return,
+line feed) may be anywhere except inside a number or a unit. Each number must
+be below 2^64. Each term, each step of the evaluation and the value must be
+below 2^64 nanoseconds, which is some 584 years.
 
 If you name a default unit, whole numbers that are not texts are read too:
 
