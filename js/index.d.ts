@@ -11,9 +11,7 @@
  * inside a number or a unit. Each number must be below 2^64. Each term, each step of the evaluation
  * and the value must be below 2^64 nanoseconds, which is some 584 years.
  *
- * The WebAssembly module inside is made of source that is proved for 64 bits. The module has 32
- * bits. An argument in docs/PROMISES.md says why its results are the same. The JavaScript is only
- * tested.
+ * `docs/PROMISES.md` in the repository says what is proved, what is tested, and what you trust.
  */
 
 /**

@@ -13,6 +13,9 @@
  * No function allocates memory, keeps state, calls back or throws. All
  * functions may be called from several threads at once.
  *
+ * `docs/PROMISES.md` in the repository says what is proved, what is tested, and
+ * what you trust.
+ *
  * A text is one term or several. A term is a number and a unit, such as `3m`
  * or `29 ms`. Terms are joined by `+` or by `*`. If the operator is left out,
  * as in `3m 13s`, the terms are added. A text is a sum or a product, and can't

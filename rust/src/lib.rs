@@ -143,12 +143,7 @@
 //!
 //! # What is proved
 //!
-//! The code that reads a text and prints a duration is that of a library which is proved for 64-bit
-//! processors. (The contracts are removed.) The rest of this crate is only tested: the types of
-//! errors, minus signs, the code for `serde`, `chrono` and `time`, and the module [`humantime`].
-//!
-//! Three `unsafe` blocks skip the test that a printed duration, the message of an error and the
-//! line of an error are UTF-8, since that is proved.
+//! `docs/PROMISES.md` in the repository says what is proved, what is tested, and what you trust.
 //!
 //! # From humantime and `duration-str` 0.19.0
 //!

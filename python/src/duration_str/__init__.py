@@ -1,7 +1,7 @@
 """Reads durations as people write them, such as `3m + 13s + 29ms`, and prints
 them, such as `3min 13s 29ms`. An error says what is wrong. For wrong syntax it
-also says where. The library inside is proved for 64-bit processors. This
-package, which calls it, is only tested.
+also says where. `docs/PROMISES.md` in the repository says what is proved, what
+is tested, and what you trust.
 
 >>> import duration_str
 >>> duration_str.parse("3m + 13s + 29ms")
