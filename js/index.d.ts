@@ -49,9 +49,8 @@ interface RequiringOptions extends Switches {
 interface CountingOptions extends Switches {
     /**
      * The default unit, which a number without a unit counts. With `ms`, `1500` is 1.5 seconds, and
-     * so is `1s 500`. For a text, naming the second is the same as naming nothing. With any other
-     * unit `+` and `*` are not read, since a factor would count it too: `90s*2` would be 90 seconds
-     * times 2 milliseconds.
+     * so is `1s 500`. With any unit except the second, `+` and `*` are not read (docs/GRAMMAR.md
+     * says why).
      *
      * If you name a default unit, even the second, a number that is not a text is read as its
      * digits would be.
@@ -114,9 +113,7 @@ interface Counted<Name extends Unit> {
 
 /**
  * How much of a duration is printed, and how. By default all of it is printed, from `y` to `ns`. If
- * all counts are 0, the text is 0 of the smallest unit, such as `0h`. If that unit is shorter than
- * a second, the text is `0s`, even if you left out the second. In the style `long` these texts are
- * `0 hours` and `0 seconds`.
+ * all counts are 0, the text is a zero, such as `0h` or `0s` (docs/GRAMMAR.md says which).
  */
 export interface Format extends Counted<Unit> {
     /**
@@ -228,8 +225,8 @@ interface Told {
     readonly message: string;
     /**
      * The report for a terminal. For `SYNTAX` it is the text, a caret below the place, and the
-     * message. It is the message alone for other codes, if the text has more than 80 characters, or
-     * if the message would escape something in the text.
+     * message. For other codes, and for some texts, it is the message alone (docs/GRAMMAR.md says
+     * for which).
      */
     readonly report: string;
 }

@@ -119,11 +119,9 @@ enum duration_str_option {
  * `enum duration_str_unit`, instead of seconds. For example, with milliseconds
  * `1500` and `1s 500` are 1.5 seconds.
  *
- * For the second the option is 0, since naming the second is the same as
- * naming nothing. For any other unit it includes DURATION_STR_OPTION_NO_CALC,
- * since a factor without a unit would count `unit` too: with milliseconds
- * `90s*2` would be 180 ms. Then the option is unknown if you take the bit
- * DURATION_STR_OPTION_NO_CALC out, or if you add
+ * For the second the option is 0. For any other unit it includes
+ * DURATION_STR_OPTION_NO_CALC (docs/GRAMMAR.md says why). Then the option is
+ * unknown if you take the bit DURATION_STR_OPTION_NO_CALC out, or if you add
  * DURATION_STR_OPTION_REQUIRE_UNIT. It is also unknown if no unit has the
  * number `unit`. The macro computes `unit` more than once, so don't write
  * `unit++` there.
@@ -269,10 +267,8 @@ size_t duration_str_format(
  * two parts are `1d 1h`, and 180 days in all units without the quarter and the
  * week are `6mon`.
  *
- * If all counts are 0, the text is `0` and the name of the smallest unit in
- * the set, such as `0h`. If that unit is shorter than a second, the text is
- * `0s`, even if the set has no second. If `parts` is 0, every duration has
- * this text. In the long style `0h` is `0 hours`, and `0s` is `0 seconds`.
+ * If all counts are 0, or if `parts` is 0, the text is a zero, such as `0h` or
+ * `0s` (docs/GRAMMAR.md says which).
  *
  * Returns 0, and the text is empty, if `nanos` is 1,000,000,000 or more, if
  * `style` is above 2, or if `units` is the empty set or above
@@ -349,10 +345,9 @@ size_t duration_str_one_line(
  * has DURATION_STR_REPORT_BUFFER_SIZE bytes, in which each report and its zero
  * byte fit. Returns the length of the report, or 0 if the text is read.
  *
- * The report is the line alone if the cause is not DURATION_STR_CAUSE_SYNTAX,
- * if the text has more than 80 characters, or if the line would escape
- * something in the text. Before the caret there are as many spaces as the text
- * before the place takes columns. */
+ * For some texts the report is the line alone (docs/GRAMMAR.md says for which).
+ * Before the caret there are as many spaces as the text before the place takes
+ * columns. */
 DURATION_STR_NONNULL(4, 5)
 size_t duration_str_report(
     const char *text, size_t length, uint32_t options,

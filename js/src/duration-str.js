@@ -358,8 +358,7 @@ function unitOf(what, name) {
     throw new RangeError(`${what} must be one of ${listed(UNITS)}, not ${name}`);
 }
 
-/** The bits of a default unit. For a text, naming the second is the same as naming nothing.
- * Another unit turns `noCalc` on, since a factor without a unit would count it too. */
+/** The bits of a default unit. The second has none. Another unit turns `noCalc` on. */
 function defaultUnitBits(name) {
     if (name === undefined) return 0;
     const unit = unitOf("the option defaultUnit", name);

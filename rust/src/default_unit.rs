@@ -8,9 +8,8 @@ use duration_str_core::{self as proved, Options, TimeUnit};
 /// Reads a text under these options, and returns its duration. A number without a unit counts the
 /// default unit. If that is `None`, such a number is refused.
 ///
-/// A factor without a unit counts the default unit too. So if your program's numbers are
-/// milliseconds, operators make no sense: turn on `no_calc`, or call [`parse_in`], which turns it
-/// on for every default unit except the second.
+/// If your program's numbers are milliseconds, turn on `no_calc`, or call [`parse_in`], which turns
+/// it on for each default unit except the second. `docs/GRAMMAR.md` in the repository says why.
 ///
 /// # Errors
 ///

@@ -128,8 +128,8 @@ impl<'a> Fault<'a> {
     /// Returns the report for a terminal: the text, below it a caret at the place of a syntax
     /// fault, and below that the line.
     ///
-    /// The report is the line alone if the fault is no syntax fault, if the text has more than 80
-    /// characters, or if the line would escape something in the text.
+    /// If the fault is no syntax fault, and for some texts, the report is the line alone.
+    /// `docs/GRAMMAR.md` in the repository says for which.
     ///
     /// ```
     /// use duration_str::{Options, parse_with};

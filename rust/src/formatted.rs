@@ -45,8 +45,8 @@ use duration_str_core::{Breakdown, Format, STYLED_BUFFER_SIZE, Style, TimeUnit, 
 ///
 /// Each call that chooses units only takes units away, so you can make these calls in any order.
 ///
-/// If all counts are 0, or if you ask for 0 parts, the text is `0` and the smallest unit's name. If
-/// that unit is shorter than a second, the text is `0s`, even if you left out the second.
+/// If all counts are 0, or if you ask for 0 parts, the text is a zero, such as `0h` or `0s`.
+/// `docs/GRAMMAR.md` in the repository says which.
 ///
 /// Width and fill pad the text. A precision is ignored.
 ///

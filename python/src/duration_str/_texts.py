@@ -140,9 +140,8 @@ class DurationError(ValueError):
     """The position of the text in the column that was read, or None if the text was read by
     itself."""
     report: str
-    """The report for a terminal: the text, a caret below the place, and the line. It is the line
-    alone if the fault is no syntax fault, if the text has more than 80 characters, or if the line
-    would escape something in the text."""
+    """The report for a terminal: the text, a caret below the place, and the line. If the fault is
+    no syntax fault, and for some texts, it is the line alone (docs/GRAMMAR.md says for which)."""
 
     def __init__(
         self, report: str, text: str, cause: int, place: int | None = None, expected: int = 0,
