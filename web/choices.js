@@ -13,14 +13,9 @@ export const REFUSED = "refused";
 /** The printed name of the default unit if none is chosen. */
 export const SECOND = "s";
 
-export const printing = {
-    style: element("style"),
-    largest: element("largest"),
-    smallest: element("smallest"),
-    parts: element("parts"),
-};
+export const printing = { style: element("style"), parts: element("parts") };
 /** The choices with which everything is printed. */
-export const WHOLE = { style: "short", largest: "y", smallest: "ns", parts: String(UNITS.length) };
+export const WHOLE = { style: "short", parts: String(UNITS.length) };
 
 /** The boxes of the units that are printed, the longest first. One of them is always checked. */
 export const unitBoxes = UNITS.map(({ names, printed }) => {
@@ -30,55 +25,36 @@ export const unitBoxes = UNITS.map(({ names, printed }) => {
     return box;
 });
 
-/** The format for printing, without the choices that are as in WHOLE. If a unit between the largest
- * and the smallest is left out, the units are listed instead. */
+/** The units of the format: the largest and the smallest one, or a list if one between them is left
+ * out. */
+function chosenUnits() {
+    const places = [...unitBoxes.keys()].filter((place) => unitBoxes[place].checked);
+    const [first, last] = [places[0], places.at(-1)];
+    const isRange = places.length > last - first;
+    if (!isRange) return { units: places.map((place) => unitBoxes[place].value) };
+    return {
+        ...(first > 0 && { largest: unitBoxes[first].value }),
+        ...(last < unitBoxes.length - 1 && { smallest: unitBoxes[last].value }),
+    };
+}
+
+/** The format for printing, without the choices that are as in WHOLE. */
 export function chosenFormat() {
     const chosen = Object.entries(printing).filter(([name, box]) => box.value !== WHOLE[name]);
     const valueOf = (name, box) => name === "parts" ? Number(box.value) : box.value;
-    const format = Object.fromEntries(chosen.map(([name, box]) => [name, valueOf(name, box)]));
-    const units = unitBoxes.filter((box) => box.checked).map((box) => box.value);
-    const { largest, smallest, ...others } = format;
-    const between = printing.smallest.selectedIndex - printing.largest.selectedIndex;
-    return units.length > between ? format : { ...others, units };
+    const format = chosen.map(([name, box]) => [name, valueOf(name, box)]);
+    return { ...Object.fromEntries(format), ...chosenUnits() };
 }
 
-/** If the largest unit has become shorter than the smallest, the one that wasn't changed is set to
- * the other. */
-export function agree(changed) {
-    const { largest, smallest } = printing;
-    if (largest.selectedIndex <= smallest.selectedIndex) return;
-    const other = changed === largest ? smallest : largest;
-    other.value = changed.value;
-}
-
-/** The indexes of the largest and of the smallest unit whose boxes are checked. */
-function checkedLimits() {
-    const checked = unitBoxes.map((box) => box.checked);
-    return [checked.indexOf(true), checked.lastIndexOf(true)];
-}
-
-/** Checks the boxes of the units that have come within the limits, and the boxes of the limits
- * themselves. Unchecks the boxes of all units beyond the limits. */
-export function limitUnits() {
-    const [largest, smallest] = [printing.largest.selectedIndex, printing.smallest.selectedIndex];
-    const [first, last] = checkedLimits();
+/** Leaves only those units checked that the function keeps, by their places. If none would be left,
+ * nothing changes. Returns whether one is left. */
+export function keepUnits(keeps) {
+    const kept = unitBoxes.map((box, place) => box.checked && keeps(place));
+    if (!kept.includes(true)) return false;
     unitBoxes.forEach((box, place) => {
-        const isWithin = largest <= place && place <= smallest;
-        const wasBeyond = place < first || place > last;
-        const isLimit = place === largest || place === smallest;
-        box.checked = isWithin && (box.checked || wasBeyond || isLimit);
+        box.checked = kept[place];
     });
-}
-
-/** Shows the largest and the smallest of the units whose boxes are checked. */
-export function showLimits() {
-    [printing.largest.selectedIndex, printing.smallest.selectedIndex] = checkedLimits();
-}
-
-/** Checks the boxes of these units, and no others. */
-export function chooseUnits(names) {
-    for (const box of unitBoxes) box.checked = names.includes(box.value);
-    showLimits();
+    return true;
 }
 
 /** The chosen options. `noCalc` is left out if the default unit turns it on. Otherwise its box says

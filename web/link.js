@@ -2,8 +2,8 @@
 // `#text=1h%2030&lowercase&default_unit=ms&style=long&units=y,d`. In place of the default unit it
 // may have `require_unit`.
 import {
-    agree, chooseUnits, chosenFormat, defaultUnit, limitUnits, printing, REFUSED, SECOND,
-    showNoCalc, switches, WHOLE,
+    chosenFormat, defaultUnit, keepUnits, printing, REFUSED, SECOND, showNoCalc, switches,
+    unitBoxes, WHOLE,
 } from "./choices.js";
 import { element, text } from "./elements.js";
 import { shorten } from "./sentences.js";
@@ -48,11 +48,16 @@ function isChoice(id, value) {
     return Array.from(lists[id].options, (one) => one.value).includes(value);
 }
 
-/** Takes the units to print, and returns whether all of them exist. */
-function takeUnits(names) {
-    if (!names.every((name) => printedNames.includes(name))) return false;
-    chooseUnits(names);
-    return true;
+/** Takes a word about the units to print. Returns whether all its units exist, and one of them is
+ * left. */
+function takeUnits(id, names) {
+    const places = names.map((name) => printedNames.indexOf(name));
+    if (places.includes(-1)) return false;
+    return keepUnits((place) => {
+        if (id === "largest") return place >= Math.max(...places);
+        if (id === "smallest") return place <= Math.min(...places);
+        return places.includes(place);
+    });
 }
 
 /** Takes a word of the link, and returns whether it is known. */
@@ -61,7 +66,7 @@ function take(word) {
     const box = boxes.find((each) => each.id === id);
     if (box && rest.length === 0) return box.checked = true;
     const value = decodeURIComponent(rest.join("="));
-    if (id === "units") return takeUnits(value.split(","));
+    if (["largest", "smallest", "units"].includes(id)) return takeUnits(id, value.split(","));
     if (id === "text") text.value = value;
     else if (word === "require_unit") defaultUnit.value = REFUSED;
     else if (isChoice(id, value)) lists[id].value = value;
@@ -74,7 +79,7 @@ function take(word) {
 export function readLink() {
     for (const box of boxes) box.checked = false;
     for (const [name, box] of Object.entries(printing)) box.value = WHOLE[name];
-    chooseUnits(printedNames);
+    for (const box of unitBoxes) box.checked = true;
     defaultUnit.value = SECOND;
     text.value = "";
     const unknown = location.hash.slice(1).split("&").filter(Boolean).filter((word) => {
@@ -85,8 +90,6 @@ export function readLink() {
             return true;
         }
     });
-    agree(printing.largest);
-    limitUnits();
     showNoCalc();
     return unknown;
 }

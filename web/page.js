@@ -2,8 +2,8 @@
 import { tryParseNs } from "../js/dist/duration-str.js";
 import { copied, showAnswer } from "./answer.js";
 import {
-    agree, choose, chosenOptions, defaultUnit, limitUnits, printing, REFUSED, SECOND, showLimits,
-    showNoCalc, switches, unitBoxes, WHOLE,
+    choose, chosenOptions, defaultUnit, printing, REFUSED, SECOND, showNoCalc, switches, unitBoxes,
+    WHOLE,
 } from "./choices.js";
 import { LANGUAGES } from "./code.js";
 import { button, element, make, text, write } from "./elements.js";
@@ -86,26 +86,18 @@ function showDefaultUnits() {
 
 /** The choices of how a duration is printed. */
 function showPrinting() {
-    for (const one of [printing.largest, printing.smallest]) {
-        one.replaceChildren(...UNITS.map(({ printed }) => new Option(printed)));
-    }
     const counts = UNITS.map((_, place) => new Option(place + 1, place + 1));
     counts.at(-1).text = "all";
     printing.parts.replaceChildren(...counts);
     for (const [name, box] of Object.entries(printing)) {
         box.value = WHOLE[name];
-        box.addEventListener("change", () => {
-            agree(box);
-            limitUnits();
-            read();
-        });
+        box.addEventListener("change", read);
     }
     for (const box of unitBoxes) {
         box.checked = true;
         box.addEventListener("change", () => {
             // The last box stays checked.
             box.checked ||= unitBoxes.every((each) => !each.checked);
-            showLimits();
             read();
         });
     }

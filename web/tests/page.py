@@ -571,10 +571,11 @@ def try_printing(page):
         )
     page.open("#text=1h&largest=s&smallest=d")
     page.same("limits that contradict each other", "3600s", page.text_of("printed"))
-    page.find("largest").send_keys("days")
-    page.same("days as the largest unit", "1h", page.text_of("printed"))
-    page.find("smallest").send_keys("weeks")
-    page.same("weeks as the smallest unit, and so as the largest", "0w", page.text_of("printed"))
+    page.same(
+        "what is told of the second limit",
+        "Not understood in the link: smallest=d",
+        page.text_of("link-note"),
+    )
     page.same("the most parts", "all", page.words("#parts option")[-1])
     page.open("#text=1h&style=wide")
     page.same(
@@ -585,12 +586,11 @@ def try_printing(page):
 
 
 def try_units_printed(page):
-    """The boxes of units follow the two limits, and the limits follow the boxes."""
+    """The units that are printed are those whose boxes are checked."""
 
     def same(what, printed, units):
         checked = page.words("#printed_units label:has(:checked)")
-        got = [page.text_of("printed"), checked, page.find("largest").get_property("value")]
-        page.same(what, [printed, units.split(), units.split()[0]], got)
+        page.same(what, [printed, units.split()], [page.text_of("printed"), checked])
 
     def press(*units):
         for unit in units:
@@ -606,16 +606,15 @@ def try_units_printed(page):
     same("the last unit, which stays", "180d", "d")
     press("q")
     same("a longer unit", "1q 89d", "q d")
-    Select(page.find("largest")).select_by_visible_text("y")
-    same("a longer limit", "1q 89d", "y q d")
-    Select(page.find("smallest")).select_by_visible_text("s")
-    same("a shorter limit", "1q 89d", "y q d h min s")
-    Select(page.find("largest")).select_by_visible_text("mon")
-    same("a limit that wasn't chosen", "6mon", "mon d h min s")
-    Select(page.find("smallest")).select_by_visible_text("q")
-    same("a limit beyond the other", "1q", "q")
+    press("d", "mon")
+    same("two units that follow one another", "1q 2mon", "q mon")
+    time.sleep(PAUSE)
+    link = "#text=180d&largest=q&smallest=mon"
+    page.same("their link", link, page.run("return location.hash"))
     page.open("#text=1h&units=d,h&largest=h")
     same("units and a limit", "1h", "h")
+    page.open("#text=1h&units=d,foo")
+    same("a unit that isn't", "1h", "y q mon w d h min s ms µs ns")
     page.open("#text=1h")
     same("no units in the link", "1h", "y q mon w d h min s ms µs ns")
 
@@ -746,9 +745,10 @@ def try_hostile(page):
         page.same(f"the elements after {link}", before, page.run(count))
         page.same(
             f"what {link} chooses to print",
-            ["short", "y", "ns", str(len(reference_parser.UNITS))],
+            ["short", *[str(len(reference_parser.UNITS))] * 2],
             page.answer_line(
-                "['style', 'largest', 'smallest', 'parts'].map((id) => document.getElementById(id).value)"
+                "[document.getElementById('style').value, document.getElementById('parts').value, "
+                "String(document.querySelectorAll('#printed_units :checked').length)]"
             ),
         )
         told = page.answer_line("document.getElementById('link-note').textContent")
