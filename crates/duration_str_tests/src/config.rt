@@ -4,7 +4,7 @@ ghost use Rattle.std.specs.Str.{IsCharBoundary};
 ghost use Rattle.duration_str.specs.Faults.{place_of};
 
 use crate::assertions::{holds, holds_in_memory, is_fault, is_fault_at, is_value, prints};
-use crate::vectors::{AFTER_NUMBER, OFF, START, syntax};
+use crate::shared::{AFTER_NUMBER, OFF, START, syntax};
 use duration_str::{
     Cause, Fault, deserialize_duration, deserialize_duration_chrono, deserialize_duration_time,
     deserialize_option_duration, deserialize_option_duration_chrono,

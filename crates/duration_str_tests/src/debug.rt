@@ -1,7 +1,7 @@
 // What `Debug` prints of each public type.
 use crate::assertions::holds_in_memory;
 use crate::refusal::refusal;
-use crate::vectors::{AFTER_NUMBER, OFF};
+use crate::shared::{AFTER_NUMBER, OFF};
 use duration_str::{Cause, CondUnit, DError, Fault, TimeUnit, Tokens};
 use std::alloc::{AllocError, Global};
 use std::fmt::Debug;

@@ -1,7 +1,7 @@
 // Faults as errors that own their line, with as much memory as they need and with none.
 use crate::assertions::{holds_in_memory, prints};
 use crate::refusal::refusal;
-use crate::vectors::{OFF, TOO_LARGE};
+use crate::shared::{OFF, TOO_LARGE};
 use duration_str::{
     DError, Fault, after_naive_date, deserialize_duration, deserialize_option_duration,
 };

@@ -3,10 +3,10 @@ use crate::assertions::{holds, holds_in_memory, is_fault_at, is_value};
 use crate::config::{is_optional, is_required};
 use crate::refusal::refusal;
 use crate::refusals::{is_caused, names_token};
-use crate::top::{comes_from, leads_to};
-use crate::vectors::{
+use crate::shared::{
     AFTER_NUMBER, AFTER_UNIT, CN_UNIT, NUMBER, OFF, OPERATORS, START, TOO_LARGE, UNITS, syntax,
 };
+use crate::top::{comes_from, leads_to};
 use arrayvec::ArrayString;
 use duration_str::{Cause, Expected, Fault, Options, parse, parse_with, write_human};
 use durstr_run::{RunFault, run};

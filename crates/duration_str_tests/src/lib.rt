@@ -20,7 +20,11 @@ mod refusal;
 #[cfg(test)]
 mod refusals;
 #[cfg(test)]
+mod rows;
+pub mod shared;
+#[cfg(test)]
 mod top;
 #[cfg(test)]
 mod unit;
-pub mod vectors;
+#[cfg(test)]
+mod vectors;

@@ -1,113 +1,25 @@
 // What texts are read as, by each call that reads under their options, and what the durations
 // print as.
 use crate::assertions::{holds, holds_in_memory, is_human_format, is_value};
-use crate::vectors::{CN_UNIT, LOWERCASE, NO_CALC, OFF};
+use crate::rows::{
+    excludes, includes, list_at, listed, named_options, named_unit, number_at, options_of,
+    place_at, text_at, vectors,
+};
+use crate::shared::OFF;
 use duration_str::{
-    Cause, Fault, HumanFormat, Options, TimeUnit, parse, parse_chrono, parse_looked, parse_std,
-    parse_time, parse_with, parse_with_default_unit, write_human,
+    Fault, Format, HumanFormat, Options, STYLED_BUFFER_SIZE, Style, TimeUnit, parse, parse_chrono,
+    parse_looked, parse_std, parse_time, parse_with, parse_with_default_unit, write_format,
+    write_human,
 };
 use jiff::SignedDuration;
+use serde_json::Value;
 use std::alloc::{AllocError, Global};
+use std::process::Abort;
 use std::time::Duration;
 
-/// Texts, between bars, with their options, and the nanoseconds that they are read as.
-static READ: [(&str, Options, u64); 65] = [
-    ("0|0    |     0    |0m|580y*2*0|1000000000*1ns*1ns", OFF, 0),
-    // If the last factor were 65536, the product of the later factors would be 2^64 nanoseconds.
-    ("0*281474976710656ns*65535", OFF, 0),
-    ("1ns*1ns*1000000000", OFF, 1),
-    ("1m * 1ns|1 m * 1ns", OFF, 60),
-    ("1µS", OFF, 1_000),
-    ("42µs", OFF, 42_000),
-    ("1MS", OFF, 1_000_000),
-    ("1m*10ms|1 m*10 ms|10ms*1m", OFF, 600_000_000),
-    ("1|00000000000000000000000001", OFF, 1_000_000_000),
-    ("2*3", OFF, 6_000_000_000),
-    ("1ns+30s|30s+1ns", OFF, 30_000_000_001),
-    ("1M|\t1m\r\n", OFF, 60_000_000_000),
-    ("1m 2", OFF, 62_000_000_000),
-    ("1m+30|1m+30s|1min+30", OFF, 90_000_000_000),
-    ("1ns+30s+ 1min", OFF, 90_000_000_001),
-    ("1ns   +30s+ 1min+4µs", OFF, 90_000_004_001),
-    ("1m31|1m31s|1m+31", OFF, 91_000_000_000),
-    ("1ns+30s+ 1min+1", OFF, 91_000_000_001),
-    ("1m+60+24|1m+60+24 ", OFF, 144_000_000_000),
-    (
-        "      1m      +  60 +             24 ",
-        OFF,
-        144_000_000_000,
-    ),
-    ("3m + 1s + 29ms +17µs", OFF, 181_029_017_000),
-    ("3 m + 1 s + 29 ms +17µs", OFF, 181_029_017_000),
-    ("3m 1s 29ms 17µs|3m1s29ms17us", OFF, 181_029_017_000),
-    ("3m + 13s + 29ms|3 m + 13 s + 29 ms", OFF, 193_029_000_000),
-    ("3m+31|3m + 31|3 m+31|3 m + 31", OFF, 211_000_000_000),
-    ("3m31|3m  31", OFF, 211_000_000_000),
-    ("3m31s|3m  31s|3 m  31 s|3m31s0ns", OFF, 211_000_000_000),
-    ("  3m 31s 0ns |3 m31 s0 ns", OFF, 211_000_000_000),
-    ("  3 m 31 s 0 ns ", OFF, 211_000_000_000),
-    ("1m*10|1m * 10|1 m*10", OFF, 600_000_000_000),
-    ("1hr|1m*60|1m * 1m|1 m * 1 m", OFF, 3_600_000_000_000),
-    ("123m", OFF, 7_380_000_000_000),
-    ("2h 37m|2h 37m | 2h 37m| 2h 37m    ", OFF, 9_420_000_000_000),
-    ("1m*60*20", OFF, 72_000_000_000_000),
-    ("1d|   1d|1d   |   1d   |1 d", OFF, 86_400_000_000_000),
-    ("1d2h3min4s|1 d2 h3 min 4s", OFF, 93_784_000_000_000),
-    ("1q", OFF, 7_862_400_000_000_000),
-    ("2 Quarters", OFF, 15_724_800_000_000_000),
-    ("1y+30|1 y + 30", OFF, 31_536_030_000_000_000),
-    ("580y*1", OFF, 18_290_880_000_000_000_000),
-    ("18446744073709551615ns", OFF, u64::MAX),
-    ("0+18446744073709551615ns", OFF, u64::MAX),
-    ("1m84s |1m84 ", NO_CALC, 144_000_000_000),
-    ("1min30", NO_CALC, 90_000_000_000),
-    ("1m31|1m31s", NO_CALC, 91_000_000_000),
-    ("3m 13s 29ms", NO_CALC, 193_029_000_000),
-    ("3m31|3m  31|3 m31", NO_CALC, 211_000_000_000),
-    ("2h 37m", NO_CALC, 9_420_000_000_000),
-    ("1d2h3min4s", NO_CALC, 93_784_000_000_000),
-    ("1y30|1 y  30", NO_CALC, 31_536_030_000_000_000),
-    ("1q", LOWERCASE, 7_862_400_000_000_000),
-    ("1纳秒", CN_UNIT, 1),
-    ("1微秒", CN_UNIT, 1_000),
-    ("1毫秒", CN_UNIT, 1_000_000),
-    ("1秒", CN_UNIT, 1_000_000_000),
-    ("1分", CN_UNIT, 60_000_000_000),
-    ("1分31秒|1分+31秒", CN_UNIT, 91_000_000_000),
-    ("1分+31秒+2毫秒+3纳秒", CN_UNIT, 91_002_000_003),
-    (" 1分+   31秒 + 2毫秒+  3纳秒  ", CN_UNIT, 91_002_000_003),
-    ("1时", CN_UNIT, 3_600_000_000_000),
-    ("1日|1天", CN_UNIT, 86_400_000_000_000),
-    ("1周", CN_UNIT, 604_800_000_000_000),
-    ("1月", CN_UNIT, 2_592_000_000_000_000),
-    ("1年", CN_UNIT, 31_536_000_000_000_000),
-    ("1年 2日", CN_UNIT, 31_708_800_000_000_000),
-];
-
-/// Texts with the printed texts of the durations that they are read as.
-static PRINTED: [(&str, &str); 15] = [
-    ("0s", "0s"),
-    ("3m + 13s + 29ms", "3min 13s 29ms"),
-    ("1d2h3min4s", "1d 2h 3min 4s"),
-    ("1y 12d 3s", "1y 1w 5d 3s"),
-    ("751d 1mon 3week 5d 2ns", "2y 2mon 2w 3d 2ns"),
-    ("807d 2ns", "2y 2mon 2w 3d 2ns"),
-    ("90d", "3mon"),
-    ("91d", "1q"),
-    ("364d", "4q"),
-    ("35d", "1mon 5d"),
-    ("377d 3s", "1y 1w 5d 3s"),
-    ("    7h    ", "7h"),
-    ("    7h  1s  ", "7h 1s"),
-    ("    7h  0s  ", "7h"),
-    (
-        "18446744073709551615ns",
-        "584y 3q 2mon 1w 3d 23h 34min 33s 709ms 551µs 615ns",
-    ),
-];
-
-/// Whether each call that reads under these options reads the text as this many nanoseconds.
-fn is_read(text: &str, o: Options, nanos: u64) -> bool {
+/// Whether each call that reads under these options, and counts seconds, reads the text as this many
+/// nanoseconds.
+fn is_read_in_seconds(text: &str, o: Options, nanos: u64) -> bool {
     let plain = Duration::from_nanos(nanos);
     let signed = SignedDuration::from_nanos_i128(i128::from(nanos));
     let has_calls = o == OFF;
@@ -118,43 +30,59 @@ fn is_read(text: &str, o: Options, nanos: u64) -> bool {
             || is_value(parse_chrono(text), signed) && is_value(parse_time(text), signed))
 }
 
-#[test]
-fn reads_values(rt: HostRuntime) {
-    for &(texts, o, nanos) in &READ {
-        for text in texts.split('|') {
-            holds(&rt, text, is_read(text, o, nanos));
+/// Whether each call that reads with these options and this default unit reads the text as this many
+/// nanoseconds.
+fn is_read(text: &str, o: Options, default_unit: Option<TimeUnit>, nanos: u64) -> bool {
+    let length = parse_with_default_unit(text, o, default_unit);
+    is_value(length, Duration::from_nanos(nanos))
+        && (default_unit != Some(TimeUnit::Second) || is_read_in_seconds(text, o, nanos))
+}
+
+/// The nanoseconds of a row, which begins with its seconds and its nanoseconds.
+fn nanos_of(row: &Value) -> Option<u64> {
+    number_at(row, 0)?
+        .checked_mul(1_000_000_000)?
+        .checked_add(number_at(row, 1)?)
+}
+
+/// Fails unless the texts of a row are read as its duration.
+fn reads_row(rt: &impl Abort, row: &Value, o: Options, default_unit: Option<TimeUnit>) {
+    for text in list_at(row, 2) {
+        let text = text.as_str().unwrap_or("");
+        let reads = match nanos_of(row) {
+            Some(nanos) => is_read(text, o, default_unit, nanos),
+            None => false,
+        };
+        holds(rt, text, reads);
+    }
+}
+
+/// Fails unless the texts of a group are read under each choice that has its options on which are
+/// named after `on`, and off which are named after `off`.
+fn reads_group(rt: &impl Abort, group: &Value) {
+    let on = listed(group, "on");
+    for bits in 0..8u8 {
+        let o = options_of(bits);
+        if includes(o, named_options(on)) && excludes(o, named_options(listed(group, "off"))) {
+            for row in listed(group, "rows") {
+                reads_row(rt, row, o, named_unit(on));
+            }
         }
     }
 }
 
-/// Whether the text is refused at this place, since units are required and the number before the
-/// place has none.
-fn lacks_a_unit(text: &str, at: usize) -> bool {
-    let Err(fault) = parse_with_default_unit(text, OFF, None) else {
-        return false;
-    };
-    let Cause::Syntax { place, expected } = fault.cause() else {
-        return false;
-    };
-    let is_unit = expected.unit_word && !expected.operator;
-    place == at && is_unit && !expected.number && !expected.text_end
+#[test]
+fn reads_values(rt: HostRuntime) {
+    let vectors = vectors(rt.alloc());
+    let groups = listed(&vectors, "values");
+    assert!(rt; groups.len() > 0);
+    for group in groups {
+        reads_group(&rt, group);
+    }
 }
 
 #[test]
-fn requires_units(rt: HostRuntime) {
-    for &(text, at) in &[
-        ("90", 2),
-        ("90 -", 3),
-        ("1h 30", 5),
-        ("1h 30 + 5x", 6),
-        ("5 + 1h 30", 2),
-        ("2s*3 ", 5),
-        ("1m*60*20s", 5),
-        ("1m 3-5", 4),
-        ("99999999999999999999", 20),
-    ] {
-        holds(&rt, text, lacks_a_unit(text, at));
-    }
+fn refuses_the_same_texts_if_no_number_lacks_a_unit(rt: HostRuntime) {
     for &text in &["1h 30m", "1 m*60s", "", "+1s", "1s -", "600y", "1s 2s*3s"] {
         holds(
             &rt,
@@ -171,13 +99,8 @@ fn is_read_in_millis(text: &str, millis: u64) -> bool {
 }
 
 #[test]
-fn counts_numbers_in_the_default_unit(rt: HostRuntime) {
-    for &(text, millis) in &[
-        ("1500", 1_500),
-        ("1h 500", 3_600_500),
-        ("2000*3", 6),
-        ("1s + 5", 1_005),
-    ] {
+fn joins_numbers_in_the_default_unit(rt: HostRuntime) {
+    for &(text, millis) in &[("2000*3", 6), ("1s + 5", 1_005)] {
         holds(&rt, text, is_read_in_millis(text, millis));
     }
 }
@@ -211,12 +134,58 @@ fn prints_into_a_buffer(text: &str, printed: &str) -> bool {
     }
 }
 
+/// Fails unless the text of a row is read as a duration that prints as the row says.
+fn prints_row(rt: &impl Abort, alloc: Global, row: &Value) {
+    let (text, printed) = (text_at(row, 0), text_at(row, 4));
+    holds_in_memory(rt, text, prints_into_strings(alloc, text, printed));
+    holds(rt, text, prints_into_a_buffer(text, printed));
+    holds(rt, text, parse(printed) == parse(text));
+}
+
+/// The format of a row: the largest and the smallest unit, and the greatest number of parts.
+fn format_of(row: &Value) -> Option<Format> {
+    let largest = TimeUnit::from_word(text_at(row, 1), OFF)?;
+    let smallest = TimeUnit::from_word(text_at(row, 2), OFF)?;
+    let parts = place_at(row, 3)?;
+    Some(
+        Format::whole()
+            .largest(largest)
+            .smallest(smallest)
+            .parts(parts),
+    )
+}
+
+/// Whether the text of a row is read as a duration that prints as the row says, in two styles. Texts
+/// of more than 584 years are not read.
+fn prints_in_format(row: &Value, format: Format) -> bool {
+    let Ok(length) = parse(text_at(row, 0)) else {
+        return true;
+    };
+    let mut buffer = [0; STYLED_BUFFER_SIZE];
+    write_format(&length, format, &mut buffer) == text_at(row, 4)
+        && write_format(&length, format.style(Style::Long), &mut buffer) == text_at(row, 5)
+}
+
+/// Whether all of a duration is printed in this format.
+fn is_whole(format: Format) -> bool {
+    format == Format::whole()
+}
+
 #[test]
 fn prints_what_is_read(rt: HostRuntime) {
-    for &(text, printed) in &PRINTED {
-        let answer = prints_into_strings(rt.alloc(), text, printed);
-        holds_in_memory(&rt, text, answer);
-        holds(&rt, text, prints_into_a_buffer(text, printed));
-        holds(&rt, text, parse(printed) == parse(text));
+    let vectors = vectors(rt.alloc());
+    let rows = listed(&vectors, "printed");
+    assert!(rt; rows.len() > 0);
+    for row in rows {
+        let text = text_at(row, 0);
+        match format_of(row) {
+            Some(format) => {
+                holds(&rt, text, prints_in_format(row, format));
+                if is_whole(format) && parse(text).is_ok() {
+                    prints_row(&rt, rt.alloc(), row);
+                }
+            }
+            None => holds(&rt, text, false),
+        }
     }
 }

@@ -1,143 +1,20 @@
 // Why texts are refused: the cause, the token at the place, and what the fault prints.
 use crate::assertions::{holds, holds_in_memory, is_fault, prints};
-use crate::vectors::{
-    AFTER_NUMBER, AFTER_UNIT, ALONE_AFTER_NUMBER, ALONE_AFTER_UNIT, CN_UNIT, LOWERCASE, NO_CALC,
-    NUMBER, OFF, OPERATORS, START, TOO_LARGE, UNITS, syntax,
+use crate::rows::{
+    cause_of, list_at, listed, named_options, named_unit, options_of, place_at, text_at, vectors,
 };
+use crate::shared::{NUMBER, OFF, OPERATORS, START, TOO_LARGE, UNITS, syntax};
 use duration_str::{
-    Cause, CondUnit, Expected, Fault, ONE_LINE_BUFFER_SIZE, Options, REPORT_BUFFER_SIZE, parse,
-    parse_chrono, parse_looked, parse_std, parse_time, parse_with, write_human,
+    Cause, CondUnit, Expected, Fault, ONE_LINE_BUFFER_SIZE, Options, REPORT_BUFFER_SIZE, TimeUnit,
+    parse, parse_chrono, parse_looked, parse_std, parse_time, parse_with, parse_with_default_unit,
+    write_human,
 };
+use serde_json::Value;
 use std::alloc::{AllocError, Global};
+use std::process::Abort;
 use std::time::Duration;
 
-/// A text that is refused for its syntax: the place, the blanks before the caret, and the token at
-/// the place, if any.
-type Row = (&'static str, usize, usize, &'static str);
-
-/// Options, what could stand at the place, the message's last line, which says that, and texts that
-/// are refused for this syntax fault under these options.
-type Group = (Options, Expected, &'static str, &'static [Row]);
-
-static SYNTAX: [Group; 10] = [
-    (OFF, START, NUMBER, &STARTS),
-    (OFF, AFTER_NUMBER, UNITS, &NUMBERS),
-    (OFF, AFTER_UNIT, OPERATORS, &WORDS),
-    (LOWERCASE, AFTER_NUMBER, UNITS, &[("1M", 1, 1, "M")]),
-    (LOWERCASE, AFTER_NUMBER, UNITS, &[("1Q", 1, 1, "Q")]),
-    (CN_UNIT, AFTER_NUMBER, UNITS, &[("1分s", 1, 1, "分s")]),
-    (CN_UNIT, AFTER_UNIT, OPERATORS, &[("3ms-2ms", 3, 3, "-")]),
-    (NO_CALC, START, NUMBER, &[("   ", 3, 3, "")]),
-    (NO_CALC, ALONE_AFTER_NUMBER, UNITS, &NUMBERS_ALONE),
-    (NO_CALC, ALONE_AFTER_UNIT, NUMBER, &WORDS_ALONE),
-];
-
-const STARTS: [Row; 6] = [
-    ("   ", 3, 3, ""),
-    ("1m+", 3, 3, ""),
-    ("+1m", 0, 0, "+"),
-    ("1m++2", 3, 3, "+"),
-    ("580y*2*x", 7, 7, "x"),
-    ("1m*", 3, 3, ""),
-];
-
-const NUMBERS: [Row; 14] = [
-    ("1 2", 2, 2, "2"),
-    ("0mxyz", 1, 1, "mxyz"),
-    ("0m+3-5", 4, 4, "-"),
-    ("1m 3-5", 4, 4, "-"),
-    ("1mx", 1, 1, "mx"),
-    ("1qs", 1, 1, "qs"),
-    ("99999999999999999999 2", 21, 21, "2"),
-    ("580y 580y 1 2", 12, 12, "2"),
-    ("1m+2*3 4", 7, 7, "4"),
-    ("1m*2 3", 5, 5, "3"),
-    (" 1分+   31秒 + 2毫秒+  3纳秒  ", 2, 2, "分"),
-    ("1分", 1, 1, "分"),
-    ("1\u{3bc}s", 1, 1, "\u{3bc}"),
-    ("1µ s", 1, 1, "µ"),
-];
-
-const WORDS: [Row; 4] = [
-    ("3ms-2ms", 3, 3, "-"),
-    ("580y 580y x", 10, 10, "x"),
-    ("580y 580y-", 9, 9, "-"),
-    // Four characters stand before the place.
-    ("1µs 分", 5, 4, "分"),
-];
-
-const NUMBERS_ALONE: [Row; 4] = [
-    ("1 2", 2, 2, "2"),
-    ("1+2", 1, 1, "+"),
-    ("0m3-5", 3, 3, "-"),
-    ("99999999999999999999+1", 20, 20, "+"),
-];
-
-const WORDS_ALONE: [Row; 5] = [
-    ("1m*2", 2, 2, "*"),
-    ("1m+2", 2, 2, "+"),
-    ("1m+2*3 4", 2, 2, "+"),
-    ("580y*2*x", 4, 4, "*"),
-    ("1m+2*99999999999999999999", 2, 2, "+"),
-];
-
-const OUT: &str = "overflow error";
-
-const PLUS_STAR: &str = "not support '+' with '*' calculate";
-
-const STAR_PLUS: &str = "not support '*' with '+' calculate";
-
-const LARGE: Cause = Cause::NumberTooLarge { place: None };
-
-const FIRST_LARGE: Cause = Cause::NumberTooLarge { place: Some(0) };
-
 const OVERFLOW: Cause = Cause::Overflow { place: None };
-
-const FIRST_OVERFLOW: Cause = Cause::Overflow { place: Some(0) };
-
-const PLUS_THEN_STAR: Cause = Cause::Mixed {
-    first: CondUnit::Plus,
-    later: CondUnit::Star,
-};
-
-const STAR_THEN_PLUS: Cause = Cause::Mixed {
-    first: CondUnit::Star,
-    later: CondUnit::Plus,
-};
-
-/// Texts, between bars, with the options under which they are refused, the cause, and the message's
-/// last line, which is its only line if the cause has no place.
-type Caused = (&'static str, Options, Cause, &'static str);
-
-static OTHERS: [Caused; 22] = [
-    ("", OFF, Cause::Empty, "Empty input"),
-    ("", NO_CALC, Cause::Empty, "Empty input"),
-    ("10000000000000000y+60", OFF, FIRST_OVERFLOW, OUT),
-    (
-        "584942417355y 3w 5d 7h 15s 999ms 999µs 999ns",
-        OFF,
-        FIRST_OVERFLOW,
-        OUT,
-    ),
-    ("580y*2|580y 580y|0*580y*2", OFF, OVERFLOW, OUT),
-    ("0*281474976710656ns*65536", OFF, OVERFLOW, OUT),
-    ("18446744073709551615ns 1ns", OFF, OVERFLOW, OUT),
-    ("1s 580y 580y 99999999999999999999", OFF, OVERFLOW, OUT),
-    ("99999999999999999999y-", OFF, FIRST_LARGE, TOO_LARGE),
-    ("99999999999999999999*2", OFF, FIRST_LARGE, TOO_LARGE),
-    ("18446744073709551616ns", OFF, FIRST_LARGE, TOO_LARGE),
-    ("1s + 99999999999999999999", OFF, LARGE, TOO_LARGE),
-    ("580y 580y 99999999999999999999", OFF, LARGE, TOO_LARGE),
-    ("1m+99999999999999999999*2", OFF, LARGE, TOO_LARGE),
-    ("1m 2s*3", OFF, PLUS_THEN_STAR, PLUS_STAR),
-    ("1m+2*99999999999999999999", OFF, PLUS_THEN_STAR, PLUS_STAR),
-    ("1m*2s 3|1m*2*3+4", OFF, STAR_THEN_PLUS, STAR_PLUS),
-    ("99999999999999999999m+1", NO_CALC, FIRST_LARGE, TOO_LARGE),
-    ("99999999999999999999m x", NO_CALC, FIRST_LARGE, TOO_LARGE),
-    ("1m 99999999999999999999", NO_CALC, LARGE, TOO_LARGE),
-    ("580y 580y|580y 580y+1|580y 580y-", NO_CALC, OVERFLOW, OUT),
-    ("580y 580y x|580y 580y 1 2", NO_CALC, OVERFLOW, OUT),
-];
 
 /// Whether each call that reads with all options off refuses the text with this fault.
 fn is_refused(text: &str, fault: Fault<'_>) -> bool {
@@ -202,112 +79,154 @@ pub fn is_caused(
     }
 }
 
-#[test]
-fn refuses_for_the_syntax(rt: HostRuntime) {
-    for &(o, expected, line, rows) in &SYNTAX {
-        for &(text, place, blanks, token) in rows {
-            let cause = syntax(place, expected);
-            holds(&rt, text, names_token(text, o, cause, token));
-            let answer = is_caused(rt.alloc(), (text, o, cause), blanks, line);
-            holds_in_memory(&rt, text, answer);
-        }
+/// The message's last line for a syntax fault at which this could stand.
+fn syntax_line(expected: Expected) -> &'static str {
+    if expected.unit_word {
+        UNITS
+    } else if expected.operator {
+        OPERATORS
+    } else {
+        NUMBER
     }
+}
+
+/// The message's last line for a cause of the vectors.
+fn message_line(cause: Cause) -> &'static str {
+    match cause {
+        Cause::Empty => "Empty input",
+        Cause::Syntax { expected, .. } => syntax_line(expected),
+        Cause::NumberTooLarge { .. } => TOO_LARGE,
+        Cause::Overflow { .. } => "overflow error",
+        _ => "",
+    }
+}
+
+/// How many characters stand before this byte.
+fn chars_before(text: &str, place: usize) -> usize {
+    text.char_indices()
+        .take_while(|&(at, _)| at < place)
+        .count()
+}
+
+/// Whether the fault prints its message. If the text has several lines, this is the byte and the
+/// last line.
+fn prints_message(alloc: Global, fault: Fault<'_>) -> Result<bool, AllocError> {
+    let line = message_line(fault.cause());
+    match fault.cause().place() {
+        None => is_printed(alloc, fault, line),
+        Some(place) if fault.text().contains('\n') => {
+            let wanted = format!(in alloc; "byte {place}: {line}")?;
+            is_printed(alloc, fault, wanted.as_str())
+        }
+        Some(place) => points(alloc, fault, chars_before(fault.text(), place), line),
+    }
+}
+
+/// The report of a row: its line, and above it the text and a caret, unless the row has null in
+/// place of the caret's column.
+fn report_of(alloc: Global, row: &Value) -> Result<String, AllocError> {
+    let (text, line) = (text_at(row, 0), text_at(row, 6));
+    match place_at(row, 7) {
+        Some(column) => {
+            let blanks = " ".repeat(alloc, column)?;
+            format!(in alloc; "{text}\n{blanks}^\n{line}")
+        }
+        None => String::from_str(alloc, line),
+    }
+}
+
+/// Whether the fault's line and its report are those of the row.
+fn is_shown(alloc: Global, fault: Fault<'_>, row: &Value) -> Result<bool, AllocError> {
+    let report = report_of(alloc, row)?;
+    Ok(
+        fault.write_one_line(&mut [0; ONE_LINE_BUFFER_SIZE]) == text_at(row, 6)
+            && fault.write_report(&mut [0; REPORT_BUFFER_SIZE]) == report.as_str(),
+    )
+}
+
+/// Whether the token at the fault's place is that of the row. An empty text means that none is.
+fn has_token(fault: Fault<'_>, o: Options, row: &Value) -> bool {
+    fault.found(o).unwrap_or("") == text_at(row, 4)
+}
+
+/// Whether the fault's cause is that of the row, and its message is right. The row doesn't name the
+/// operators that are mixed.
+fn has_cause(alloc: Global, fault: Fault<'_>, row: &Value) -> Result<bool, AllocError> {
+    match cause_of(row) {
+        Some(cause) => Ok(fault.cause() == cause && prints_message(alloc, fault)?),
+        None => Ok(text_at(row, 2) == "MIXED" && matches!(fault.cause(), Cause::Mixed { .. })),
+    }
+}
+
+/// The fault with which each call that reads with these options and this default unit refuses the
+/// text. `None` if one of them reads the text, or refuses it for another cause.
+fn refusal_with(text: &str, o: Options, default_unit: Option<TimeUnit>) -> Option<Fault<'_>> {
+    let fault = parse_with_default_unit(text, o, default_unit).err()?;
+    if default_unit == Some(TimeUnit::Second) {
+        return refusal(text, o, fault.cause());
+    }
+    (fault.text() == text).then_some(fault)
+}
+
+/// Whether the text of a row is refused as the row says.
+fn is_refused_row(alloc: Global, row: &Value) -> Result<bool, AllocError> {
+    let names = list_at(row, 1);
+    let o = named_options(names);
+    let Some(fault) = refusal_with(text_at(row, 0), o, named_unit(names)) else {
+        return Ok(false);
+    };
+    Ok(has_cause(alloc, fault, row)? && has_token(fault, o, row) && is_shown(alloc, fault, row)?)
 }
 
 #[test]
 fn refuses_texts(rt: HostRuntime) {
-    for &(texts, o, cause, line) in &OTHERS {
-        for text in texts.split('|') {
-            holds(&rt, text, names_token(text, o, cause, ""));
-            holds_in_memory(&rt, text, is_caused(rt.alloc(), (text, o, cause), 0, line));
-        }
+    let vectors = vectors(rt.alloc());
+    let rows = listed(&vectors, "refused");
+    assert!(rt; rows.len() > 0);
+    for row in rows {
+        holds_in_memory(&rt, text_at(row, 0), is_refused_row(rt.alloc(), row));
     }
 }
 
-/// Texts with the options under which they are refused, the lines of the report above the last one,
-/// and the last line.
-static SHOWN: [(&str, Options, &str, &str); 7] = [
-    ("", OFF, "", "empty text"),
-    (
-        "5 mins",
-        OFF,
-        "5 mins\n  ^\n",
-        "unknown unit \"mins\" at column 3 (did you mean \"min\"?)",
-    ),
-    (
-        "3天 x",
-        CN_UNIT,
-        "3天 x\n    ^\n",
-        "expected a number, '+', '*' or the end at column 4, found \"x\"",
-    ),
-    (
-        "+5m",
-        OFF,
-        "+5m\n^\n",
-        "expected a number at column 1, found \"+\" (a leading \"+\" is not read)",
-    ),
-    (
-        "1h \"",
-        OFF,
-        "",
-        "expected a number, '+', '*' or the end at column 4, found \"\\\"\"",
-    ),
-    (
-        "600y x",
-        OFF,
-        "",
-        "duration of over 584 years in \"600y x\"",
-    ),
-    ("2*1h 30m", OFF, "", "sum and product mixed in \"2*1h 30m\""),
-];
+const PLUS_THEN_STAR: Cause = Cause::Mixed {
+    first: CondUnit::Plus,
+    later: CondUnit::Star,
+};
 
-/// Whether the text is refused with this line, and with a report that has `above` before it.
-fn is_shown(text: &str, o: Options, above: &str, line: &str) -> bool {
-    let Err(fault) = parse_with(text, o) else {
-        return false;
-    };
-    let mut buffer = [0; REPORT_BUFFER_SIZE];
-    let report = fault.write_report(&mut buffer);
-    report.strip_prefix(above) == Some(line)
-        && fault.write_one_line(&mut [0; ONE_LINE_BUFFER_SIZE]) == line
-}
+const STAR_THEN_PLUS: Cause = Cause::Mixed {
+    first: CondUnit::Star,
+    later: CondUnit::Plus,
+};
 
 #[test]
-fn writes_lines_and_reports(rt: HostRuntime) {
-    for &(text, o, above, line) in &SHOWN {
-        holds(&rt, text, is_shown(text, o, above, line));
-    }
-}
-
-/// Texts of several lines with the place of the syntax fault, what could stand there, and what is
-/// printed in place of the text and the caret, before the last line.
-static IN_LINES: [(&str, usize, Expected, &str, &str); 2] = [
-    ("1m\n+\nx", 5, START, "byte 5: ", NUMBER),
-    ("1\n2", 2, AFTER_NUMBER, "byte 2: ", UNITS),
-];
-
-/// Whether the text is refused for this cause, and its fault prints the line after the byte.
-fn names_the_byte(
-    alloc: Global,
-    text: &str,
-    cause: Cause,
-    byte: &str,
-    line: &str,
-) -> Result<bool, AllocError> {
-    let Some(fault) = refusal(text, OFF, cause) else {
-        return Ok(false);
-    };
-    let mut wanted = String::from_str(alloc, byte)?;
-    wanted.push_str(line)?;
-    is_printed(alloc, fault, &wanted)
-}
-
-#[test]
-fn names_the_byte_where_there_are_lines(rt: HostRuntime) {
-    for &(text, place, expected, byte, line) in &IN_LINES {
-        let cause = syntax(place, expected);
-        let answer = names_the_byte(rt.alloc(), text, cause, byte, line);
-        holds_in_memory(&rt, text, answer);
+fn names_the_operators_that_are_mixed(rt: HostRuntime) {
+    for &(text, cause, line) in &[
+        (
+            "1m 2s*3",
+            PLUS_THEN_STAR,
+            "not support '+' with '*' calculate",
+        ),
+        (
+            "1m+2*99999999999999999999",
+            PLUS_THEN_STAR,
+            "not support '+' with '*' calculate",
+        ),
+        (
+            "1m*2s 3",
+            STAR_THEN_PLUS,
+            "not support '*' with '+' calculate",
+        ),
+        (
+            "1m*2*3+4",
+            STAR_THEN_PLUS,
+            "not support '*' with '+' calculate",
+        ),
+    ] {
+        holds_in_memory(
+            &rt,
+            text,
+            is_caused(rt.alloc(), (text, OFF, cause), 0, line),
+        );
     }
 }
 
@@ -318,12 +237,8 @@ fn refuses_what_is_printed_at_the_limit(rt: HostRuntime) {
     let mut buffer = [0; 64];
     let printed = write_human(&Duration::new(18_446_744_073, 709_551_616), &mut buffer);
     for choice in 0..8u8 {
-        let options = Options {
-            no_calc: choice & 1 != 0,
-            lowercase: choice & 2 != 0,
-            cn_unit: choice & 4 != 0,
-        };
-        holds(&rt, printed, refusal(printed, options, OVERFLOW).is_some());
+        let refusal = refusal(printed, options_of(choice), OVERFLOW);
+        holds(&rt, printed, refusal.is_some());
     }
 }
 

@@ -4,7 +4,7 @@ ghost use Rattle.std.specs.Str.{IsCharBoundary};
 ghost use Rattle.duration_str.specs.Faults.{place_of};
 
 use crate::assertions::{holds, holds_in_memory, is_human_format, prints};
-use crate::vectors::{AFTER_NUMBER, syntax};
+use crate::shared::{AFTER_NUMBER, syntax};
 use duration_str::{
     Cause, Fault, HumanFormat, after_naive_date, after_naive_date_time, before_naive_date,
     before_naive_date_time,

@@ -1,6 +1,6 @@
 // The names and lengths of units, operators, and tokens.
 use crate::assertions::{holds, holds_in_memory, prints};
-use crate::vectors::OFF;
+use crate::shared::OFF;
 use duration_str::TimeUnit::{
     Day, Hour, MicroSecond, MilliSecond, Minute, Month, NanoSecond, Quarter, Second, Week, Year,
 };

@@ -1,0 +1,116 @@
+// The rows of `rust/vectors.json`, which the tests of all languages use: texts with what they are
+// read as, and texts with why they are refused.
+use crate::shared::syntax;
+use crate::vectors::VECTORS;
+use duration_str::{Cause, Expected, Options, TimeUnit};
+use serde_json::Value;
+use std::alloc::Global;
+
+/// The file. Null stands for a file that is no JSON, and has no rows.
+pub fn vectors(alloc: Global) -> Value {
+    Value::from_str(alloc, VECTORS).unwrap_or(Value::Null)
+}
+
+/// The items of the list with this name.
+pub fn listed<'a>(value: &'a Value, name: &str) -> &'a [Value] {
+    items(value.get(name))
+}
+
+/// The items of the list at this index of a row.
+pub fn list_at(row: &Value, at: usize) -> &[Value] {
+    items(row.get(at))
+}
+
+fn items(list: Option<&Value>) -> &[Value] {
+    match list {
+        Some(Value::Array(items)) => items.as_slice(),
+        _ => &[],
+    }
+}
+
+/// The text at this index of a row. It is empty if there is null.
+pub fn text_at(row: &Value, at: usize) -> &str {
+    row.get(at).and_then(Value::as_str).unwrap_or("")
+}
+
+/// The number at this index of a row, unless there is null.
+pub fn number_at(row: &Value, at: usize) -> Option<u64> {
+    row.get(at)?.as_u64()
+}
+
+/// The place at this index of a row, unless there is null.
+pub fn place_at(row: &Value, at: usize) -> Option<usize> {
+    usize::try_from(number_at(row, at)?).ok()
+}
+
+/// Whether this word is in a list of words.
+pub fn has(words: &[Value], word: &str) -> bool {
+    words.iter().any(|each| each.as_str() == Some(word))
+}
+
+/// The options with these bits.
+pub fn options_of(bits: u8) -> Options {
+    Options {
+        no_calc: bits & 1 != 0,
+        lowercase: bits & 2 != 0,
+        cn_unit: bits & 4 != 0,
+    }
+}
+
+/// The options that are named in a list of words.
+pub fn named_options(words: &[Value]) -> Options {
+    Options {
+        no_calc: has(words, "no_calc"),
+        lowercase: has(words, "lowercase"),
+        cn_unit: has(words, "cn_unit"),
+    }
+}
+
+/// Whether all options that are on in `wanted` are on here.
+pub fn includes(o: Options, wanted: Options) -> bool {
+    (o.no_calc || !wanted.no_calc)
+        && (o.lowercase || !wanted.lowercase)
+        && (o.cn_unit || !wanted.cn_unit)
+}
+
+/// Whether no option is on here and in `other`.
+pub fn excludes(o: Options, other: Options) -> bool {
+    !(o.no_calc && other.no_calc)
+        && !(o.lowercase && other.lowercase)
+        && !(o.cn_unit && other.cn_unit)
+}
+
+/// The default unit that is named in a list of words, or the second. It is `None` if units are
+/// required.
+pub fn named_unit(words: &[Value]) -> Option<TimeUnit> {
+    if has(words, "require_unit") {
+        return None;
+    }
+    let name = words.iter().find_map(unit_name).unwrap_or("s");
+    TimeUnit::from_word(name, options_of(0))
+}
+
+fn unit_name(word: &Value) -> Option<&str> {
+    word.as_str()?.strip_prefix("default_unit=")
+}
+
+/// The cause of a refused row, unless it is a mixture, whose operators the row doesn't name.
+pub fn cause_of(row: &Value) -> Option<Cause> {
+    let place = place_at(row, 3);
+    match text_at(row, 2) {
+        "EMPTY" => Some(Cause::Empty),
+        "SYNTAX" => Some(syntax(place?, expected_of(list_at(row, 5)))),
+        "NUMBER_TOO_LARGE" => Some(Cause::NumberTooLarge { place }),
+        "OVERFLOW" => Some(Cause::Overflow { place }),
+        _ => None,
+    }
+}
+
+fn expected_of(kinds: &[Value]) -> Expected {
+    Expected {
+        number: has(kinds, "number"),
+        unit_word: has(kinds, "unit"),
+        operator: has(kinds, "operator"),
+        text_end: has(kinds, "end"),
+    }
+}
