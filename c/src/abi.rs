@@ -3,7 +3,7 @@
 #![deny(clippy::no_mangle_with_rust_abi)]
 use crate::{answer::Answer, breakdown, format, message, unit};
 use core::mem::{MaybeUninit, offset_of, zeroed};
-use core::{ptr::copy_nonoverlapping, slice::from_raw_parts};
+use core::slice::from_raw_parts;
 
 // The fields lie where C looks for them.
 const _: () = assert!(offset_of!(Answer, has_place) == 16 + 2 * size_of::<usize>());
@@ -21,6 +21,7 @@ unsafe fn bytes<'a>(start: *const u8, len: usize) -> &'a [u8] {
 /// caller's buffer, which C may not have initialised. Rust may make no reference to such memory,
 /// since a reference must point to a valid value (the Rust Reference, "Behavior considered
 /// undefined").
+#[cfg(not(target_family = "wasm"))]
 fn written<const SIZE: usize>(
     out: &mut MaybeUninit<[u8; SIZE]>,
     write: impl FnOnce(&mut [u8; SIZE]) -> usize,
@@ -28,8 +29,19 @@ fn written<const SIZE: usize>(
     let mut buffer = [0; SIZE];
     let length = write(&mut buffer);
     let text = &buffer[..=length.min(SIZE - 1)];
-    unsafe { copy_nonoverlapping(text.as_ptr(), out.as_mut_ptr().cast(), text.len()) };
+    unsafe {
+        core::ptr::copy_nonoverlapping(text.as_ptr(), out.as_mut_ptr().cast(), text.len());
+    }
     length
+}
+
+/// Lets a call write to the caller's buffer. All memory of WebAssembly is initialised.
+#[cfg(target_family = "wasm")]
+fn written<const SIZE: usize>(
+    out: &mut MaybeUninit<[u8; SIZE]>,
+    write: impl FnOnce(&mut [u8; SIZE]) -> usize,
+) -> usize {
+    write(unsafe { out.assume_init_mut() })
 }
 
 #[unsafe(no_mangle)]
