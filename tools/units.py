@@ -1,4 +1,4 @@
-"""Reads the table of units in crates/duration_str/specs/Units.antt."""
+"""Reads the tables of units in crates/duration_str/specs: Units.antt and Humantime.antt."""
 import pathlib
 import re
 import typing
@@ -8,6 +8,8 @@ ROW = re.compile(
     r'^row_of (\w+) = record \{ nanos = (\w+); printed = codes "(.*?)"; names = (.*?); chinese = (.*?) \}$',
     re.M,
 )
+
+FURTHER = re.compile(r"^humantime_row_of (\w+) = .*?with_names \((.*?)\) \(row_of \w+\)", re.M)
 
 
 class Unit(typing.NamedTuple):
@@ -30,3 +32,13 @@ def table():
     ):
         names, chinese = (re.findall('"(.*?)"', row) for row in words)
         yield Unit(variant, int(length), printed, names[-2], names, chinese)
+
+
+def humantime():
+    """The units with humantime's further names. The lengths and the printed names are those of
+    `table`.
+    """
+    text = (CRATE / "specs/Humantime.antt").read_text(encoding="utf-8")
+    further = {variant: re.findall('"(.*?)"', names) for variant, names in FURTHER.findall(text)}
+    for unit in table():
+        yield unit._replace(names=further.get(unit.variant, []) + unit.names)

@@ -1,10 +1,11 @@
 -- Examples that were worked out by hand, and are computed here: the values of texts, the causes for which others are
 -- refused, and the texts of durations.
-use Rattle.duration_str.proofs.Common.{ALL, answer, answer_with, Bool, Cause, codes, Compact, counts_of, Empty, encode_utf8_all, Err, Expected, false, flat_map, if◌then◌else◌, length, List, Long, map, MAX_LONG_LEN, MAX_PRINTED_LEN, message_of, Mixed, nanos_of, nat_lt, None, nonzero, NumberTooLarge, off, Ok, older_row_of, older_unit_of_word, Options, OutOfRange, Overflow, Plus, printed_counts, Quarter, refl, replicate, Result, row_of, Short, Some, Star, Style, Syntax, TimeUnit, true, unit_lengths, unit_of_word, units, units_within, [], ℕ, ◌++◌, ◌∷◌, ◌≡◌}
+use Rattle.duration_str.proofs.Common.{ALL, answer, answer_in, answer_with, Bool, Cause, codes, Compact, counts_of, Empty, encode_utf8_all, Err, Expected, false, flat_map, if◌then◌else◌, length, List, Long, map, MAX_LONG_LEN, MAX_PRINTED_LEN, message_of, Mixed, nanos_of, nat_lt, None, nonzero, NumberTooLarge, off, Ok, older_row_of, older_unit_of_word, Options, OutOfRange, Overflow, Plus, printed_counts, Quarter, refl, replicate, Result, row_of, Short, Some, Star, Style, Syntax, TimeUnit, true, unit_lengths, unit_of_word, units, units_within, [], ℕ, ◌++◌, ◌∷◌, ◌≡◌}
 use Rattle.duration_str.specs.declared.format.Format.{Format}
 use Rattle.duration_str.specs.declared.unit.TimeUnit.TheVariants.{Day, Hour, MicroSecond, MilliSecond, Minute, Month, NanoSecond, Second, Week, Year}
 use Rattle.duration_str.specs.Breakdown.{sum_of_parts}
 use Rattle.duration_str.specs.Format.{chosen, intersection, counts_within, down_to, is_in, lengths_within, set_of, shorter_units, text_within, up_to, whole_format, without_unit}
+use Rattle.duration_str.specs.Humantime.{humantime_row_of}
 use Rattle.duration_str.specs.OneLine.{is_letter, is_plain, one_line_of}
 use Rattle.duration_str.specs.Report.{report_of}
 use Rattle.duration_str.proofs.Characters.UnitLemmas.{Each, each_unit}
@@ -251,6 +252,46 @@ pub record DefaultUnits : Type 0 where
 
 pub default_units : DefaultUnits
 default_units = assumption
+
+-- ---- humantime's units
+
+abbrev as_humantime : List ℕ → Result ℕ Cause
+as_humantime = answer_in humantime_row_of None with_lowercase
+
+pub record HumantimeUnits : Type 0 where
+  -- how many names each unit has
+  pub names-counted : map (λ u. length (humantime_row_of u).names) units
+      ≡ 5 ∷ 3 ∷ 4 ∷ 5 ∷ 3 ∷ 5 ∷ 5 ∷ 5 ∷ 5 ∷ 8 ∷ 5 ∷ []
+  -- each name of humantime, by the length of its unit
+  pub names-below_second : as_humantime (codes "1nanos1nsec1ns1usec1us1µs1millis1msec1ms") ≡ Ok 3_003_003
+  pub names-seconds : as_humantime (codes "1seconds1second1secs1sec1s") ≡ Ok 5_000_000_000
+  pub names-minutes : as_humantime (codes "1minutes1minute1min1mins1m") ≡ Ok 300_000_000_000
+  pub names-hours : as_humantime (codes "1hours1hour1hr1hrs1h") ≡ Ok 18_000_000_000_000
+  pub names-days : as_humantime (codes "1days1day1d") ≡ Ok 259_200_000_000_000
+  pub names-weeks : as_humantime (codes "1weeks1week1wk1wks1w") ≡ Ok 3_024_000_000_000_000
+  pub names-months : as_humantime (codes "1months1month1M") ≡ Ok 7_890_048_000_000_000
+  pub names-years : as_humantime (codes "1years1year1yr1yrs1y") ≡ Ok 157_788_000_000_000_000
+  -- names that only the library has
+  pub own-quarter_and_month : as_humantime (codes "1q 1mon") ≡ Ok 10_492_416_000_000_000
+  pub capital_and_small : as_humantime (codes "1M + 1m") ≡ Ok 2_630_076_000_000_000
+  pub product : as_humantime (codes "5mins * 2s") ≡ Ok 600_000_000_000
+  -- what humantime prints for 365 days
+  pub printed-365_days : as_humantime (codes "11months 30days 3h 50m 24s") ≡ Ok 31_536_000_000_000_000
+  pub year-greatest : as_humantime (codes "584y") ≡ Ok 18_429_638_400_000_000_000
+  pub year-overflow : as_humantime (codes "585y") ≡ Err (Overflow (Some 0))
+  pub other_capital-refused : as_humantime (codes "1H") ≡ Err (Syntax 1 unit_alone)
+  pub capitals-refused : as_humantime (codes "1MM") ≡ Err (Syntax 1 unit_alone)
+  pub number_alone-refused : as_humantime (codes "5mins 30") ≡ Err (Syntax 8 unit_alone)
+  pub chinese : answer_in humantime_row_of None (record with_lowercase { cn_unit = true }) (codes "1年1月")
+      ≡ Ok 34_187_616_000_000_000
+  -- if capitals are read as small letters, `M` is a minute
+  pub folded : answer_in humantime_row_of None off (codes "1M 1MINS") ≡ Ok 120_000_000_000
+  -- humantime's names are no names elsewhere
+  pub elsewhere-refused : map (answer with_lowercase) (codes "1mins" ∷ codes "1M" ∷ codes "1yr" ∷ [])
+      ≡ Err (Syntax 1 after_number) ∷ Err (Syntax 1 after_number) ∷ Err (Syntax 1 after_number) ∷ []
+
+pub humantime_units : HumantimeUnits
+humantime_units = assumption
 
 -- ---- In a format
 

@@ -9,8 +9,9 @@ use Rattle.duration_str.specs.declared.cause.Expected.{Expected}
 use Rattle.duration_str.specs.Text.{Characters, byte_len}
 use Rattle.duration_str.specs.Grammar.{Terminal, number, word, operator, other}
 use Rattle.duration_str.specs.Tokens.{tokens_of}
-use Rattle.duration_str.specs.Place.{start_after, terminals_of}
-use Rattle.duration_str.specs.Value.{terms_of, value_of}
+use Rattle.duration_str.specs.Place.{start_after, terminals_in}
+use Rattle.duration_str.specs.Units.{Table, row_of}
+use Rattle.duration_str.specs.Value.{terms_in, value_of}
 use Rattle.duration_str.specs.OneTerm.{fault_or}
 use Rattle.duration_str.specs.Reading.{early_fault, late_fault}
 
@@ -72,26 +73,30 @@ is_whole default_unit no_calc front (terminal ∷ rest) = false
 
 -- the answer to a sentence: the fault of its evaluation, or its value. If there is no fault there is a value, so the 0
 -- is never used
-abbrev pub late_answer : Option TimeUnit → Option Cause → List Terminal → Result ℕ Cause
-late_answer default_unit fault terminals =
-    fault_or fault (Ok (unwrap_or (value_of (terms_of default_unit terminals)) 0))
+abbrev pub late_answer : Table → Option TimeUnit → Option Cause → List Terminal → Result ℕ Cause
+late_answer rows default_unit fault terminals =
+    fault_or fault (Ok (unwrap_or (value_of (terms_in rows default_unit terminals)) 0))
 
 -- the answer to this front and the rest after it, which starts at byte `place`
-abbrev pub answer_at : Option TimeUnit → Bool → ℕ → List Terminal → List Terminal → Result ℕ Cause
-answer_at default_unit no_calc place front rest =
-    fault_or (early_fault default_unit no_calc front rest)
+abbrev pub answer_at : Table → Option TimeUnit → Bool → ℕ → List Terminal → List Terminal → Result ℕ Cause
+answer_at rows default_unit no_calc place front rest =
+    fault_or (early_fault rows default_unit no_calc front rest)
     (if is_whole default_unit no_calc front rest
-    then late_answer default_unit (late_fault default_unit no_calc front) front
+    then late_answer rows default_unit (late_fault rows default_unit no_calc front) front
     else Err (Syntax place (expected_after default_unit no_calc (last_of None front))))
 
--- the answer to a text with this default unit: its value in nanoseconds, or the cause of its refusal
-abbrev pub answer_with : Option TimeUnit → Options → Characters → Result ℕ Cause
-answer_with default_unit o [] = Err Empty
-answer_with default_unit o (c ∷ text) =
-    let terminals = terminals_of o (c ∷ text) in
+-- the answer to a text with this table and this default unit: its value in nanoseconds, or the cause of its refusal
+abbrev pub answer_in : Table → Option TimeUnit → Options → Characters → Result ℕ Cause
+answer_in rows default_unit o [] = Err Empty
+answer_in rows default_unit o (c ∷ text) =
+    let terminals = terminals_in rows o (c ∷ text) in
     let n = front_of default_unit o.no_calc terminals in
-    answer_at default_unit o.no_calc (start_after n (byte_len (c ∷ text)) (tokens_of o (c ∷ text)))
+    answer_at rows default_unit o.no_calc (start_after n (byte_len (c ∷ text)) (tokens_of o (c ∷ text)))
     (take n terminals) (drop n terminals)
+
+-- `answer_in`, with the library's own table of units
+abbrev pub answer_with : Option TimeUnit → Options → Characters → Result ℕ Cause
+answer_with = answer_in row_of
 
 -- `answer_with`, with the second as the default unit
 abbrev pub answer : Options → Characters → Result ℕ Cause

@@ -6,7 +6,7 @@ use Rattle.duration_str.specs.declared.unit.TimeUnit.{TimeUnit}
 use Rattle.duration_str.specs.declared.unit.TimeUnit.TheVariants.{Second}
 use Rattle.duration_str.specs.declared.operator.CondUnit.{CondUnit}
 use Rattle.duration_str.specs.Text.{Characters, is_digit, is_unit_letter, operator_of, IsBlank, number_of}
-use Rattle.duration_str.specs.Units.{unit_of_word}
+use Rattle.duration_str.specs.Units.{Table, row_of, unit_in}
 
 -- A symbol of the grammar. No sentence contains `other`, or a word that names no unit.
 pub data Terminal : Type 0 where
@@ -34,9 +34,13 @@ terminal_by unit_of o (c ∷ cs) =
     else if list_all (is_unit_letter o) (c ∷ cs) then word (unit_of o (c ∷ cs))
     else sign_terminal (c ∷ cs)
 
--- the terminal that these characters stand for, by the table of units
+-- the terminal that these characters stand for, by this table of units
+abbrev pub terminal_in : Table → Options → Characters → Terminal
+terminal_in rows = terminal_by (unit_in rows)
+
+-- the terminal that these characters stand for
 abbrev pub terminal_of : Options → Characters → Terminal
-terminal_of o w = terminal_by unit_of_word o w
+terminal_of = terminal_in row_of
 
 -- The terminals are a sentence S of this grammar:
 -- S = Number | Number Unit | Number Op S | Number Unit Op S | Number Unit S
@@ -68,10 +72,15 @@ abbrev pub Spells : List Characters → Characters → Type 0
 Spells [] text = IsBlank text
 Spells (w ∷ lexemes) text = BeginsWith w (Spells lexemes) text
 
--- With this default unit the lexemes are a sentence of the options' grammar, and they spell the text.
+-- With this table of units and this default unit the lexemes are a sentence of the options' grammar, and they spell the
+-- text.
+abbrev pub IsSentenceIn : Table → Option TimeUnit → Options → List Characters → Characters → Type 0
+IsSentenceIn rows default_unit o lexemes text =
+    IsSentence default_unit o.no_calc (map (terminal_in rows o) lexemes) × Spells lexemes text
+
+-- `IsSentenceIn`, with the library's own table of units.
 abbrev pub IsSentenceWith : Option TimeUnit → Options → List Characters → Characters → Type 0
-IsSentenceWith default_unit o lexemes text =
-    IsSentence default_unit o.no_calc (map (terminal_of o) lexemes) × Spells lexemes text
+IsSentenceWith = IsSentenceIn row_of
 
 -- `IsSentenceWith`, with the second as the default unit.
 abbrev pub IsSentenceOf : Options → List Characters → Characters → Type 0

@@ -5,12 +5,17 @@ use Rattle.duration_str.specs.declared.unit.TimeUnit.{TimeUnit}
 use Rattle.duration_str.specs.declared.operator.CondUnit.{CondUnit}
 use Rattle.duration_str.specs.declared.cause.Expected.{Expected}
 use Rattle.duration_str.specs.Text.{Characters}
-use Rattle.duration_str.specs.Grammar.{Terminal, terminal_of, IsSentence, number, word, operator}
+use Rattle.duration_str.specs.Grammar.{Terminal, terminal_in, IsSentence, number, word, operator}
 use Rattle.duration_str.specs.Tokens.{Token, tokens_of, lexemes_of}
+use Rattle.duration_str.specs.Units.{Table, row_of}
 
--- the terminals of a text: what its tokens stand for
+-- the terminals of a text: what its tokens stand for, by this table of units
+abbrev pub terminals_in : Table → Options → Characters → List Terminal
+terminals_in rows o text = map (terminal_in rows o) (lexemes_of (tokens_of o text))
+
+-- the terminals of a text
 abbrev pub terminals_of : Options → Characters → List Terminal
-terminals_of o text = map (terminal_of o) (lexemes_of (tokens_of o text))
+terminals_of = terminals_in row_of
 
 -- Some sentence starts with these terminals.
 abbrev pub BeginsSentence : Option TimeUnit → Bool → List Terminal → Type 0

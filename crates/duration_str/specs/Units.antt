@@ -33,9 +33,17 @@ row_of NanoSecond = record { nanos = 1; printed = codes "ns"; names = codes "ns"
 abbrev pub units : List TimeUnit
 units = Year ∷ Quarter ∷ Month ∷ Week ∷ Day ∷ Hour ∷ Minute ∷ Second ∷ MilliSecond ∷ MicroSecond ∷ NanoSecond ∷ []
 
+-- A table of units. Texts are read by the table above, except where another one is named.
+abbrev pub Table : Type 0
+Table = TimeUnit → UnitRow
+
+-- the length of a unit in nanoseconds, by this table
+abbrev pub nanos_in : Table → TimeUnit → ℕ
+nanos_in rows u = (rows u).nanos
+
 -- the length of a unit in nanoseconds
 abbrev pub nanos_of : TimeUnit → ℕ
-nanos_of u = (row_of u).nanos
+nanos_of = nanos_in row_of
 
 -- how many units are longer than this one
 abbrev pub rank_of : TimeUnit → ℕ
@@ -55,10 +63,18 @@ is_in_row o word row =
     list_any (bytes_eq (comparison_form o word)) row.names
     || (o.cn_unit && list_any (bytes_eq (comparison_form o word)) row.chinese)
 
+-- whether the word is a name of the unit, by this table
+abbrev pub is_named_in : Table → Options → Characters → TimeUnit → Bool
+is_named_in rows o word u = is_in_row o word (rows u)
+
 -- whether the word is a name of the unit
 abbrev pub is_named : Options → Characters → TimeUnit → Bool
-is_named o word u = is_in_row o word (row_of u)
+is_named = is_named_in row_of
+
+-- the unit that a word names, by this table
+abbrev pub unit_in : Table → Options → Characters → Option TimeUnit
+unit_in rows o word = find (is_named_in rows o word) units
 
 -- the unit that a word names
 abbrev pub unit_of_word : Options → Characters → Option TimeUnit
-unit_of_word o word = find (is_named o word) units
+unit_of_word = unit_in row_of

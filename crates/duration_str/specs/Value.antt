@@ -9,8 +9,8 @@ use Rattle.duration_str.specs.declared.operator.CondUnit.TheVariants.{Plus, Star
 use Rattle.duration_str.specs.declared.cause.Cause.{Cause}
 use Rattle.duration_str.specs.declared.cause.Cause.TheVariants.{NumberTooLarge, Overflow, Mixed}
 use Rattle.duration_str.specs.Text.{Characters}
-use Rattle.duration_str.specs.Units.{nanos_of}
-use Rattle.duration_str.specs.Grammar.{Terminal, number, word, operator, terminal_of}
+use Rattle.duration_str.specs.Units.{Table, row_of, nanos_in, nanos_of}
+use Rattle.duration_str.specs.Grammar.{Terminal, number, word, operator, terminal_in}
 
 -- a term: the operator before it, its number, and its unit's length in nanoseconds
 pub record Term : Type 0 where
@@ -38,17 +38,25 @@ terms_by length_of default_unit op (number n ∷ more) =
 terms_by length_of default_unit op (operator next ∷ more) = terms_by length_of default_unit next more
 terms_by length_of default_unit op _ = []
 
--- the terms that these terminals write after the operator `op`
-abbrev pub terms_after : Option TimeUnit → CondUnit → List Terminal → List Term
-terms_after default_unit op terminals = terms_by nanos_of default_unit op terminals
+-- the terms that these terminals write after the operator `op`, by this table of units
+abbrev pub terms_after : Table → Option TimeUnit → CondUnit → List Terminal → List Term
+terms_after rows default_unit op terminals = terms_by (nanos_in rows) default_unit op terminals
 
--- the terms of a sentence. The operator of the first term is plus, and means nothing
+-- the terms of a sentence, by this table of units. The operator of the first term is plus, and means nothing
+abbrev pub terms_in : Table → Option TimeUnit → List Terminal → List Term
+terms_in rows default_unit terminals = terms_after rows default_unit Plus terminals
+
+-- the terms of a sentence
 abbrev pub terms_of : Option TimeUnit → List Terminal → List Term
-terms_of default_unit terminals = terms_after default_unit Plus terminals
+terms_of = terms_in row_of
 
--- the terms that the lexemes of a sentence write, with this default unit
+-- the terms that the lexemes of a sentence write, with this table and this default unit
+abbrev pub terms_written : Table → Option TimeUnit → Options → List Characters → List Term
+terms_written rows default_unit o lexemes = terms_in rows default_unit (map (terminal_in rows o) lexemes)
+
+-- `terms_written`, with the library's own table of units
 abbrev pub terms_with : Option TimeUnit → Options → List Characters → List Term
-terms_with default_unit o lexemes = terms_of default_unit (map (terminal_of o) lexemes)
+terms_with = terms_written row_of
 
 -- `terms_with`, with the second as the default unit
 abbrev pub written_terms : Options → List Characters → List Term

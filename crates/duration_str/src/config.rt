@@ -65,6 +65,7 @@ fn optional_text<'a>(value: &'a Value) -> Result<Option<&'a str>, Fault<'a>>
 impl<'de> DeserializeDuration<'de> for Duration {
     ghost gives = { IsRequired (λ d. pos (as_nanos d)) };
 
+    #[tactic(auto, using(crate::proofs::Sentences::AnswerLemmas::parses_as))]
     fn deserialize_duration(value: &'de Value) -> Result<Duration, Fault<'de>> {
         match value.as_str() {
             Some(text) => parse(text),
@@ -87,6 +88,7 @@ impl<'de> DeserializeDuration<'de> for SignedDuration {
 impl<'de> DeserializeDuration<'de> for Option<Duration> {
     ghost gives = { IsOptional (λ d. pos (as_nanos d)) };
 
+    #[tactic(auto, using(crate::proofs::Sentences::AnswerLemmas::parses_as))]
     fn deserialize_duration(value: &'de Value) -> Result<Option<Duration>, Fault<'de>> {
         match optional_text(value)? {
             Some(text) => parse(text).map(Some),

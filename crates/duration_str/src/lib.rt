@@ -10,6 +10,7 @@ pub mod ext;
 mod eye;
 mod fault;
 mod format;
+mod humantime;
 pub mod laws;
 mod message;
 mod one_line;
@@ -21,6 +22,8 @@ pub mod printing;
 mod reader;
 mod report;
 mod signed;
+mod table;
+mod term;
 pub mod token;
 pub mod top;
 pub mod unit;
@@ -31,8 +34,8 @@ pub use ext::HumanFormat;
 pub use format::{Format, Style, Units};
 pub use one_line::{MAX_ONE_LINE_LEN, ONE_LINE_BUFFER_SIZE};
 pub use parser::{
-    Cause, Expected, Fault, parse, parse_looked, parse_nanos, parse_nanos_specialized, parse_std,
-    parse_with, parse_with_default_unit,
+    Cause, Expected, Fault, parse, parse_humantime_specialized, parse_looked, parse_nanos,
+    parse_nanos_specialized, parse_std, parse_with, parse_with_default_unit,
 };
 pub use printing::{
     FORMAT_BUFFER_SIZE, MAX_LONG_LEN, MAX_PRINTED_LEN, STYLED_BUFFER_SIZE, write_format,

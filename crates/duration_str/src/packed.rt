@@ -6,6 +6,7 @@ ghost use Rattle.std.specs.Str.{chars};
 ghost use Rattle.duration_str.specs.Text.{is_unit_letter, is_chinese};
 ghost use Rattle.duration_str.specs.Internal.Positions.{letter_number, wide_number};
 ghost use Rattle.duration_str.specs.Internal.UnitTable.{unit_of_packed};
+ghost use Rattle.duration_str.specs.Units.{row_of};
 ghost use Rattle.duration_str.specs.declared.unit.TimeUnit.{TimeUnit};
 
 use crate::options::Options;
@@ -95,14 +96,15 @@ pub(crate) fn first_number(c: char, o: Options) -> u64
 }
 
 /// The digit for an ASCII letter: its code modulo 32, which is 1 to 26 for small letters and for capitals. Under
-/// `lowercase` capitals have a digit that no letter of a name has.
+/// `lowercase` `M` has a digit of its own, since it is a name of humantime, and the other capitals have a digit that no
+/// letter of a name has.
 #[inline(always)]
 fn ascii_number(c: char, o: Options) -> u64
     requires { is_ascii_alphabetic c ≡ true }
     ensures { result ≡ letter_number o c }
 {
     if o.lowercase && c < 'a' {
-        return CAPITAL;
+        return if c == 'M' { CAPITAL_M } else { CAPITAL };
     }
     u64::from(c as u32 % 32)
 }
@@ -135,13 +137,16 @@ fn wide_number(c: char, cn_unit: bool) -> u64
     }
 }
 
-/// The digit for a capital under `lowercase`.
-const CAPITAL: u64 = 39;
+/// The digit for a capital under `lowercase`, except `M`. It is the digit of `z`, which is in no name.
+const CAPITAL: u64 = 26;
+
+/// The digit for `M` under `lowercase`.
+const CAPITAL_M: u64 = 39;
 
 /// The unit with a name that packs to this number.
 #[inline]
 pub(crate) fn unit_of_packed(packed: u64) -> Option<TimeUnit>
-    ensures { result ≡ unit_of_packed packed }
+    ensures { result ≡ unit_of_packed row_of packed }
 {
     // The product is computed in 128 bits, which the compiler turns into one multiplication of 64
     // bits.

@@ -2,7 +2,9 @@
 ghost use Rattle.std.specs.Prelude.{◌≡◌, ◌≤◌, length, Some, None, IfErr, OnOk};
 ghost use Rattle.std.specs.Str.{chars};
 ghost use Rattle.duration_str.specs.Results.{ParsesText, ParsesWith};
-ghost use Rattle.duration_str.specs.OtherResults.{ReadsWith, ReachesPlace};
+ghost use Rattle.duration_str.specs.OtherResults.{ReadsIn, ReadsWith, ReachesPlace};
+ghost use Rattle.duration_str.specs.Humantime.{humantime_row_of};
+ghost use Rattle.duration_str.specs.Internal.UnitTable.{rows_of};
 ghost use Rattle.duration_str.specs.Options.{off};
 ghost use Rattle.duration_str.specs.declared.unit.TimeUnit.TheVariants.{Second};
 
@@ -10,6 +12,7 @@ pub use crate::cause::{Cause, Expected};
 pub use crate::fault::Fault;
 use crate::options::Options;
 use crate::reader::read;
+use crate::table::UnitTable;
 use crate::token::Tokens;
 use crate::unit::TimeUnit;
 use std::time::Duration;
@@ -179,7 +182,30 @@ pub fn parse_nanos_specialized(
 ) -> Result<u64, Fault<'_>>
     ensures { ReadsWith default_unit o input.now result }
 {
-    read_text(input, o, default_unit).0
+    read_text(input, UnitTable::Own, o, default_unit).0
+}
+
+/// Reads a text by the names and the lengths of the units of the crate humantime, and returns the duration in
+/// nanoseconds.
+///
+/// A month has 30.44 days and a year 365.25. Each number needs a unit. The library's own names are read too, and `+` and
+/// `*`. For humantime's texts turn on `lowercase`, so that `1M` is a month and `1m` a minute. As with
+/// `parse_nanos_specialized`, the compiler makes a copy of the reader for each call in the source.
+///
+/// # Errors
+///
+/// It returns a [`Fault`] if the text means no duration.
+///
+/// ```text
+/// let case_sensitive = Options { lowercase: true, ..Options::off() };
+/// parse_humantime_specialized("1M 5mins", case_sensitive) // Ok(2_630_316_000_000_000)
+/// parse_humantime_specialized("90", case_sensitive).unwrap_err().cause().place() // Some(2)
+/// ```
+#[inline(always)]
+pub fn parse_humantime_specialized(input: &str, o: Options) -> Result<u64, Fault<'_>>
+    ensures { ReadsIn humantime_row_of None o input.now result }
+{
+    read_text(input, UnitTable::Humantime, o, None).0
 }
 
 /// Returns what `parse_with` returns, and how many times a character of the text was looked at.
@@ -197,17 +223,18 @@ pub fn parse_looked(input: &str, o: Options) -> (Result<Duration, Fault<'_>>, u6
     ensures whole { OnOk result.0 (result.1 ≡ length (chars input.now)) }
     ensures reaches { IfErr result.0 (λ f. ReachesPlace input.now f.cause result.1) }
 {
-    let (answer, looks) = read_text(input, o, Some(TimeUnit::Second));
+    let (answer, looks) = read_text(input, UnitTable::Own, o, Some(TimeUnit::Second));
     (answer.map(Duration::from_nanos), looks)
 }
 
 #[inline(always)]
 fn read_text(
     input: &str,
+    table: UnitTable,
     o: Options,
     default_unit: Option<TimeUnit>,
 ) -> (Result<u64, Fault<'_>>, u64)
-    ensures reads { ReadsWith default_unit o input.now result.0 }
+    ensures reads { ReadsIn (rows_of table) default_unit o input.now result.0 }
     ensures once { result.1 ≤ length (chars input.now) }
     ensures whole { OnOk result.0 (result.1 ≡ length (chars input.now)) }
     ensures reaches { IfErr result.0 (λ f. ReachesPlace input.now f.cause result.1) }
@@ -220,7 +247,7 @@ fn read_text(
         return (Err(fault), 0);
     }
     let mut tokens = Tokens::new(input, o);
-    match read(&mut tokens, o.no_calc, default_unit) {
+    match read(&mut tokens, table, o.no_calc, default_unit) {
         Ok(nanos) => (Ok(nanos), tokens.looked()),
         Err(cause) => (Err(Fault { text: input, cause }), tokens.looked()),
     }

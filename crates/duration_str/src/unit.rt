@@ -1,16 +1,11 @@
 //! The units of time and their names, with the options and operators that are used with them.
 ghost use Rattle.std.specs.Prelude.{◌≡◌, ◌/◌, ◌%◌, None, Some, encode_utf8_all};
 ghost use Rattle.std.specs.Fmt.{padded};
-ghost use Rattle.std.specs.Str.{chars};
-ghost use Rattle.duration_str.specs.Text.{number_of};
-ghost use Rattle.duration_str.specs.OneTerm.{IsNumber, term_of, term_answer};
 ghost use Rattle.duration_str.specs.declared.unit.TimeUnit.TheVariants.{Second};
 ghost use Rattle.duration_str.specs.Units.{nanos_of, rank_of, row_of};
 ghost use Rattle.duration_str.specs.Printing.{long_name};
 ghost use Rattle.duration_str.specs.Internal.UnitTable.{printed_row};
-ghost use Rattle.duration_str.specs.Internal.Numbers.{checked_term};
 
-use crate::cause::Cause;
 pub use crate::operator::CondUnit;
 pub use crate::options::Options;
 use std::fmt;
@@ -138,35 +133,6 @@ impl TimeUnit {
         ensures { result.now ≡ printed_row self }
     {
         &PRINTED[self.rank()]
-    }
-
-    /// Returns the nanoseconds of a term with this number and this unit. The number must be a nonempty run of digits.
-    ///
-    /// # Errors
-    ///
-    /// It returns `NumberTooLarge` if the number is 2^64 or more, and otherwise `Overflow` if the value is 2^64 or
-    /// more. Neither has a place.
-    ///
-    /// ```
-    /// assert_eq!(duration_str::TimeUnit::Hour.value("2"), Ok(7_200_000_000_000));
-    /// ```
-    pub fn value(self, number: &str) -> Result<u64, Cause>
-        requires { IsNumber (chars number.now) }
-        ensures { result ≡ term_answer None (term_of (number_of (chars number.now)) self) }
-    {
-        self.times(number.parse::<u64>().ok(), None)
-    }
-
-    /// The nanoseconds of a term with this number and this unit. `number` is `None` if it is 2^64 or more, and `place`
-    /// is the place of the error.
-    #[inline]
-    pub(crate) fn times(self, number: Option<u64>, place: Option<usize>) -> Result<u64, Cause>
-        ensures { result ≡ checked_term place number (nanos_of self) }
-    {
-        let Some(n) = number else {
-            return Err(Cause::NumberTooLarge { place });
-        };
-        n.checked_mul(self.nanos()).ok_or(Cause::Overflow { place })
     }
 }
 

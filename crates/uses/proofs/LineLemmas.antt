@@ -14,7 +14,12 @@ chars_line bytes utf8 = chars-append bytes (10 ∷ []) utf8
 read_as_before : BlanksFree → (old new : List ℕ)
     → ((o : Options) (lexemes : List (List ℕ)) → IsSentenceOf o lexemes old → Spells lexemes new)
     → IsReadAsBefore old new
-read_as_before free old new spells = search rules
+read_as_before free old new spells = record {
+  value = λ o nanos read.
+      free.value (Some Second) o old new read.lexemes nanos read.spells (spells o read.lexemes read.spells) read;
+  cause = λ o lexemes cause s refused.
+      free.cause (Some Second) o old new lexemes cause s (spells o lexemes s) refused;
+}
 
 -- ---- A line feed more
 

@@ -17,6 +17,8 @@ mod eye;
 mod fault;
 #[forbid(unsafe_code)]
 mod format;
+#[forbid(unsafe_code)]
+mod humantime;
 #[allow(unsafe_code)] // Blocks: 1.
 mod message;
 #[allow(unsafe_code)] // Blocks: 1.
@@ -36,6 +38,8 @@ mod reader;
 #[forbid(unsafe_code)]
 mod report;
 #[forbid(unsafe_code)]
+mod table;
+#[forbid(unsafe_code)]
 mod token;
 #[forbid(unsafe_code)]
 mod unit;
@@ -44,8 +48,8 @@ pub use self::breakdown::Breakdown;
 pub use self::format::{Format, Style, Units};
 pub use self::one_line::{MAX_ONE_LINE_LEN, ONE_LINE_BUFFER_SIZE};
 pub use self::parser::{
-    Cause, Expected, Fault, parse, parse_looked, parse_nanos, parse_nanos_specialized, parse_std,
-    parse_with, parse_with_default_unit,
+    Cause, Expected, Fault, parse, parse_humantime_specialized, parse_looked, parse_nanos,
+    parse_nanos_specialized, parse_std, parse_with, parse_with_default_unit,
 };
 pub use self::printing::{
     FORMAT_BUFFER_SIZE, MAX_LONG_LEN, MAX_PRINTED_LEN, STYLED_BUFFER_SIZE, write_format,

@@ -73,11 +73,12 @@ pub(crate) fn first_number(c: char, o: Options) -> u64 {
 }
 
 /// The digit for an ASCII letter: its code modulo 32, which is 1 to 26 for small letters and for capitals. Under
-/// `lowercase` capitals have a digit that no letter of a name has.
+/// `lowercase` `M` has a digit of its own, since it is a name of humantime, and the other capitals have a digit that no
+/// letter of a name has.
 #[inline(always)]
 fn ascii_number(c: char, o: Options) -> u64 {
     if o.lowercase && c < 'a' {
-        return CAPITAL;
+        return if c == 'M' { CAPITAL_M } else { CAPITAL };
     }
     u64::from(c as u32 % 32)
 }
@@ -108,8 +109,11 @@ fn wide_number(c: char, cn_unit: bool) -> u64 {
     }
 }
 
-/// The digit for a capital under `lowercase`.
-const CAPITAL: u64 = 39;
+/// The digit for a capital under `lowercase`, except `M`. It is the digit of `z`, which is in no name.
+const CAPITAL: u64 = 26;
+
+/// The digit for `M` under `lowercase`.
+const CAPITAL_M: u64 = 39;
 
 /// The unit with a name that packs to this number.
 #[inline]

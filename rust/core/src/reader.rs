@@ -3,6 +3,7 @@
 
 use crate::cause::{Cause, Expected};
 use crate::operator::CondUnit;
+use crate::table::UnitTable;
 use crate::token::{TokenStart, Tokens};
 use crate::unit::TimeUnit;
 
@@ -19,12 +20,17 @@ type Later = Result<Option<(CondUnit, u64)>, Cause>;
 #[inline(always)]
 pub(crate) fn read(
     tokens: &mut Tokens<'_>,
+    table: UnitTable,
     no_calc: bool,
     default_unit: Option<TimeUnit>,
 ) -> Result<u64, Cause> {
     expect_number(tokens)?;
     let number = tokens.take_number();
-    let value = read_unit(tokens, no_calc, default_unit)?.times(number, Some(0))?;
+    let value = table.times(
+        read_unit(tokens, table, no_calc, default_unit)?,
+        number,
+        Some(0),
+    )?;
     let (first, mut later) = if no_calc {
         (0, Ok(Some((CondUnit::Plus, value))))
     } else {
@@ -32,8 +38,8 @@ pub(crate) fn read(
     };
     while let Some(next) = read_operator(tokens, no_calc)? {
         let number = tokens.take_number();
-        let unit = read_unit(tokens, no_calc, default_unit)?;
-        later = with_term(later, next, number, unit);
+        let unit = read_unit(tokens, table, no_calc, default_unit)?;
+        later = with_term(later, next, number, table, unit);
         if no_calc {
             later?;
         }
@@ -58,6 +64,7 @@ fn expect_number(tokens: &mut Tokens<'_>) -> Result<(), Cause> {
 #[inline(always)]
 fn read_unit(
     tokens: &mut Tokens<'_>,
+    table: UnitTable,
     no_calc: bool,
     default_unit: Option<TimeUnit>,
 ) -> Result<TimeUnit, Cause> {
@@ -66,7 +73,7 @@ fn read_unit(
     };
     let place = tokens.place();
     match sort {
-        TokenStart::Word => match tokens.take_word() {
+        TokenStart::Word => match tokens.take_word(table) {
             Some(unit) => Ok(unit),
             None => Err(no_unit(place, no_calc, default_unit)),
         },
@@ -124,9 +131,15 @@ fn no_operator(place: usize, no_calc: bool) -> Cause {
 
 /// Adds one more term to the later terms. `next` is the operator before it.
 #[inline(always)]
-fn with_term(later: Later, next: CondUnit, number: Option<u64>, unit: TimeUnit) -> Later {
+fn with_term(
+    later: Later,
+    next: CondUnit,
+    number: Option<u64>,
+    table: UnitTable,
+    unit: TimeUnit,
+) -> Later {
     let Some((operator, total)) = later? else {
-        return Ok(Some((next, unit.times(number, None)?)));
+        return Ok(Some((next, table.times(unit, number, None)?)));
     };
     if next != operator {
         return Err(Cause::Mixed {
@@ -134,7 +147,7 @@ fn with_term(later: Later, next: CondUnit, number: Option<u64>, unit: TimeUnit) 
             later: next,
         });
     }
-    let value = unit.times(number, None)?;
+    let value = table.times(unit, number, None)?;
     Ok(Some((next, within(combination(next, total, value))?)))
 }
 

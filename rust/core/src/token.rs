@@ -5,8 +5,9 @@ use crate::eye::Eye;
 use crate::operator::CondUnit;
 use crate::options::Options;
 use crate::packed::{
-    MODULUS, MOST_BYTES, first_number, is_unit_letter, letter_number, unit_of_packed, with_letter,
+    MODULUS, MOST_BYTES, first_number, is_unit_letter, letter_number, with_letter,
 };
+use crate::table::UnitTable;
 use crate::unit::TimeUnit;
 
 /// What a token is: a number, a word with the unit that it names, an operator, or another character.
@@ -195,14 +196,15 @@ impl<'a> Tokens<'a> {
         packed
     }
 
+    /// Takes the word ahead. Returns the unit that it names in this table, if any.
     #[inline(always)]
-    pub(crate) fn take_word(&mut self) -> Option<TimeUnit> {
+    pub(crate) fn take_word(&mut self, table: UnitTable) -> Option<TimeUnit> {
         let start = self.eye.place();
         let packed = self.take_letters();
         if self.eye.place() - start > MOST_BYTES {
             return None;
         }
-        unit_of_packed(packed)
+        table.unit_of_packed(packed)
     }
 
     #[inline(always)]
@@ -212,7 +214,7 @@ impl<'a> Tokens<'a> {
                 let _ = self.take_number();
                 What::Number
             }
-            TokenStart::Word => What::Word(self.take_word()),
+            TokenStart::Word => What::Word(self.take_word(UnitTable::Own)),
             TokenStart::Operator(operator) => {
                 self.advance();
                 What::Operator(operator)

@@ -1,7 +1,6 @@
 // Made by tools/erase of crates/duration_str/src/unit.rt.
 //! The units of time and their names, with the options and operators that are used with them.
 
-use crate::cause::Cause;
 pub use crate::operator::CondUnit;
 pub use crate::options::Options;
 use core::fmt;
@@ -116,16 +115,6 @@ impl TimeUnit {
     #[inline(always)]
     pub(crate) fn printed(self) -> &'static Printed {
         &PRINTED[self.rank()]
-    }
-
-    /// The nanoseconds of a term with this number and this unit. `number` is `None` if it is 2^64 or more, and `place`
-    /// is the place of the error.
-    #[inline]
-    pub(crate) fn times(self, number: Option<u64>, place: Option<usize>) -> Result<u64, Cause> {
-        let Some(n) = number else {
-            return Err(Cause::NumberTooLarge { place });
-        };
-        n.checked_mul(self.nanos()).ok_or(Cause::Overflow { place })
     }
 }
 

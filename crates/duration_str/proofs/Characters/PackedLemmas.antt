@@ -1,6 +1,5 @@
 -- Lemmas about packed names and their slots in the table.
-use Rattle.duration_str.proofs.Common.{all_names, and_from, and_parts, ap, arith, Bool, byte_len, bytes_eq, cases_Bool, chinese_letters, comparison_form, eq-eqb, eqb, eqb-true, false, false_from_ne_true, get_or, if◌then◌else◌, inl, inr, is_ascii_uppercase, is_chinese, is_named, is_unit_letter, leb, leb-true, length, length-reverse, letter_number, List, list_all, list_any, list_any-append, lit<, map, nat_tests, None, not, number_in, off, Options, or_cases, or_parts, packed_number, packed_number_after, packs_to, pow-le-pow_right, pow-succ', refl, reverse-reverse, row_of, rules, Some, SPREAD, suc, sym, TimeUnit, to_ascii_lowercase, true, unit_of_word, units, width, zero, [], ℕ, ◌%◌, ◌&&◌, ◌*◌, ◌+◌, ◌-◌, ◌/◌, ◌<◌, ◌==◌, ◌^◌, ◌||◌, ◌∙◌, ◌∷◌, ◌≡◌, ◌≤◌}
-use Rattle.std.proofs.Math.Bool.{or-true}
+use Rattle.duration_str.proofs.Common.{all_names_in, and_from, and_parts, ap, arith, Bool, byte_len, bytes_eq, cases_Bool, chinese_letters, UnitTable, comparison_form, eq-eqb, eqb, eqb-true, false, false_from_ne_true, get_or, if◌then◌else◌, inl, inr, Humantime, is_chinese, is_named, is_named_in, is_unit_letter, leb, leb-true, length, length-reverse, letter_number, List, list_all, list_any, list_any-append, lit<, map, nat_tests, None, number_in, off, Options, or_cases, Own, packed_number, packed_number_after, packs_to, pow-le-pow_right, pow-succ', refl, reverse-reverse, row_of, rows_of, rules, Some, suc, sym, Table, TimeUnit, to_ascii_lowercase, true, unit_in, unit_of_word, units, width, [], ℕ, ◌%◌, ◌&&◌, ◌*◌, ◌+◌, ◌-◌, ◌/◌, ◌<◌, ◌==◌, ◌^◌, ◌||◌, ◌∙◌, ◌∷◌, ◌≡◌, ◌≤◌, ◌⊎◌}
 use mathlib.Core.List.{reverse, reverse_aux}
 use Rattle.duration_str.specs.Internal.UnitTable.{unit_of_packed}
 use Rattle.std.proofs.lemmas.List.{get_or-map, length-map}
@@ -9,21 +8,32 @@ use Rattle.duration_str.proofs.Characters.UnitLemmas.{all_units, among_all, name
 
 -- ---- the numbers of letters
 
+-- the options under which names are packed
+abbrev pub kept_capitals : Options
+kept_capitals = record off { lowercase = true }
+
 abbrev wide_letters : List ℕ
 wide_letters = 0xB5 ∷ chinese_letters
-
-abbrev is_small_letter : ℕ → Bool
-is_small_letter c = leb 97 c && leb c 122
 
 abbrev is_wide_letter : ℕ → Bool
 is_wide_letter c = list_any (λ d. d == c) wide_letters
 
--- whether a character is a letter of the units' names
+abbrev is_between : ℕ → ℕ → ℕ → Bool
+is_between first last c = leb first c && leb c last
+
+-- whether a character is a letter of the units' names: a small letter except `z`, `M`, or a letter beyond ASCII
 abbrev is_name_letter : ℕ → Bool
-is_name_letter c = is_small_letter c || is_wide_letter c
+is_name_letter c = is_between 97 121 c || (is_between 77 77 c || is_wide_letter c)
+
+abbrev are_name_letters : List ℕ → Bool
+are_name_letters cs = list_all is_name_letter cs
+
+-- whether a character is a unit letter under some options
+abbrev is_letter : ℕ → Bool
+is_letter c = is_between 97 122 c || (is_between 65 90 c || is_wide_letter c)
 
 abbrev are_letters : List ℕ → Bool
-are_letters cs = list_all is_name_letter cs
+are_letters cs = list_all is_letter cs
 
 number_in-above : (n : ℕ) (ds : List ℕ) (c : ℕ) → list_any (λ d. d == c) ds ≡ true → n ≤ number_in n ds c
 number_in-above n [] c h = absurd cc
@@ -38,26 +48,67 @@ number_in-same n (d ∷ ds) x y h k e =
 letter_number-below : (o : Options) (c : ℕ) → letter_number o c < 40
 letter_number-below o c = search rules
 
-small_number : (c : ℕ) → is_small_letter c ≡ true → (letter_number off c ≡ c - 96) × (97 ≤ c) × (c ≤ 122)
-small_number c e = search (rules)
+wide_digit : (c : ℕ) → is_wide_letter c ≡ true
+    → (letter_number kept_capitals c ≡ number_in 27 wide_letters c) × (27 ≤ number_in 27 wide_letters c)
+    × (number_in 27 wide_letters c ≤ 38)
+wide_digit c e = search rules
 
-large_number : (c : ℕ) → is_wide_letter c ≡ true
-    → (letter_number off c ≡ number_in 27 wide_letters c) × (27 ≤ number_in 27 wide_letters c)
-large_number c e = search rules
+small_digit : (c : ℕ) → is_between 97 122 c ≡ true
+    → (letter_number kept_capitals c ≡ c - 96) × (97 ≤ c) × (c ≤ 122)
+small_digit c e = search (rules)
 
-letter_number-some : (c : ℕ) → is_name_letter c ≡ true → 0 < letter_number off c
+capital_digit : (c : ℕ) → is_between 65 90 c ≡ true
+    → ((c ≡ 77) × (letter_number kept_capitals c ≡ 39)) ⊎ (letter_number kept_capitals c ≡ 26)
+capital_digit c e = search (rules, cases_Bool, eqb-true)
+
+small_name_digit : (c : ℕ) → is_between 97 121 c ≡ true
+    → (letter_number kept_capitals c ≡ c - 96) × (97 ≤ c) × (c ≤ 121)
+small_name_digit c e = search (rules)
+
+capital_name_digit : (c : ℕ) → is_between 77 77 c ≡ true → (c ≡ 77) × (letter_number kept_capitals c ≡ 39)
+capital_name_digit c e = search (rules)
+
+letter_number-some : (c : ℕ) → is_letter c ≡ true → 0 < letter_number kept_capitals c
 letter_number-some c h = search rules
 
-letter_number-same : (x y : ℕ) → is_name_letter x ≡ true → is_name_letter y ≡ true
-    → letter_number off x ≡ letter_number off y → x ≡ y
-letter_number-same x y h k e = elim (or_cases (is_small_letter x) (is_wide_letter x) h) [
-  | inl small ↦ let first = small_number x small in elim (or_cases (is_small_letter y) (is_wide_letter y) k) [
-    | inl too ↦ let second = small_number y too in omega arith
-    | inr wide ↦ let second = large_number y wide in absurd (omega arith)
+name_letter-letter : (c : ℕ) → is_name_letter c ≡ true → is_letter c ≡ true
+name_letter-letter c h = search rules
+
+-- a letter with the digit of a name's letter is that letter
+letter_number-same : (x y : ℕ) → is_letter x ≡ true → is_name_letter y ≡ true
+    → letter_number kept_capitals x ≡ letter_number kept_capitals y → x ≡ y
+letter_number-same x y h k e = elim (or_cases (is_between 97 122 x) _ h) [
+  | inl small ↦ let first = small_digit x small in elim (or_cases (is_between 97 121 y) _ k) [
+    | inl too ↦ let second = small_name_digit y too in omega arith
+    | inr other ↦ elim (or_cases (is_between 77 77 y) _ other) [
+      | inl capital ↦ let second = capital_name_digit y capital in absurd (omega arith)
+      | inr wide ↦ let second = wide_digit y wide in absurd (omega arith)
+    ]
   ]
-  | inr wide ↦ let first = large_number x wide in elim (or_cases (is_small_letter y) (is_wide_letter y) k) [
-    | inl small ↦ let second = small_number y small in absurd (omega arith)
-    | inr too ↦ number_in-same 27 wide_letters x y wide too (sym first.0 ∙ e ∙ (large_number y too).0)
+  | inr larger ↦ elim (or_cases (is_between 65 90 x) _ larger) [
+    | inl capital ↦ elim (capital_digit x capital) [
+      | inl first ↦ elim (or_cases (is_between 97 121 y) _ k) [
+        | inl small ↦ let second = small_name_digit y small in absurd (omega arith)
+        | inr other ↦ elim (or_cases (is_between 77 77 y) _ other) [
+          | inl too ↦ let second = capital_name_digit y too in omega arith
+          | inr wide ↦ let second = wide_digit y wide in absurd (omega arith)
+        ]
+      ]
+      | inr first ↦ elim (or_cases (is_between 97 121 y) _ k) [
+        | inl small ↦ let second = small_name_digit y small in absurd (omega arith)
+        | inr other ↦ elim (or_cases (is_between 77 77 y) _ other) [
+          | inl too ↦ let second = capital_name_digit y too in absurd (omega arith)
+          | inr wide ↦ let second = wide_digit y wide in absurd (omega arith)
+        ]
+      ]
+    ]
+    | inr wide ↦ let first = wide_digit x wide in elim (or_cases (is_between 97 121 y) _ k) [
+      | inl small ↦ let second = small_name_digit y small in absurd (omega arith)
+      | inr other ↦ elim (or_cases (is_between 77 77 y) _ other) [
+        | inl capital ↦ let second = capital_name_digit y capital in absurd (omega arith)
+        | inr too ↦ number_in-same 27 wide_letters x y wide too (sym first.0 ∙ e ∙ (wide_digit y too).0)
+      ]
+    ]
   ]
 ]
 
@@ -73,10 +124,11 @@ packed_turned : (o : Options) (cs done : List ℕ)
 packed_turned o [] done = refl
 packed_turned o (c ∷ cs) done = packed_turned o cs (c ∷ done)
 
-letters_turned : (cs done : List ℕ) → are_letters cs ≡ true → are_letters done ≡ true
-    → are_letters (reverse_aux cs done) ≡ true
-letters_turned [] done h k = k
-letters_turned (c ∷ cs) done h k = let b = and_parts _ _ h in letters_turned cs (c ∷ done) b.1 (and_from _ _ b.0 k)
+passes_turned : (test : ℕ → Bool) (cs done : List ℕ) → list_all test cs ≡ true → list_all test done ≡ true
+    → list_all test (reverse_aux cs done) ≡ true
+passes_turned test [] done h k = k
+passes_turned test (c ∷ cs) done h k =
+    let b = and_parts _ _ h in passes_turned test cs (c ∷ done) b.1 (and_from _ _ b.0 k)
 
 below : (o : Options) (cs : List ℕ) → packed_back o cs < 40 ^ length cs
 below o [] = omega arith
@@ -88,30 +140,36 @@ exact o w n h e =
     let pow : 40 ^ length w ≤ 40 ^ 12 = pow-le-pow_right (lit< tt) h in
     omega (arith, rw (length-reverse w) at (below o (reverse w)), packed_turned o w [], pow, e)
 
-same_back : (xs ys : List ℕ) → are_letters xs ≡ true → are_letters ys ≡ true → packed_back off xs ≡ packed_back off ys
-    → xs ≡ ys
+same_back : (xs ys : List ℕ) → are_letters xs ≡ true → are_name_letters ys ≡ true
+    → packed_back kept_capitals xs ≡ packed_back kept_capitals ys → xs ≡ ys
 same_back [] [] h k e = refl
-same_back [] (y ∷ ys) h k e = absurd (omega (arith, letter_number-some y (and_parts _ _ k).0, e))
+same_back [] (y ∷ ys) h k e =
+    absurd (omega (arith, letter_number-some y (name_letter-letter y (and_parts _ _ k).0), e))
 same_back (x ∷ xs) [] h k e = absurd (omega (arith, letter_number-some x (and_parts _ _ h).0, e))
 same_back (x ∷ xs) (y ∷ ys) h k e =
-    let bx = and_parts (is_name_letter x) (are_letters xs) h in
-    let by = and_parts (is_name_letter y) (are_letters ys) k in
-    let number : letter_number off x ≡ letter_number off y =
-    omega (arith, letter_number-below off x, letter_number-below off y, e) in
+    let bx = and_parts (is_letter x) (are_letters xs) h in
+    let by = and_parts (is_name_letter y) (are_name_letters ys) k in
+    let number : letter_number kept_capitals x ≡ letter_number kept_capitals y =
+    omega (arith, letter_number-below kept_capitals x, letter_number-below kept_capitals y, e) in
     cc (letter_number-same x y bx.0 by.0 number, same_back xs ys bx.1 by.1 (omega (arith, number, e)))
 
--- Two words whose letters all occur in names are equal if their packed numbers are equal.
-packed_same : (xs ys : List ℕ) → are_letters xs ≡ true → are_letters ys ≡ true
-    → packed_number off xs ≡ packed_number off ys → xs ≡ ys
+-- A word with the packed number of a name is that name.
+packed_same : (xs ys : List ℕ) → are_letters xs ≡ true → are_name_letters ys ≡ true
+    → packed_number kept_capitals xs ≡ packed_number kept_capitals ys → xs ≡ ys
 packed_same xs ys h k e =
-    let turned : reverse xs ≡ reverse ys = same_back (reverse xs) (reverse ys) (letters_turned xs [] h refl)
-    (letters_turned ys [] k refl) (sym (packed_turned off xs []) ∙ e ∙ packed_turned off ys []) in
+    let turned : reverse xs ≡ reverse ys = same_back (reverse xs) (reverse ys) (passes_turned is_letter xs [] h refl)
+    (passes_turned is_name_letter ys [] k refl)
+    (sym (packed_turned kept_capitals xs []) ∙ e ∙ packed_turned kept_capitals ys []) in
     cc (turned, reverse-reverse xs, reverse-reverse ys)
 
--- ---- a word in small letters
+-- ---- a word in the form that is compared with names
 
-lower_number : (c : ℕ) → letter_number off (to_ascii_lowercase c) ≡ letter_number off c
+lower_number : (c : ℕ) → letter_number kept_capitals (to_ascii_lowercase c) ≡ letter_number off c
 lower_number c = search (rules)
+
+lower_letter : (o : Options) (c : ℕ) → is_unit_letter o c ≡ true
+    → (is_letter c ≡ true) × (is_letter (to_ascii_lowercase c) ≡ true)
+lower_letter o c h = search rules
 
 -- a character that stands for a digit is a unit letter, and this is its digit
 pub numbered_letter : (o : Options) (c n : ℕ) → Some n ≡ (if is_unit_letter o c then Some (letter_number o c) else None)
@@ -123,55 +181,113 @@ pub unnumbered : (o : Options) (c : ℕ) → None ≡ (if is_unit_letter o c the
     → is_unit_letter o c ≡ false
 unnumbered o c is = false_from_ne_true _ (λ letter. let some = rw letter at is in absurd cc)
 
-lower_word : (o : Options) (w : List ℕ) → list_all (is_unit_letter o) w ≡ true
-    → are_letters (map to_ascii_lowercase w) ≡ true
-lower_word o [] e = refl
-lower_word o (c ∷ cs) e = search (rules, and_parts, and_from, lower_word o cs)
+form_letters : (o : Options) (w : List ℕ) → list_all (is_unit_letter o) w ≡ true
+    → are_letters (comparison_form o w) ≡ true
+form_letters o w h = elim (cases_Bool o.lowercase) [
+  | inl on ↦ rw on (kept w h)
+  | inr off ↦ rw off (lower w h)
+]
+  where
+    kept : (w : List ℕ) → list_all (is_unit_letter o) w ≡ true → are_letters w ≡ true
+    kept [] e = refl
+    kept (c ∷ cs) e =
+        let b = and_parts _ _ e in and_from _ _ (lower_letter o c b.0).0 (kept cs b.1)
 
-lower_packed : (n : ℕ) (w : List ℕ)
-    → packed_number_after off n (map to_ascii_lowercase w) ≡ packed_number_after off n w
-lower_packed n [] = refl
-lower_packed n (c ∷ cs) = rw (lower_packed (n * 40 + letter_number off (to_ascii_lowercase c)) cs, lower_number c)
+    lower : (w : List ℕ) → list_all (is_unit_letter o) w ≡ true → are_letters (map to_ascii_lowercase w) ≡ true
+    lower [] e = refl
+    lower (c ∷ cs) e =
+        let b = and_parts _ _ e in and_from _ _ (lower_letter o c b.0).1 (lower cs b.1)
+
+-- a word has the packed number of the form that is compared with the names
+form_packed : (o : Options) (w : List ℕ) → packed_number o w ≡ packed_number kept_capitals (comparison_form o w)
+form_packed o w = elim (cases_Bool o.lowercase) [
+  | inl on ↦ let same : comparison_form o w ≡ w = rw on refl in rw same (kept on 0 w)
+  | inr folded ↦
+      let same : comparison_form o w ≡ map to_ascii_lowercase w = rw folded refl in rw same (lower folded 0 w)
+]
+  where
+    kept : o.lowercase ≡ true → (n : ℕ) (w : List ℕ)
+        → packed_number_after o n w ≡ packed_number_after kept_capitals n w
+    kept on n [] = refl
+    kept on n (c ∷ cs) =
+        let same : letter_number o c ≡ letter_number kept_capitals c = rw on refl in
+        rw same (kept on (n * 40 + letter_number kept_capitals c) cs)
+
+    lower : o.lowercase ≡ false → (n : ℕ) (w : List ℕ)
+        → packed_number_after o n w ≡ packed_number_after kept_capitals n (map to_ascii_lowercase w)
+    lower folded n [] = refl
+    lower folded n (c ∷ cs) =
+        let same : letter_number o c ≡ letter_number off c = rw folded refl in
+        rw (same, ← lower_number c) (lower folded (n * 40 + letter_number kept_capitals (to_ascii_lowercase c)) cs)
 
 -- ---- a word is a name if both have the same packed number
 
-name_test : (v name : List ℕ) → are_letters v ≡ true → are_letters name ≡ true
-    → bytes_eq v name ≡ packs_to (packed_number off v) name
+name_test : (v name : List ℕ) → are_letters v ≡ true → are_name_letters name ≡ true
+    → bytes_eq v name ≡ packs_to (packed_number kept_capitals v) name
 name_test v name letters own = search (rules, eq-eqb, eqb-true, packed_same)
+
+names_test : (v : List ℕ) (names : List (List ℕ)) → are_letters v ≡ true → list_all are_name_letters names ≡ true
+    → list_any (bytes_eq v) names ≡ list_any (packs_to (packed_number kept_capitals v)) names
+names_test v [] letters own = refl
+names_test v (name ∷ names) letters own =
+    let parts = and_parts (are_name_letters name) _ own in
+    rw (name_test v name letters parts.0, names_test v names letters parts.1)
+
+letters_in_table : (table : UnitTable) (u : TimeUnit) → list_all are_name_letters (all_names_in (rows_of table) u) ≡ true
+letters_in_table Own = all_units (λ u. list_all are_name_letters (all_names_in (rows_of Own) u)) refl
+letters_in_table Humantime = all_units (λ u. list_all are_name_letters (all_names_in (rows_of Humantime) u)) refl
+
+-- each Chinese name has a Chinese character
+chinese_in_table : (table : UnitTable) (u : TimeUnit) → list_all (list_any is_chinese) (rows_of table u).chinese ≡ true
+chinese_in_table Own = all_units (λ u. list_all (list_any is_chinese) (rows_of Own u).chinese) refl
+chinese_in_table Humantime = all_units (λ u. list_all (list_any is_chinese) (rows_of Humantime u).chinese) refl
 
 -- without `cn_unit` a word of unit letters has no Chinese character, so it is no Chinese name
 no_chinese_letter : (o : Options) (w : List ℕ) → o.cn_unit ≡ false → list_all (is_unit_letter o) w ≡ true
-    → list_any is_chinese (map to_ascii_lowercase w) ≡ false
-no_chinese_letter o [] off e = refl
-no_chinese_letter o (c ∷ cs) off e = search (rules, and_parts, no_chinese_letter o cs off)
+    → list_any is_chinese (comparison_form o w) ≡ false
+no_chinese_letter o w off e = elim (cases_Bool o.lowercase) [
+  | inl on ↦ rw on (kept w e)
+  | inr folded ↦ rw folded (lower w e)
+]
+  where
+    kept : (w : List ℕ) → list_all (is_unit_letter o) w ≡ true → list_any is_chinese w ≡ false
+    kept [] h = refl
+    kept (c ∷ cs) h = search (rules, and_parts, kept cs)
 
-no_chinese_name : (o : Options) (w : List ℕ) (u : TimeUnit) → o.cn_unit ≡ false → list_all (is_unit_letter o) w ≡ true
-    → list_any (bytes_eq (map to_ascii_lowercase w)) (row_of u).chinese ≡ false
-no_chinese_name o w u off e = search (rules, no_chinese_letter)
+    lower : (w : List ℕ) → list_all (is_unit_letter o) w ≡ true → list_any is_chinese (map to_ascii_lowercase w) ≡ false
+    lower [] h = refl
+    lower (c ∷ cs) h = search (rules, and_parts, lower cs)
 
-no_capital : (w : List ℕ) → list_any is_ascii_uppercase w ≡ false → map to_ascii_lowercase w ≡ w
-no_capital [] e = refl
-no_capital (c ∷ w) e = search (rules, or_parts, no_capital w)
+no_chinese_name : (table : UnitTable) (o : Options) (w : List ℕ) (u : TimeUnit) → o.cn_unit ≡ false
+    → list_all (is_unit_letter o) w ≡ true
+    → list_any (bytes_eq (comparison_form o w)) (rows_of table u).chinese ≡ false
+no_chinese_name table o w u off e = false_from_ne_true _ (λ named. cc (
+  no_chinese_letter o w off e,
+  named_passes (list_any is_chinese) (comparison_form o w) (rows_of table u).chinese (chinese_in_table table u) named,
+))
 
-form_lower : (o : Options) (w : List ℕ) → (o.lowercase && list_any is_ascii_uppercase w) ≡ false
-    → comparison_form o w ≡ map to_ascii_lowercase w
-form_lower o w e = elim (cases_Bool o.lowercase) [ inl on ↦ rw (on, no_capital w (rw on at e)) | inr off ↦ rw off ]
-
-named_by_number : (o : Options) (w : List ℕ) (u : TimeUnit) → (o.lowercase && list_any is_ascii_uppercase w) ≡ false
-    → list_all (is_unit_letter o) w ≡ true → is_named o w u ≡ list_any (packs_to (packed_number off w)) (all_names u)
-named_by_number o w u folded letters =
-    search (rules, form_lower, list_any-append, lower_packed, lower_word, name_test, no_chinese_name)
+named_by_number : (table : UnitTable) (o : Options) (w : List ℕ) (u : TimeUnit) → list_all (is_unit_letter o) w ≡ true
+    → is_named_in (rows_of table) o w u ≡ list_any (packs_to (packed_number o w)) (all_names_in (rows_of table) u)
+named_by_number table o w u letters =
+    let form = comparison_form o w in
+    let all = names_test form (all_names_in (rows_of table) u) (form_letters o w letters) (letters_in_table table u) in
+    let parts = list_any-append (bytes_eq form) (rows_of table u).names in
+    rw (form_packed o w, ← all, parts) (elim (cases_Bool o.cn_unit) [
+      | inl on ↦ rw on
+      | inr off ↦ rw (off, no_chinese_name table o w u off letters)
+    ])
 
 -- ---- words that name no unit
 
 -- A word names no unit if all names pass a test that the word fails.
-pub no_name : (o : Options) (w : List ℕ) (test : List ℕ → Bool) → list_all (λ u. list_all test (all_names u)) units ≡ true
-    → test (comparison_form o w) ≡ false → None ≡ unit_of_word o w
-no_name o w test all fails =
-    let unnamed = λ (u : TimeUnit). false_from_ne_true (is_named o w u) (λ t. cc (
+pub no_name : (rows : Table) (o : Options) (w : List ℕ) (test : List ℕ → Bool)
+    → list_all (λ u. list_all test (all_names_in rows u)) units ≡ true
+    → test (comparison_form o w) ≡ false → None ≡ unit_in rows o w
+no_name rows o w test all fails =
+    let unnamed = λ (u : TimeUnit). false_from_ne_true (is_named_in rows o w u) (λ t. cc (
       fails,
-      named_passes test (comparison_form o w) (all_names u) (all_units (λ v. list_all test (all_names v)) all u)
-          (among_all o w u t),
+      named_passes test (comparison_form o w) (all_names_in rows u)
+          (all_units (λ v. list_all test (all_names_in rows v)) all u) (among_all rows o w u t),
     )) in
     simp unnamed
 
@@ -209,11 +325,6 @@ no_letter_name o w other =
     let unnamed = λ (u : TimeUnit). false_from_ne_true (is_named o w u) (λ t. cc (other, named_letters o w u t)) in
     simp unnamed
 
-pub no_capital_name : (o : Options) (w : List ℕ) → o.lowercase ≡ true → list_any is_ascii_uppercase w ≡ true
-    → None ≡ unit_of_word o w
-no_capital_name o w on capital =
-    no_name o w (λ name. not (list_any is_ascii_uppercase name)) refl (rw (on, capital) refl)
-
 byte_len-form : (o : Options) (w : List ℕ) → byte_len (comparison_form o w) ≡ byte_len w
 byte_len-form o w = elim (cases_Bool o.lowercase) [ inl on ↦ rw on refl | inr off ↦ rw off (lower w) ]
   where
@@ -222,98 +333,65 @@ byte_len-form o w = elim (cases_Bool o.lowercase) [ inl on ↦ rw on refl | inr 
     lower (c ∷ cs) =
         let same : width (to_ascii_lowercase c) ≡ width c = grind (arith, nat_tests) in rw (same, lower cs)
 
-pub no_long_name : (o : Options) (w : List ℕ) → 12 < byte_len w → None ≡ unit_of_word o w
-no_long_name o w long = no_name o w (λ name. leb (byte_len name) 12) refl
+short_names : (table : UnitTable)
+    → list_all (λ u. list_all (λ name. leb (byte_len name) 12) (all_names_in (rows_of table) u)) units ≡ true
+short_names Own = refl
+short_names Humantime = refl
+
+pub no_long_name : (table : UnitTable) (o : Options) (w : List ℕ) → 12 < byte_len w → None ≡ unit_in (rows_of table) o w
+no_long_name table o w long = no_name (rows_of table) o w (λ name. leb (byte_len name) 12) (short_names table)
     (false_from_ne_true _ (λ t. absurd (omega (arith, leb-true _ _ t, byte_len-form o w))))
-
--- unless the word has a capital under `lowercase`, its packed number is the same as with all options off
-same_packed : (o : Options) (n : ℕ) (w : List ℕ) → (o.lowercase && list_any is_ascii_uppercase w) ≡ false
-    → packed_number_after o n w ≡ packed_number_after off n w
-same_packed o n [] e = refl
-same_packed o n (c ∷ w) e =
-    let parts : ((o.lowercase && is_ascii_uppercase c) ≡ false) × ((o.lowercase && list_any is_ascii_uppercase w) ≡ false) =
-    grind arith in
-    rw (parts.0, same_packed o (n * 40 + letter_number off c) w parts.1) refl
-
--- whether one of the last k digits of a number, to the base 40, is 39, which stands for a capital under `lowercase`
-abbrev has_capital : ℕ → ℕ → Bool
-has_capital zero n = false
-has_capital (suc k) n = n % 40 == 39 || has_capital k (n / 40)
-
-capital_packed : (o : Options) (cs : List ℕ) (k : ℕ) → length cs ≤ k → (o.lowercase && list_any is_ascii_uppercase cs) ≡ true
-    → has_capital k (packed_back o cs) ≡ true
-capital_packed o [] k short capital = grind arith
-capital_packed o (c ∷ cs) zero short capital = absurd (omega (arith, short))
-capital_packed o (c ∷ cs) (suc k) short capital =
-    let last : packed_back o (c ∷ cs) % 40 ≡ letter_number o c = omega (arith, letter_number-below o c) in
-    let others : packed_back o (c ∷ cs) / 40 ≡ packed_back o cs = omega (arith, letter_number-below o c) in
-    elim (cases_Bool (o.lowercase && is_ascii_uppercase c)) [
-      | inl is ↦ rw (last, is) refl
-      | inr other ↦ let rest : (o.lowercase && list_any is_ascii_uppercase cs) ≡ true = grind arith in
-          rw (others, capital_packed o cs k (omega (arith, short)) rest) (or-true _)
-    ]
 
 -- if the packed numbers of all names pass a test, a number that fails the test is not that of a name
 absent : (test : ℕ → Bool) (n : ℕ) → test n ≡ false → (ns : List (List ℕ))
-    → list_all (λ name. test (packed_number off name)) ns ≡ true → list_any (packs_to n) ns ≡ false
+    → list_all (λ name. test (packed_number kept_capitals name)) ns ≡ true → list_any (packs_to n) ns ≡ false
 absent test n fails [] all = refl
 absent test n fails (name ∷ ns) all =
-    let parts = and_parts (test (packed_number off name)) _ all in
+    let parts = and_parts (test (packed_number kept_capitals name)) _ all in
     let other = false_from_ne_true (packs_to n name)
-    (λ e. let same = eqb-true (packed_number off name) n e in cc (fails, rw same at parts.0)) in
+    (λ e. let same = eqb-true (packed_number kept_capitals name) n e in cc (fails, rw same at parts.0)) in
     rw (other, absent test n fails ns parts.1)
 
-pub no_packed_name : (test : ℕ → Bool) (n : ℕ) → test n ≡ false
-    → list_all (λ u. list_all (λ name. test (packed_number off name)) (all_names u)) units ≡ true → None ≡ unit_of_packed n
+pub no_packed_name : (rows : Table) (test : ℕ → Bool) (n : ℕ) → test n ≡ false
+    → list_all (λ u. list_all (λ name. test (packed_number kept_capitals name)) (all_names_in rows u)) units ≡ true
+    → None ≡ unit_of_packed rows n
 unfolding unit_of_packed
-no_packed_name test n fails all =
-    let none = λ (u : TimeUnit). absent test n fails (all_names u)
-    (all_units (λ v. list_all (λ name. test (packed_number off name)) (all_names v)) all u) in
+no_packed_name rows test n fails all =
+    let none = λ (u : TimeUnit). absent test n fails (all_names_in rows u)
+    (all_units (λ v. list_all (λ name. test (packed_number kept_capitals name)) (all_names_in rows v)) all u) in
     simp none
 
-capital_turned : (cs done : List ℕ) → (list_any is_ascii_uppercase cs || list_any is_ascii_uppercase done) ≡ true
-    → list_any is_ascii_uppercase (reverse_aux cs done) ≡ true
-capital_turned [] done e = e
-capital_turned (c ∷ cs) done e = capital_turned cs (c ∷ done) (grind arith)
-
--- a word of at most 12 letters names the unit of its packed number
-pub unit_by_number : (o : Options) (w : List ℕ) → list_all (is_unit_letter o) w ≡ true → length w ≤ 12
-    → unit_of_word o w ≡ unit_of_packed (packed_number o w)
+-- a word of unit letters names the unit of its packed number
+pub unit_by_number : (table : UnitTable) (o : Options) (w : List ℕ) → list_all (is_unit_letter o) w ≡ true
+    → unit_in (rows_of table) o w ≡ unit_of_packed (rows_of table) (packed_number o w)
 unfolding unit_of_packed
-unit_by_number o w letters short = elim (cases_Bool (o.lowercase && list_any is_ascii_uppercase w)) [
-  | inr folded ↦ rw (same_packed o 0 w folded) (simp (λ (u : TimeUnit). named_by_number o w u folded letters))
-  | inl capital ↦
-      let parts = and_parts o.lowercase _ capital in
-      let packed : has_capital 12 (packed_number o w) ≡ true = rw (packed_turned o w [])
-      (capital_packed o (reverse w) 12 (rw (length-reverse w) short) (and_from _ _ parts.0 (capital_turned w [] (rw parts.1 refl)))) in
-      sym (no_capital_name o w parts.0 parts.1)
-      ∙ no_packed_name (λ n. not (has_capital 12 n)) (packed_number o w) (rw packed refl) refl
-]
+unit_by_number table o w letters = simp (λ (u : TimeUnit). named_by_number table o w u letters)
 
 -- ---- slots
 
-abbrev pub slot : ℕ → ℕ
-slot n = n * SPREAD / 2 ^ 57 % 128
+-- the slot of a packed number among 2 ^ bits slots
+abbrev pub slot : ℕ → ℕ → ℕ → ℕ
+slot bits spread n = n * spread / 2 ^ (64 - bits) % 2 ^ bits
 
 -- each slot holds the index of one of `count` names
-pub slot_below : (slots : List ℕ) (count i : ℕ) → length slots ≡ 128 → i < 128
+pub slot_below : (slots : List ℕ) (count i : ℕ) → i < length slots
     → list_all (λ s. leb (suc s) count) slots ≡ true → get_or slots i 0 < count
-slot_below slots count i long less all = elim (cases_Bool (leb (suc (get_or slots i 0)) count)) [
+slot_below slots count i less all = elim (cases_Bool (leb (suc (get_or slots i 0)) count)) [
   | inl is ↦ omega (arith, leb-true _ _ is)
-  | inr above ↦ absurd (cc (all, list_all_at (λ s. leb (suc s) count) slots i 0 (omega (arith, long, less)) above))
+  | inr above ↦ absurd (cc (all, list_all_at (λ s. leb (suc s) count) slots i 0 less above))
 ]
 
 -- the unit of a name in the table stands at the same index of the table of units
-pub name_found : (names : List ℕ) (table : List TimeUnit) (i m n : ℕ) (u : TimeUnit)
-    → map unit_of_packed names ≡ map Some table → i < length names → get_or names i m ≡ n
-    → Some (get_or table i u) ≡ unit_of_packed n
-name_found names table i m n u same less key =
+pub name_found : (rows : Table) (names : List ℕ) (table : List TimeUnit) (i m n : ℕ) (u : TimeUnit)
+    → map (unit_of_packed rows) names ≡ map Some table → i < length names → get_or names i m ≡ n
+    → Some (get_or table i u) ≡ unit_of_packed rows n
+name_found rows names table i m n u same less key =
     let many : length names ≡ length table =
-    sym (length-map names unit_of_packed) ∙ ap length same ∙ length-map table Some in
+    sym (length-map names (unit_of_packed rows)) ∙ ap length same ∙ length-map table Some in
     let there = get_or-map Some table i u None (omega (arith, many, less)) in
-    let here = get_or-map unit_of_packed names i m None less in
-    sym there ∙ ap (λ units. get_or units i None) (sym same) ∙ here ∙ ap unit_of_packed key
+    let here = get_or-map (unit_of_packed rows) names i m None less in
+    sym there ∙ ap (λ units. get_or units i None) (sym same) ∙ here ∙ ap (unit_of_packed rows) key
 
 -- whether the slot of a number holds the index of that number
-abbrev pub is_kept : List ℕ → List ℕ → ℕ → ℕ → ℕ → Bool
-is_kept slots names s m n = eqb (get_or names (get_or slots (slot n) s) m) n
+abbrev pub is_kept : ℕ → ℕ → List ℕ → List ℕ → ℕ → ℕ → ℕ → Bool
+is_kept bits spread slots names s m n = eqb (get_or names (get_or slots (slot bits spread n) s) m) n

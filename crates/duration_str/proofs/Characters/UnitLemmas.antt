@@ -1,5 +1,5 @@
 -- Lemmas about units and their names: as bytes and as characters, and with ASCII capitals.
-use Rattle.duration_str.proofs.Common.{all_names, and_parts, arith, Bool, byte_len, bytes_eq, bytes_eq-Decides, cases_Bool, common_steps, comparison_form, Day, encode_utf8_all, encodes, encodes_same, eqb, eqb-true, false, find, Hour, inl, inr, is_named, leb-true, length, List, list_all, list_any, list_any-append, map, map-append, MicroSecond, MilliSecond, Minute, Month, name_part, nanos_of, NanoSecond, not, Options, or_cases, Quarter, refl, row_of, rules, same_from_decides, Second, Some, Style, TimeUnit, to_ascii_lowercase, true, unit_of_word, units, Week, Year, [], ℕ, ⊤, ◌||◌, ◌∷◌, ◌≡◌, ◌≤◌}
+use Rattle.duration_str.proofs.Common.{all_names, all_names_in, and_parts, arith, Bool, byte_len, bytes_eq, bytes_eq-Decides, cases_Bool, common_steps, comparison_form, Day, encode_utf8_all, encodes, encodes_same, eqb, eqb-true, false, find, Hour, inl, inr, is_named, is_named_in, leb-true, length, List, list_all, list_any, list_any-append, map, map-append, MicroSecond, MilliSecond, Minute, Month, name_part, nanos_of, NanoSecond, not, Options, or_cases, Quarter, refl, row_of, rules, same_from_decides, Second, Some, Style, Table, TimeUnit, to_ascii_lowercase, true, unit_of_word, units, Week, Year, [], ℕ, ⊤, ◌||◌, ◌∷◌, ◌≡◌, ◌≤◌}
 use lib.Utf8.{encode}
 
 -- ---- A property that each unit in the table has is a property of every unit
@@ -74,9 +74,9 @@ named_passes test w [] all h = cc
 named_passes test w (name ∷ names) all h =
     search (rules, and_parts, or_cases, bytes_eq-Decides, named_passes test w names)
 
-pub among_all : (o : Options) (w : List ℕ) (u : TimeUnit) → is_named o w u ≡ true
-    → list_any (bytes_eq (comparison_form o w)) (all_names u) ≡ true
-among_all o w u h = rw (list_any-append (bytes_eq (comparison_form o w)) (row_of u).names) (grind arith)
+pub among_all : (rows : Table) (o : Options) (w : List ℕ) (u : TimeUnit) → is_named_in rows o w u ≡ true
+    → list_any (bytes_eq (comparison_form o w)) (all_names_in rows u) ≡ true
+among_all rows o w u h = rw (list_any-append (bytes_eq (comparison_form o w)) (rows u).names) (grind arith)
 
 module _ (o : Options) where
   one_unit : (w : List ℕ) (u v : TimeUnit) → is_named o w u ≡ true → is_named o w v ≡ true → u ≡ v
@@ -84,7 +84,7 @@ module _ (o : Options) where
     | inl same ↦ same_length u v (eqb-true (nanos_of u) (nanos_of v) same)
     | inr apart ↦
         let other = λ (name : List ℕ). not (list_any (bytes_eq name) (all_names v)) in
-        cc (named_passes other (comparison_form o w) (all_names u) apart (among_all o w u h), among_all o w v k)
+        cc (named_passes other (comparison_form o w) (all_names u) apart (among_all row_of o w u h), among_all row_of o w v k)
   ]
 
   -- If the list has a unit that the word names, that unit is found, since the word names no other unit.

@@ -53,7 +53,7 @@ advised o word name u near read =
     record {
       unit = u;
       near = near;
-      unread = sym (no_name o word (λ name. not (is_near u name)) (near_apart u) (rw (lower_form o word, is) refl));
+      unread = sym (no_name row_of o word (λ name. not (is_near u name)) (near_apart u) (rw (lower_form o word, is) refl));
       read = read;
     }
 

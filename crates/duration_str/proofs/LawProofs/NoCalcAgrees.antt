@@ -1,5 +1,5 @@
 -- For a text without operators, `no_calc` changes neither whether it is accepted nor its value.
-use Rattle.duration_str.proofs.Common.{and_parts, Bool, HasNoOperator, is_operator, IsReadWith, IsSentence, List, map, NoCalcAgrees, not, number, operator, Option, Options, rules, Some, Terminal, terminal_of, TimeUnit, word, [], ℕ, ⊤, ◌∷◌}
+use Rattle.duration_str.proofs.Common.{and_parts, Bool, HasNoOperator, is_operator, IsReadWith, IsSentence, List, map, NoCalcAgrees, not, number, operator, Option, Options, row_of, rules, Some, Terminal, terminal_of, TimeUnit, word, [], ℕ, ⊤, ◌∷◌}
 use Rattle.duration_str.proofs.Cutting.SortLemmas.{terminal_cases}
 use Rattle.duration_str.proofs.Sentences.SpellingLemmas.{EachPasses, lexemes_pass}
 
@@ -13,7 +13,7 @@ no_operator_terminals : (o : Options) (lexemes : List (List ℕ)) → EachPasses
 no_operator_terminals o [] h = tt
 no_operator_terminals o (w ∷ lexemes) h =
     let more = no_operator_terminals o lexemes h.1 in
-    terminal_cases o (λ w t. HasNoOperator w → HaveNoOperator (t ∷ map (terminal_of o) lexemes))
+    terminal_cases row_of o (λ w t. HasNoOperator w → HaveNoOperator (t ∷ map (terminal_of o) lexemes))
     (λ plain. more) (λ c cs digits plain. more) (λ c cs letters plain. more)
     (λ c op _ _ sign plain. cc (rw sign at (and_parts (not (is_operator c)) _ plain).0)) (λ c cs _ _ plain. more) w h.0
 

@@ -76,19 +76,32 @@ module _ (o : Options) (lexemes : List (List ℕ)) (text : List ℕ) (was : WasS
 -- ---- Values and causes
 
 older_value : (o : Options) (text : List ℕ) (nanos : ℕ) → WasRead o text nanos → IsRead o text nanos
-older_value o text nanos was = search (rules, older_terms_same, older_sentence)
+older_value o text nanos was =
+    let same = older_terms_same o was.lexemes text was.spells in record {
+      lexemes = was.lexemes;
+      spells = older_sentence o was.lexemes text was.spells;
+      evaluates = rw same at was.evaluates;
+      value = rw same at was.value;
+    }
 
 -- A sentence whose evaluation has this fault is refused for it, at whatever byte the sentence ends.
 refused_at : (no_calc : Bool) (place : ℕ) (terminals : List Terminal) (cause : Cause) → IsSentence (Some Second) no_calc terminals
-    → sentence_fault no_calc (terms_of (Some Second) terminals) ≡ Some cause → IsRefusedAt (Some Second) no_calc place terminals [] cause
+    → sentence_fault no_calc (terms_of (Some Second) terminals) ≡ Some cause → IsRefusedAt row_of (Some Second) no_calc place terminals [] cause
 refused_at no_calc place terminals cause s e = search (rules, append-nil)
 
 older_cause : (o : Options) (text : List ℕ) (cause : Cause) → WasRefused o text cause → IsRefused o text cause
 older_cause o text cause was =
     let s = older_sentence o was.lexemes text was.spells in
-    sentence_refused o text was.lexemes cause s
+    sentence_refused {rows = row_of} o text was.lexemes cause s
     (λ place. refused_at o.no_calc place _ cause s.0
     (rw (older_terms_same o was.lexemes text was.spells) at was.refused))
 
 pub older_texts_hold : OlderTexts
-older_texts_hold = search (rules, name_kept, unit_kept, older, older_value, older_cause)
+older_texts_hold = record {
+  names = name_kept;
+  units = unit_kept;
+  terminals = λ o lexemes text was. (older o lexemes text was).0;
+  sentence = older_sentence;
+  value = older_value;
+  cause = older_cause;
+}

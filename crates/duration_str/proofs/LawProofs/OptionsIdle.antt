@@ -1,6 +1,6 @@
 -- `lowercase` changes nothing for a text without ASCII capitals, and `cn_unit` changes nothing for a text without the
 -- Chinese characters of the units.
-use Rattle.duration_str.proofs.Common.{Bool, Cause, HasNoCapital, HasNoChinese, IsIdle, IsReadWith, IsRefusedWith, IsTrue, List, Option, Options, OptionsIdle, TimeUnit, [], and_parts, arith, bytes_eq, false, goes_on, if◌then◌else◌, is_chinese, is_unit_letter, list_all, list_any, map, not, not-true, refl, rules, terminal_of, terminals_of, to_ascii_lowercase, tokens_from, tokens_of, true, unit_of_word, width, ℕ, ◌+◌, ◌∷◌, ◌≡◌}
+use Rattle.duration_str.proofs.Common.{Bool, Cause, HasNoCapital, HasNoChinese, IsIdle, IsReadWith, IsRefusedWith, IsTrue, List, Option, Options, OptionsIdle, TimeUnit, [], and_parts, arith, bytes_eq, false, goes_on, if◌then◌else◌, is_chinese, is_unit_letter, list_all, list_any, map, not, not-true, refl, rules, sym, terminal_of, terminals_of, to_ascii_lowercase, tokens_from, tokens_of, true, unit_of_word, width, ℕ, ◌+◌, ◌∷◌, ◌≡◌}
 use Rattle.duration_str.proofs.Characters.UnitLemmas.{named_passes}
 use Rattle.duration_str.proofs.Sentences.SpellingLemmas.{EachPasses, lexemes_pass, tokens_spell}
 use Rattle.duration_str.proofs.Sentences.AnswerLemmas.{read_terminals, terminals_read}
@@ -27,7 +27,12 @@ refused_alike default_unit (c ∷ text) cause h r =
 
 idle : (default_unit : Option TimeUnit) (choice : Bool → Options) (text : List ℕ)
     → AreAlike (choice true) (choice false) text → IsIdle default_unit choice text
-idle default_unit choice text h = search (rules, read_alike, refused_alike)
+idle default_unit choice text h =
+    let back : AreAlike (choice false) (choice true) text =
+    record { grammar = sym h.grammar; tokens = sym h.tokens; terminals = sym h.terminals } in record {
+      value = λ nanos. (read_alike nanos h, read_alike nanos back);
+      cause = λ cause. (refused_alike default_unit text cause h, refused_alike default_unit text cause back);
+    }
 
 -- ---- Options that agree on characters and words give the same tokens and terminals
 

@@ -1,5 +1,5 @@
 -- The text of a duration below 2^64 nanoseconds is read back as that duration, and the text of any other overflows.
-use Rattle.duration_str.proofs.Common.{Bool, FitsDuration, IsPrintedIn, IsReadWith, IsRefusedWith, List, None, Option, Options, Overflow, ReadsBack, Some, Style, Terminal, TimeUnit, Year, [], arith, counts_of, drop, early, early_fault, le-ltb, lt-ltb, map, nanos_of, nonzero, number, rules, sum_of, sym, terminal_of, terms_of, unit_lengths, units, word, ℕ, ◌*◌, ◌+◌, ◌/◌, ◌<◌, ◌^◌, ◌∷◌, ◌≡◌, ◌≤◌}
+use Rattle.duration_str.proofs.Common.{Bool, FitsDuration, IsPrintedIn, IsReadWith, IsRefusedWith, List, None, Option, Options, Overflow, ReadsBack, Some, Style, Terminal, TimeUnit, Year, [], arith, counts_of, drop, early, early_fault, le-ltb, lt-ltb, map, nanos_of, nonzero, number, row_of, rules, sum_of, sym, terminal_of, terms_of, unit_lengths, units, word, ℕ, ◌*◌, ◌+◌, ◌/◌, ◌<◌, ◌^◌, ◌∷◌, ◌≡◌, ◌≤◌, ◌==◌, false, false_from_ne_true, eqb-true, refl, ◌∙◌}
 use Rattle.duration_str.proofs.Sentences.AnswerLemmas.{EachFits, sentence_refused, sum_fits_each, sum_overflows, sum_read, terms_of_lexemes}
 use Rattle.duration_str.proofs.Printer.PrintingLemmas.{duration_lexemes, duration_sum, printed_is_sum, terminals, terminals_of_duration}
 
@@ -12,7 +12,9 @@ after_years nanos = terminals (nonzero (drop 1 units) (drop 1 (counts_of unit_le
 
 years_first : (o : Options) (style : Style) (nanos : ℕ) → FitsDuration nanos → nanos_of Year ≤ nanos
     → map (terminal_of o) (duration_lexemes style nanos) ≡ number (years nanos) ∷ word (Some Year) ∷ after_years nanos
-years_first o style nanos h low = search (rules, terminals_of_duration)
+years_first o style nanos h low =
+    let some : (years nanos == 0) ≡ false = false_from_ne_true _ (λ none. absurd (omega (arith, eqb-true _ _ none))) in
+    terminals_of_duration o style nanos h ∙ rw some refl
 
 reads_below : (default_unit : Option TimeUnit) (o : Options) (style : Style) (nanos : ℕ) (text : List ℕ)
     → nanos < 2 ^ 64
@@ -39,7 +41,7 @@ overflows_above default_unit o style nanos text low high p =
 -- From 585 years on, the first term overflows by itself.
 first_overflows : (default_unit : Option TimeUnit) (no_calc : Bool) (n : ℕ) (rest : List Terminal) → n < 2 ^ 64
     → 2 ^ 64 ≤ n * nanos_of Year
-    → early_fault default_unit no_calc (number n ∷ word (Some Year) ∷ rest) [] ≡ Some (Overflow (Some 0))
+    → early_fault row_of default_unit no_calc (number n ∷ word (Some Year) ∷ rest) [] ≡ Some (Overflow (Some 0))
 first_overflows default_unit no_calc n rest small large = search (rules, lt-ltb, le-ltb)
 
 overflows_far_above : (default_unit : Option TimeUnit) (o : Options) (style : Style) (nanos : ℕ) (text : List ℕ)
@@ -48,7 +50,7 @@ overflows_far_above : (default_unit : Option TimeUnit) (o : Options) (style : St
 overflows_far_above default_unit o style nanos text low high p =
     let terminals = sym (years_first o style nanos high (omega arith)) in
     let fault = first_overflows default_unit o.no_calc (years nanos) (after_years nanos) (omega arith) (omega arith) in
-    sentence_refused o text (duration_lexemes style nanos) (Overflow (Some 0))
+    sentence_refused {rows = row_of} o text (duration_lexemes style nanos) (Overflow (Some 0))
     (printed_is_sum default_unit o style nanos text high p).sentence (λ place. early (rw (← terminals) fault))
 
 pub reads_back_holds : ReadsBack

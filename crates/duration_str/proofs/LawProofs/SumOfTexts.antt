@@ -1,5 +1,5 @@
 -- Two accepted texts without `*`, joined by a plus, have the sum of their values, or are refused as an overflow.
-use Rattle.duration_str.proofs.Common.{AllPlus, CondUnit, HasNoStar, IsBlank, IsReadWith, IsSentence, List, Option, Options, Plus, Some, Spells, SumOfTexts, Term, Terminal, TimeUnit, [], and_from, and_parts, append_assoc, arith, cases_Bool, codes, common_steps, false, inl, inr, list_all-append, map, map-append, nat_tests, not, number, operator, operator_of, refl, rules, sum_of, terminal_of, terms_after, terms_of, true, word, ℕ, ◌++◌, ◌+◌, ◌==◌, ◌∙◌, ◌∷◌, ◌≡◌}
+use Rattle.duration_str.proofs.Common.{AllPlus, CondUnit, HasNoStar, IsBlank, IsReadWith, IsSentence, List, Option, Options, Plus, Some, Spells, SumOfTexts, Term, Terminal, TimeUnit, [], and_from, and_parts, append_assoc, arith, cases_Bool, codes, false, inl, inr, list_all-append, map, map-append, nat_tests, not, number, operator, operator_of, refl, row_of, rules, sum_of, terminal_of, terms_after, terms_of, true, word, ℕ, ◌++◌, ◌+◌, ◌==◌, ◌∙◌, ◌∷◌, ◌≡◌}
 use Rattle.duration_str.proofs.Cutting.SortLemmas.{terminal_cases}
 use Rattle.duration_str.proofs.Sentences.SpellingLemmas.{begins_with, EachPasses, lexemes_pass}
 use Rattle.duration_str.proofs.Sentences.SumLemmas.{sum-append}
@@ -38,7 +38,7 @@ both_sentence default_unit (number n ∷ word (Some u) ∷ number m ∷ more) ys
 both_sentence default_unit _ ys s t = absurd s
 
 both_terms : (default_unit : Option TimeUnit) (op : CondUnit) (xs ys : List Terminal) → IsSentence default_unit false xs
-    → terms_after default_unit op (xs ++ operator Plus ∷ ys) ≡ terms_after default_unit op xs ++ terms_of default_unit ys
+    → terms_after row_of default_unit op (xs ++ operator Plus ∷ ys) ≡ terms_after row_of default_unit op xs ++ terms_of default_unit ys
 both_terms default_unit op (number n ∷ []) ys s = refl
 both_terms default_unit op (number n ∷ operator next ∷ more) ys s = rw (both_terms default_unit next more ys s.2)
 both_terms default_unit op (number n ∷ word (Some u) ∷ []) ys s = refl
@@ -59,7 +59,7 @@ module _ (o : Options) where
   lexemes_plus [] h = tt
   lexemes_plus (w ∷ lexemes) h =
       let more = lexemes_plus lexemes h.1 in
-      terminal_cases o (λ w t. HasNoStar w → AllPlus (t ∷ map (terminal_of o) lexemes))
+      terminal_cases row_of o (λ w t. HasNoStar w → AllPlus (t ∷ map (terminal_of o) lexemes))
       (λ plain. more) (λ c cs digits plain. more) (λ c cs letters plain. more)
       (λ c op _ _ sign plain. (no_star_plus c op (and_parts (not (c == 42)) _ plain).0 sign, more))
       (λ c cs _ _ plain. more) w h.0
@@ -92,7 +92,13 @@ joined_is_sum : {default_unit : Option TimeUnit} {o : Options} {a b : List ℕ} 
     → IsSumOf default_unit o lexemes a → IsSumOf default_unit o others b
     → IsSumOf default_unit o (joined_lexemes lexemes others) (a ++ codes "+" ++ b)
 joined_is_sum {default_unit} {o} {a} {b} {lexemes} {others} calc s t =
-    grind (arith, common_steps, spells_both, joined_terminals, both_sentence, both_plus)
+    let same = joined_terminals o lexemes others in
+    let sentence = both_sentence default_unit (map (terminal_of o) lexemes) (map (terminal_of o) others)
+    (rw calc at s.sentence.0) (rw calc at t.sentence.0) in
+    let front = spells_both lexemes (codes "+" ∷ []) a (codes "+") s.sentence.1 (begins_with [] [] refl refl refl) in record {
+      sentence = (rw (calc, same) sentence, spells_both (lexemes ++ codes "+" ∷ []) others (a ++ codes "+") b front t.sentence.1);
+      plus = rw same (both_plus (map (terminal_of o) lexemes) (map (terminal_of o) others) s.plus t.plus);
+    }
 
 joined_terms : (default_unit : Option TimeUnit) (o : Options) (lexemes others : List (List ℕ))
     → IsSentence default_unit false (map (terminal_of o) lexemes)

@@ -1,5 +1,5 @@
 -- A printed text is spelled by a sum whose total is the duration.
-use Rattle.duration_str.proofs.Common.{AllPlus, append-nil, arith, between, Bool, common_steps, Compact, counts_of, decimal, drop, eqb-true, false, FitsDuration, flat_map, IsBlank, IsPrintedIn, IsSentence, joined_parts, List, Long, map, name_in, nanos_of, nonzero, number, Option, Options, printed_counts, printed_part, refl, row_of, rules, Second, Short, Some, Spells, Style, sum_of, Terminal, terminal_of, terms_of, TimeUnit, true, unit_lengths, units, weighted_sum, word, Year, [], ℕ, ⊤, ◌%◌, ◌++◌, ◌<◌, ◌==◌, ◌^◌, ◌∷◌, ◌≡◌}
+use Rattle.duration_str.proofs.Common.{AllPlus, append-nil, ap₂, arith, between, Bool, cases_Bool, common_steps, Compact, counts_of, decimal, drop, eqb-true, false, FitsDuration, flat_map, IsBlank, IsPrintedIn, IsSentence, joined_parts, List, Long, map, name_in, nanos_of, nonzero, number, Option, Options, printed_counts, printed_part, refl, row_of, rules, Second, Short, Some, Spells, Style, sum_of, Terminal, terminal_of, terms_of, TimeUnit, true, unit_lengths, units, weighted_sum, word, Year, [], ℕ, ⊤, ◌%◌, ◌++◌, ◌<◌, ◌==◌, ◌^◌, ◌∷◌, ◌≡◌, inl, inr}
 use Rattle.duration_str.proofs.Characters.NumberLemmas.{decimal_terminal}
 use Rattle.duration_str.proofs.LawProofs.GreatestBreakdown.{greatest_breakdown_holds, one_greatest}
 use Rattle.duration_str.proofs.Sentences.AnswerLemmas.{IsSumOf, terms_of_lexemes}
@@ -73,14 +73,19 @@ EachBelow (n ∷ counts) = (n < 2 ^ 64) × EachBelow counts
 
 pub terminals_kept : (o : Options) (style : Style) (us : List TimeUnit) (counts : List ℕ) → EachBelow counts
     → map (terminal_of o) (lexemes style (nonzero us counts)) ≡ terminals (nonzero us counts)
-terminals_kept o style (u ∷ us) (n ∷ counts) small =
-    search (rules, decimal_terminal, printed_terminal, terminals_kept o style us counts)
+terminals_kept o style (u ∷ us) (n ∷ counts) small = elim (cases_Bool (n == 0)) [
+  | inl none ↦ rw none (terminals_kept o style us counts small.1)
+  | inr some ↦ rw some (ap₂ ◌∷◌ (decimal_terminal o n small.0)
+      (ap₂ ◌∷◌ (printed_terminal o style (n == 1) u) (terminals_kept o style us counts small.1)))
+]
 terminals_kept o style _ _ small = refl
 
 pub terminals_or_zero : (o : Options) (style : Style) (u : TimeUnit) (ps : List (TimeUnit × ℕ))
     → map (terminal_of o) (lexemes style ps) ≡ terminals ps
     → map (terminal_of o) (lexemes style (or_zero u ps)) ≡ terminals (or_zero u ps)
-terminals_or_zero o style u ps h = search (rules, decimal_terminal, printed_terminal)
+terminals_or_zero o style u [] h =
+    ap₂ ◌∷◌ (decimal_terminal o 0 (omega arith)) (ap₂ ◌∷◌ (printed_terminal o style false u) refl)
+terminals_or_zero o style u (p ∷ ps) h = h
 
 counts_below : (lengths : List ℕ) (nanos : ℕ) → nanos < 2 ^ 64 → EachBelow (counts_of lengths nanos)
 counts_below [] nanos h = tt

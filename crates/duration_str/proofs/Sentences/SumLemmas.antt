@@ -1,5 +1,5 @@
 -- Terms that are added evaluate exactly if their sum is below 2^64, and the sum is their value.
-use Rattle.duration_str.proofs.Common.{AllPlus, ap, append-nil, append_assoc, arith, Bool, cases_lt, Cause, combination, CondUnit, Evaluates, evaluation_fault, fault_of_terms, first_fault, fits, is_same_operator, IsSentence, later_total, le-ltb, leb, leb-true, length, List, list_all, lt-ltb, ltb-true, nanos_of, None, number, operator, Option, or_else, Overflow, Plus, refl, rules, running_fault, Second, Some, sum_of, Term, term_fault, Terminal, terms_after, terms_of, TimeUnit, true, unless, unwrap_or, value_of, value_of_term, word, [], ℕ, ⊤, ◌++◌, ◌+◌, ◌<◌, ◌^◌, ◌↔◌, ◌∷◌, ◌≡◌, ◌≤◌}
+use Rattle.duration_str.proofs.Common.{AllPlus, ap, append-nil, append_assoc, arith, Bool, cases_lt, Cause, UnitTable, combination, CondUnit, Evaluates, evaluation_fault, fault_of_terms, first_fault, fits, is_same_operator, IsSentence, later_total, Humantime, le-ltb, leb, leb-true, length, List, list_all, lt-ltb, ltb-true, nanos_in, nanos_of, None, number, operator, Option, or_else, Overflow, Own, Plus, refl, rows_of, rules, running_fault, Second, Some, sum_of, Table, Term, term_fault, Terminal, terms_after, terms_in, TimeUnit, true, unless, unwrap_or, value_of, value_of_term, word, [], ℕ, ⊤, ◌++◌, ◌+◌, ◌<◌, ◌^◌, ◌↔◌, ◌∷◌, ◌≡◌, ◌≤◌}
 use Rattle.duration_str.proofs.Characters.UnitLemmas.{all_units}
 
 -- ---- When there is no fault: a set of equivalences for `simp`
@@ -30,27 +30,30 @@ abbrev pub AreAdded : List Term → Type 0
 AreAdded [] = ⊤
 AreAdded (t ∷ terms) = (t.operator ≡ Plus) × (1 ≤ t.length) × AreAdded terms
 
-unit_above_zero : (u : TimeUnit) → 1 ≤ nanos_of u
-unit_above_zero u = leb-true 1 (nanos_of u) (all_units (λ v. leb 1 (nanos_of v)) refl u)
+unit_above_zero : (table : UnitTable) (u : TimeUnit) → 1 ≤ nanos_in (rows_of table) u
+unit_above_zero Own u = leb-true 1 (nanos_of u) (all_units (λ v. leb 1 (nanos_of v)) refl u)
+unit_above_zero Humantime u =
+    let rows = rows_of Humantime in
+    leb-true 1 (nanos_in rows u) (all_units (λ v. leb 1 (nanos_in rows v)) refl u)
 
-terms_added_after : (default_unit : Option TimeUnit) (op : CondUnit) (terminals : List Terminal) → op ≡ Plus
+terms_added_after : (table : UnitTable) (default_unit : Option TimeUnit) (op : CondUnit) (terminals : List Terminal) → op ≡ Plus
     → AllPlus terminals
-    → AreAdded (terms_after default_unit op terminals)
-terms_added_after default_unit op (number n ∷ word (Some u) ∷ more) e a =
-    (e, unit_above_zero u, terms_added_after default_unit Plus more refl a)
-terms_added_after default_unit op (number n ∷ more) e a =
-    (e, unit_above_zero (unwrap_or default_unit Second), terms_added_after default_unit Plus more refl a)
-terms_added_after default_unit op (operator next ∷ more) e a = terms_added_after default_unit next more a.0 a.1
-terms_added_after default_unit op _ e a = tt
+    → AreAdded (terms_after (rows_of table) default_unit op terminals)
+terms_added_after table default_unit op (number n ∷ word (Some u) ∷ more) e a =
+    (e, unit_above_zero table u, terms_added_after table default_unit Plus more refl a)
+terms_added_after table default_unit op (number n ∷ more) e a =
+    (e, unit_above_zero table (unwrap_or default_unit Second), terms_added_after table default_unit Plus more refl a)
+terms_added_after table default_unit op (operator next ∷ more) e a = terms_added_after table default_unit next more a.0 a.1
+terms_added_after table default_unit op _ e a = tt
 
-pub terms_added : (default_unit : Option TimeUnit) (terminals : List Terminal) → AllPlus terminals
-    → AreAdded (terms_of default_unit terminals)
-terms_added default_unit terminals a = terms_added_after default_unit Plus terminals refl a
+pub terms_added : (table : UnitTable) (default_unit : Option TimeUnit) (terminals : List Terminal) → AllPlus terminals
+    → AreAdded (terms_in (rows_of table) default_unit terminals)
+terms_added table default_unit terminals a = terms_added_after table default_unit Plus terminals refl a
 
-pub has_terms : (default_unit : Option TimeUnit) (no_calc : Bool) (terminals : List Terminal)
+pub has_terms : (rows : Table) (default_unit : Option TimeUnit) (no_calc : Bool) (terminals : List Terminal)
     → IsSentence default_unit no_calc terminals
-    → 1 ≤ length (terms_of default_unit terminals)
-has_terms default_unit no_calc terminals h = search rules
+    → 1 ≤ length (terms_in rows default_unit terminals)
+has_terms rows default_unit no_calc terminals h = search rules
 
 pub sum-append : (xs ys : List Term) → sum_of (xs ++ ys) ≡ sum_of xs + sum_of ys
 sum-append [] ys = omega arith

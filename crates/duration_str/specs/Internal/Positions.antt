@@ -44,11 +44,16 @@ number_in n (d ∷ letters) c = if d == c then n else number_in (n + 1) letters 
 abbrev pub wide_number : ℕ → ℕ
 wide_number c = number_in 27 (0xB5 ∷ chinese_letters) c
 
--- the digit for a unit letter. A capital has the same digit as its small letter. Under `lowercase` capitals have 39,
--- which no other letter has
+-- the digit for a capital under `lowercase`. `M` has 39, which no other letter has. The others have the digit of `z`,
+-- which is in no name
+abbrev pub capital_number : ℕ → ℕ
+capital_number c = if c == 77 then 39 else 26
+
+-- the digit for a unit letter. A capital has the same digit as its small letter, unless `lowercase` is on
 abbrev pub letter_number : Options → ℕ → ℕ
 letter_number o c =
-    if o.lowercase && is_ascii_uppercase c then 39 else if is_ascii_alphabetic c then c % 32 else wide_number c
+    if o.lowercase && is_ascii_uppercase c then capital_number c
+    else if is_ascii_alphabetic c then c % 32 else wide_number c
 
 -- the packed number n with these unit letters after it, as digits to the base 40
 abbrev pub packed_number_after : Options → ℕ → Characters → ℕ

@@ -9,8 +9,9 @@ use Rattle.duration_str.specs.declared.cause.Cause.{Cause}
 use Rattle.duration_str.specs.declared.cause.Cause.TheVariants.{Syntax, Overflow, Mixed}
 use Rattle.duration_str.specs.declared.cause.Expected.{Expected}
 use Rattle.duration_str.specs.declared.token.Tokens.{Tokens}
-use Rattle.duration_str.specs.Grammar.{Terminal, number, word, operator, terminal_of}
+use Rattle.duration_str.specs.Grammar.{Terminal, number, word, operator, terminal_in}
 use Rattle.duration_str.specs.Tokens.{Token}
+use Rattle.duration_str.specs.Units.{Table}
 use Rattle.duration_str.specs.Value.{combination, is_same_operator, unless}
 use Rattle.duration_str.specs.OneTerm.{fault_or}
 use Rattle.duration_str.specs.Internal.Numbers.{u64_from, checked_term}
@@ -28,13 +29,14 @@ pub data Rest : Type 0 where
   end_at : ℕ → Rest
 
 -- what is left of a text of `len` bytes, given the tokens that are left
-abbrev pub rest_from : Options → ℕ → List Token → Rest
-rest_from o len [] = end_at len
-rest_from o len (p ∷ tokens) = terminal_at p.start (terminal_of o p.characters) (rest_from o len tokens)
+abbrev pub rest_from : Table → Options → ℕ → List Token → Rest
+rest_from rows o len [] = end_at len
+rest_from rows o len (p ∷ tokens) =
+    terminal_at p.start (terminal_in rows o p.characters) (rest_from rows o len tokens)
 
 -- what is left to read
-abbrev pub rest_of : Tokens → Rest
-rest_of s = rest_from (options_of s) (length (source s)) (tokens_left s)
+abbrev pub rest_of : Table → Tokens → Rest
+rest_of rows s = rest_from rows (options_of s) (length (source s)) (tokens_left s)
 
 -- the byte at which terminal n of the rest starts, counted from 0, or at which the text ends if there is no such
 -- terminal
@@ -44,9 +46,9 @@ start_left zero (terminal_at at terminal rest) = at
 start_left (suc n) (terminal_at at terminal rest) = start_left n rest
 
 -- the terminals of the rest, without their places
-abbrev pub terminals_in : Rest → List Terminal
-terminals_in (terminal_at at terminal rest) = terminal ∷ terminals_in rest
-terminals_in (end_at at) = []
+abbrev pub terminals_left : Rest → List Terminal
+terminals_left (terminal_at at terminal rest) = terminal ∷ terminals_left rest
+terminals_left (end_at at) = []
 
 -- the syntax fault at the start of the rest, where these kinds could stand
 abbrev pub misplacement : Expected → Rest → Cause
@@ -99,11 +101,11 @@ IsPlaceless cause = place_of cause ≡ None
 -- ---- The answer
 
 -- the answer to a text when this rest is left and must start with a number
-abbrev pub answer_left : Option TimeUnit → Bool → Rest → Result ℕ Cause
-answer_left default_unit no_calc rest =
-    let terminals = terminals_in rest in
+abbrev pub answer_left : Table → Option TimeUnit → Bool → Rest → Result ℕ Cause
+answer_left rows default_unit no_calc rest =
+    let terminals = terminals_left rest in
     let n = front_of default_unit no_calc terminals in
-    answer_at default_unit no_calc (start_left n rest) (take n terminals) (drop n terminals)
+    answer_at rows default_unit no_calc (start_left n rest) (take n terminals) (drop n terminals)
 
 -- ---- Values, or the first fault
 
@@ -135,8 +137,9 @@ with_term (Err cause) next n length = Err cause
 -- ---- Steps of the reader
 
 -- The result is what `f` reads from the rest, and the rest after it is left.
-abbrev pub ReadsItem : {A : Type 0} → (Rest → Result (ReadItem A) Cause) → Tokens → Tokens → Result A Cause → Type 0
-ReadsItem f old new result = leaving (rest_of new) result ≡ f (rest_of old)
+abbrev pub ReadsItem : {A : Type 0} → Table → (Rest → Result (ReadItem A) Cause) → Tokens → Tokens → Result A Cause
+    → Type 0
+ReadsItem rows f old new result = leaving (rest_of rows new) result ≡ f (rest_of rows old)
 
 -- The source stays the same, and the place of a fault is not beyond the place reached.
 pub record CutsOn {A : Type 0} (old new : Tokens) (result : Result A Cause) : Type 0 where

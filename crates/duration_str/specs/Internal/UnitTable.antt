@@ -1,12 +1,15 @@
 -- The tables in the code: of units, of names by their packed numbers, and of near words.
-use Rattle.std.specs.Prelude.{Bool, List, Option, bytes_eq, encode_utf8_all, length, map, not, take, [], ℕ, ◌&&◌, ◌++◌, ◌-◌, ◌/◌, ◌==◌, ◌^◌, ◌∷◌}
+use Rattle.std.specs.Prelude.{Bool, true, List, Option, bytes_eq, encode_utf8_all, length, map, not, take, [], ℕ, ◌&&◌, ◌++◌, ◌-◌, ◌/◌, ◌==◌, ◌^◌, ◌∷◌}
 use Rattle.std.specs.Char.{is_ascii_whitespace, to_ascii_lowercase}
 use Rattle.std.specs.List.{find, list_any, suffix_len}
 use Rattle.duration_str.specs.declared.unit.Printed.{Printed}
 use Rattle.duration_str.specs.declared.unit.TimeUnit.{TimeUnit}
 use Rattle.duration_str.specs.Text.{Bytes, Characters}
 use Rattle.duration_str.specs.Format.{chosen}
-use Rattle.duration_str.specs.Units.{nanos_of, row_of, units}
+use Rattle.duration_str.specs.Humantime.{humantime_row_of}
+use Rattle.duration_str.specs.Units.{nanos_of, row_of, Table, units}
+use Rattle.duration_str.specs.declared.table.UnitTable.{UnitTable}
+use Rattle.duration_str.specs.declared.table.UnitTable.TheVariants.{Own, Humantime}
 use Rattle.duration_str.specs.Options.{off}
 use Rattle.duration_str.specs.OneLine.{is_among, small_words}
 use Rattle.duration_str.specs.Internal.Positions.{packed_number}
@@ -25,17 +28,26 @@ printed_row u = record {
 abbrev pub units_of : ℕ → List TimeUnit
 units_of bits = chosen (record { bits = bits }) units
 
+-- the table that the code names so
+abbrev pub rows_of : UnitTable → Table
+rows_of Own = row_of
+rows_of Humantime = humantime_row_of
+
+-- all names of a unit in a table
+abbrev pub all_names_in : Table → TimeUnit → List Characters
+all_names_in rows u = (rows u).names ++ (rows u).chinese
+
 -- all names of a unit
 abbrev pub all_names : TimeUnit → List Characters
-all_names u = (row_of u).names ++ (row_of u).chinese
+all_names u = all_names_in row_of u
 
--- whether the packed number of a name is n
+-- whether the packed number of a name is n. Under `lowercase` capitals have digits of their own
 abbrev pub packs_to : ℕ → Characters → Bool
-packs_to n name = packed_number off name == n
+packs_to n name = packed_number (record off { lowercase = true }) name == n
 
--- the unit with a name whose packed number is n
-unfoldable pub unit_of_packed : ℕ → Option TimeUnit
-unit_of_packed n = find (λ u. list_any (packs_to n) (all_names u)) units
+-- the unit with a name in this table whose packed number is n
+unfoldable pub unit_of_packed : Table → ℕ → Option TimeUnit
+unit_of_packed rows n = find (λ u. list_any (packs_to n) (all_names_in rows u)) units
 
 -- the bytes without the spaces at their end
 abbrev pub trimmed : Bytes → Bytes

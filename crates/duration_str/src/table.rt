@@ -1,0 +1,61 @@
+//! The tables of units by which a text can be read: the names of the units, their lengths, and the values of terms.
+ghost use Rattle.std.specs.Prelude.{◌≡◌};
+ghost use Rattle.duration_str.specs.Internal.Numbers.{checked_term};
+ghost use Rattle.duration_str.specs.Units.{nanos_in};
+ghost use Rattle.duration_str.specs.Internal.UnitTable.{rows_of, unit_of_packed};
+
+use crate::cause::Cause;
+use crate::humantime;
+use crate::packed::unit_of_packed;
+use crate::unit::TimeUnit;
+
+/// A table of units.
+#[derive(Clone, Copy)]
+pub(crate) enum UnitTable {
+    /// The table of the library.
+    Own,
+    /// The table of the crate humantime, with the library's own names added.
+    Humantime,
+}
+
+impl UnitTable {
+    /// The unit with a name that packs to this number.
+    #[inline(always)]
+    pub(crate) fn unit_of_packed(self, packed: u64) -> Option<TimeUnit>
+        ensures { result ≡ unit_of_packed (rows_of self) packed }
+    {
+        match self {
+            UnitTable::Own => unit_of_packed(packed),
+            UnitTable::Humantime => humantime::unit_of_packed(packed),
+        }
+    }
+
+    /// The unit's length in nanoseconds.
+    #[inline(always)]
+    pub(crate) fn nanos(self, unit: TimeUnit) -> u64
+        ensures { result ≡ nanos_in (rows_of self) unit }
+    {
+        match self {
+            UnitTable::Own => unit.nanos(),
+            UnitTable::Humantime => humantime::nanos(unit),
+        }
+    }
+
+    /// The nanoseconds of a term with this number and this unit. `number` is `None` if it is 2^64 or more, and `place`
+    /// is the place of the error.
+    #[inline]
+    pub(crate) fn times(
+        self,
+        unit: TimeUnit,
+        number: Option<u64>,
+        place: Option<usize>,
+    ) -> Result<u64, Cause>
+        ensures { result ≡ checked_term place number (nanos_in (rows_of self) unit) }
+    {
+        let Some(n) = number else {
+            return Err(Cause::NumberTooLarge { place });
+        };
+        n.checked_mul(self.nanos(unit))
+            .ok_or(Cause::Overflow { place })
+    }
+}
