@@ -7,9 +7,9 @@
 //! days and a year 365.
 //!
 //! This module also reads the names of units that only humantime has: `M` is a month, and `secs`,
-//! `mins`, `hrs`, `millis` and `nanos` are units, and so are `yr` and `wk` of humantime 2.4.
-//! Capitals and small letters differ. The rest of this crate refuses these names, or reads `1M` as
-//! a minute.
+//! `mins`, `hrs`, `millis` and `nanos` are units, and so are `yr`, `yrs`, `wk` and `wks` of
+//! humantime 2.4. Capitals and small letters differ. The rest of this crate refuses these names, or
+//! reads `1M` as a minute.
 //!
 //! This module prints what humantime prints, such as `1day 2h 3m`.
 //!
@@ -45,11 +45,9 @@ use crate::Fault;
 use crate::formatted::pad;
 use crate::human_duration::written_as_text;
 use crate::parser::CASE_SENSITIVE;
-use alloc::string::{String, ToString};
-use alloc::vec::Vec;
 use core::fmt;
 use core::time::Duration as StdDuration;
-use duration_str_core::{self as proved, Cause, Options, TimeUnit, Tokens};
+use duration_str_core::{self as proved, Options};
 
 pub use crate::DurationError;
 
@@ -75,72 +73,32 @@ pub fn parse_duration(text: &str) -> Result<StdDuration, DurationError> {
 /// Reads a text.
 #[inline]
 pub(crate) fn read(text: &str) -> Result<StdDuration, Fault<'_>> {
-    match sum_of(text) {
-        Some(nanos) => Ok(StdDuration::from_nanos(nanos)),
-        None => read_other(text),
+    match read_with(text, true) {
+        Ok(nanos) => Ok(StdDuration::from_nanos(nanos)),
+        Err(_) => read_other(text),
     }
 }
 
-/// The nanoseconds of a sum without operators, which most texts are. It is `None` for any other
-/// text, for a text that is refused, and for some Chinese texts.
-#[inline]
-fn sum_of(text: &str) -> Option<u64> {
-    let nanos = read_with(text, true).ok()?;
-    nanos.checked_add(longer_by(text, nanos)?)
+/// Reads a text that is not a sum without operators, which most texts are, and that may be refused.
+#[cold]
+#[inline(never)]
+fn read_other(text: &str) -> Result<StdDuration, Fault<'_>> {
+    match read_with(text, false) {
+        Ok(nanos) => Ok(StdDuration::from_nanos(nanos)),
+        Err(fault) => Err(Fault::new(fault, CASE_SENSITIVE)),
+    }
 }
 
-/// Reads a text by the proved reader. Each number needs a unit, and capitals and small letters
-/// differ. The reader is compiled for this case alone, which makes it faster, and a program that
-/// only uses this module contains no other copy of it.
+/// Reads a text by the proved reader, with humantime's names and lengths of units. Each number
+/// needs a unit, and capitals and small letters differ. The reader is compiled for this case alone,
+/// which makes it faster, and a program that only uses this module contains no other copy of it.
 #[inline(never)]
 fn read_with(text: &str, no_calc: bool) -> Result<u64, proved::Fault<'_>> {
     let options = Options {
         no_calc,
         ..CASE_SENSITIVE
     };
-    proved::parse_nanos_specialized(text, options, None)
-}
-
-/// By how many nanoseconds a sum without operators is longer here than in the rest of this crate,
-/// where its value is `nanos`. It is `None` if a name may be Chinese.
-#[inline]
-fn longer_by(sum: &str, nanos: u64) -> Option<u64> {
-    const MONTH: u64 = TimeUnit::Month.nanos();
-    let mut bytes = sum.bytes();
-    let mut left = nanos;
-    let mut longer = 0;
-    // If less than a month is left of the value, no later term counts months or years.
-    while left >= MONTH {
-        let Some(digit) = bytes.find(u8::is_ascii_digit) else {
-            break;
-        };
-        let mut number = u64::from(digit - b'0');
-        let letter = loop {
-            match bytes.next()? {
-                digit @ b'0'..=b'9' => number = number * 10 + u64::from(digit - b'0'),
-                b' ' | b'\t' | b'\r' | b'\n' => {}
-                letter => break letter,
-            }
-        };
-        let (unit, seconds) = match letter {
-            b'y' => (TimeUnit::Year, YEAR_SECONDS),
-            b'm' if bytes.clone().next() == Some(b'o') => (TimeUnit::Month, MONTH_SECONDS),
-            0xe0.. => return None,
-            _ => continue,
-        };
-        left -= number * unit.nanos();
-        longer += number * (seconds * 1_000_000_000 - unit.nanos());
-    }
-    Some(longer)
-}
-
-/// Whether a text may have years or months, which are longer here. Among the names of units, only
-/// those of the day and the year have a `y`, and only those of the month have `mo`. Each Chinese
-/// name counts as one of a year or a month.
-fn has_longer(text: &str) -> bool {
-    text.as_bytes()
-        .windows(2)
-        .any(|pair| pair == b"mo" || pair[1] == b'y' && pair[0] != b'a' || pair[0] >= 0xe0)
+    proved::parse_humantime_specialized(text, options)
 }
 
 /// How many seconds a year has here.
@@ -148,143 +106,6 @@ const YEAR_SECONDS: u64 = 31_557_600;
 
 /// How many seconds a month has here.
 const MONTH_SECONDS: u64 = 2_630_016;
-
-/// The name that the rest of this crate reads for a unit, given a name that only humantime reads.
-/// Except for `M`, it is no longer than the given one.
-fn own_name(name: &[u8]) -> Option<&'static str> {
-    match name {
-        b"yr" => Some("y"),
-        b"M" => Some("month"),
-        b"wk" => Some("w"),
-        b"hrs" => Some("hr"),
-        b"mins" => Some("min"),
-        b"secs" => Some("sec"),
-        b"millis" => Some("ms"),
-        b"nanos" => Some("ns"),
-        _ => None,
-    }
-}
-
-/// Whether a text may have a name that only humantime reads.
-fn may_have_other_name(text: &str) -> bool {
-    text.as_bytes()
-        .split(|byte| !byte.is_ascii_alphabetic())
-        .any(|word| own_name(word).is_some())
-}
-
-/// The longest text of which [`renamed_sum_of`] makes a copy
-const MAX_RENAMED: usize = 64;
-
-/// The nanoseconds of a short sum without operators. In a copy of the text, each name that only
-/// humantime reads becomes the crate's own name, and blanks. The function returns `None` for any
-/// other text, for a text that is refused, and for one with the name `M`, since the crate has no
-/// name as short.
-fn renamed_sum_of(text: &str) -> Option<u64> {
-    let mut copy = [0; MAX_RENAMED];
-    let copy = copy.get_mut(..text.len())?;
-    copy.copy_from_slice(text.as_bytes());
-    // A letter beyond ASCII may belong to the name beside it, and then it is another name.
-    for word in copy.split_mut(|byte| byte.is_ascii() && !byte.is_ascii_alphabetic()) {
-        if let Some(own) = own_name(word).filter(|own| own.len() <= word.len()) {
-            word.fill(b' ');
-            word[..own.len()].copy_from_slice(own.as_bytes());
-        }
-    }
-    sum_of(core::str::from_utf8(copy).ok()?)
-}
-
-/// Reads a text by the proved reader. If the text has a name that only humantime reads, or a year
-/// or a month, the reader gets it [renamed](renamed_sum_of), or else [rewritten](Rewritten).
-#[cold]
-#[inline(never)]
-fn read_other(text: &str) -> Result<StdDuration, Fault<'_>> {
-    if may_have_other_name(text) {
-        if let Some(nanos) = renamed_sum_of(text) {
-            return Ok(StdDuration::from_nanos(nanos));
-        }
-    } else if !has_longer(text) {
-        return with_operators(text);
-    }
-    let rewritten = Rewritten::of(text);
-    with_operators(&rewritten.text).map_err(|fault| {
-        let cause = match fault.cause() {
-            Cause::Syntax { place, expected } => Cause::Syntax {
-                place: rewritten.place_in(text, place),
-                expected,
-            },
-            cause => cause,
-        };
-        Fault::of(text, cause, CASE_SENSITIVE)
-    })
-}
-
-/// Reads a text that may have operators.
-fn with_operators(text: &str) -> Result<StdDuration, Fault<'_>> {
-    match read_with(text, false) {
-        Ok(nanos) => Ok(StdDuration::from_nanos(nanos)),
-        Err(fault) => Err(Fault::new(fault, CASE_SENSITIVE)),
-    }
-}
-
-/// A text, rewritten for the proved reader: each token of the user's text, and a blank after it.
-/// The names that only humantime reads are replaced. A number of years or months becomes a number
-/// of seconds. If that is too large, it becomes the greatest number, which is refused too. A number
-/// that is too large by itself stays.
-struct Rewritten {
-    text: String,
-    /// Where each token begins: in the rewritten text, and in the user's text
-    starts: Vec<(usize, usize)>,
-}
-
-impl Rewritten {
-    fn of(text: &str) -> Rewritten {
-        let mut rewritten = Rewritten {
-            text: String::new(),
-            starts: Vec::new(),
-        };
-        let mut number: Option<(usize, u64)> = None;
-        for token in Tokens::new(text, CASE_SENSITIVE) {
-            let name = own_name(token.text.as_bytes()).unwrap_or(token.text);
-            let seconds = match TimeUnit::from_word(name, CASE_SENSITIVE) {
-                Some(TimeUnit::Year) => Some(YEAR_SECONDS),
-                Some(TimeUnit::Month) => Some(MONTH_SECONDS),
-                _ => None,
-            };
-            let before = number.take();
-            if let (Some((start, number)), Some(seconds)) = (before, seconds) {
-                rewritten.text.truncate(start);
-                let number = number.saturating_mul(seconds).to_string();
-                rewritten.push(&number, None);
-                rewritten.push("s", Some(token.start));
-            } else {
-                number = name
-                    .parse()
-                    .ok()
-                    .map(|number| (rewritten.text.len(), number));
-                rewritten.push(name, Some(token.start));
-            }
-        }
-        rewritten
-    }
-
-    /// Appends a token, and records that it begins at `start` in the user's text. If `start` is
-    /// `None`, nothing is recorded.
-    fn push(&mut self, token: &str, start: Option<usize>) {
-        self.starts
-            .extend(start.map(|start| (self.text.len(), start)));
-        self.text.push_str(token);
-        self.text.push(' ');
-    }
-
-    /// The place of a syntax fault in the user's text, given its place in the rewritten one: where
-    /// the token begins, or the end of the text.
-    fn place_in(&self, text: &str, place: usize) -> usize {
-        self.starts
-            .iter()
-            .find(|(here, _)| *here == place)
-            .map_or(text.len(), |(_, start)| *start)
-    }
-}
 
 /// A duration that its `Display` prints as humantime does. [`format_duration`] returns it.
 ///

@@ -27,6 +27,7 @@ fn has_the_lengths_of_humantime() {
         ("31d", 31 * 86_400),
         ("1M", MONTH),
         ("1yr 2M 3wk 4d", YEAR + 2 * MONTH + 25 * 86_400),
+        ("2yrs 3wks", 2 * YEAR + 21 * 86_400),
         ("1hrs2mins3secs", 3_723),
         ("4000millis + 5000000000nanos", 9),
         ("1s 2months", 1 + 2 * MONTH),
@@ -131,7 +132,7 @@ fn refuses_for_the_first_cause() {
         ("1hrs.", 4),
         ("2secs 30", 8),
         ("30+1M", 2),
-        ("1yrs", 1),
+        ("1yrss", 1),
         ("1Y", 1),
         ("1y x", 3),
         ("1s 7014month x", 13),
@@ -208,11 +209,11 @@ proptest! {
 
     #[test]
     fn reads_further_names_as_the_others(
-        text in r"[0-9 ]{0,3}((h|hr|hrs|min|mins|sec|secs|millis|nanos|wk|x)[ .+*]{1,2}[0-9]{0,2}){0,4}",
+        text in r"[0-9 ]{0,3}((hrs?|mins?|secs?|millis|nanos|wks?|yrs?|[hx])[ .+*]{1,2}[0-9]{0,2}){0,4}",
     ) {
         // The replacements have the same length as the names, so all places stay the same.
         let others = [("hrs", "hr "), ("mins", "min "), ("secs", "sec "), ("millis", "ms    "),
-            ("nanos", "ns   "), ("wk", "w ")]
+            ("nanos", "ns   "), ("wks", "w  "), ("wk", "w "), ("yrs", "y  "), ("yr", "y ")]
             .iter()
             .fold(text.clone(), |text, (further, own)| text.replace(further, own));
         match (parse_duration(&text), parse_duration(&others)) {
