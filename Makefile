@@ -17,6 +17,8 @@
 # make install         installs what was built, the header, the manual pages and completions below
 #                      prefix=/usr/local, or into bindir=, libdir=, includedir=, mandir=, docdir=
 #                      and datarootdir=, all below DESTDIR= if that is set
+# make install-library installs only the library for C, its header and its manual pages. For another
+#                      machine this doesn't need Rust's standard library, which the program needs
 # make uninstall       removes them again, given the same variables
 # make release         fills dist/, or dist=FOLDER, with packages for machines without a toolchain
 # make page            writes out/duration_str.html, a page to try texts on
@@ -30,8 +32,8 @@ SHELL := bash
 .SHELLFLAGS := -euo pipefail -c
 .ONESHELL:
 .NOTPARALLEL:
-.PHONY: all program library duration setup prove check quick format coverage install uninstall \
-    release page clean help installable
+.PHONY: all program library duration setup prove check quick format coverage install \
+    install-library uninstall release page clean help installable
 unexport MAKEFLAGS CDPATH
 MAKEFLAGS += --no-builtin-rules --no-print-directory
 
@@ -208,19 +210,22 @@ installable:
 
 # If BusyBox's sed or install is found, which lack what is needed, make stops before anything is
 # written.
-install: installing = yes
-install: installable
+install install-library: installing = yes
+install install-library: installable
 	@sed 'e :' </dev/null 2>/dev/null || { echo 'install: needs GNU sed' >&2; exit 1; }
 	$(INSTALL) --help 2>/dev/null | grep -q -- --verbose || {
 	    echo "install: needs GNU's command install, of coreutils" >&2
 	    exit 1
 	}
 	$(put)
-	program=$$($(MAKE) --silent program installing=yes target=$(target) static=$(static))
+	programs=
+	if [ $@ = install ]; then
+	    program=$$($(MAKE) --silent program installing=yes target=$(target) static=$(static))
+	    programs=durstr
+	    put_program "$$program" $(bindir)/durstr
+	    $(call page,docs/man/durstr.1.in) | put_text $(mandir)/man1/durstr.1
+	fi
 	libraries=$$($(MAKE) --silent library installing=yes target=$(target))
-	programs=durstr
-	put_program "$$program" $(bindir)/durstr
-	$(call page,docs/man/durstr.1.in) | put_text $(mandir)/man1/durstr.1
 	put $(header) $(includedir)/duration_str.h
 	put "$$libraries/libduration_str.a" $(libdir)/libduration_str.a
 	put "$$libraries/libduration_str.so" $(libdir)/$(soname)
@@ -244,7 +249,9 @@ install: installable
 	! $(call serves,$(command),$(commanded)) || missing=
 	[ -n "$$missing" ] || type -P help2man >/dev/null || missing=help2man
 	[ "$(target)" = "$(host)" ] || missing='crates for $(target)'
-	if [ -n "$$missing" ]; then
+	if [ -z "$$programs" ]; then
+	    :
+	elif [ -n "$$missing" ]; then
 	    echo "install: the command duration is left out, missing: $$missing (see shell/README.md)"
 	else
 	    command=$$($(MAKE) --silent duration installing=yes static=$(static))
@@ -260,7 +267,7 @@ install: installable
 	fi
 	[ -z "$$DESTDIR" ] || exit 0
 	case :$$PATH: in *:$(bindir):*) where= ;; *) where=', which is not on the PATH' ;; esac
-	echo "install: $$programs: in $(bindir)$$where"
+	[ -z "$$programs" ] || echo "install: $$programs: in $(bindir)$$where"
 	echo 'install: the library for C: in $(libdir), with its header in $(includedir)' \
 	    'and manual pages in $(mandir)'
 	echo 'install: programs find the shared library once ldconfig knows $(libdir)'
