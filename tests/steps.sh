@@ -58,13 +58,22 @@ skips() {
     return 1
 }
 
+# brings TOOL: prints the command that installs this tool
+brings() {
+    case ${1##*/} in
+        make) echo tools/setup-debian ;;
+        ar | cargo | cc | esbuild | gcc | git | help2man | man | nm) echo make setup ;;
+        node | pkg-config | python3 | readelf | wasm-opt) echo make setup ;;
+        *) echo make setup all=yes ;;
+    esac
+}
+
 # has WHAT TOOL..: returns whether the commands are there. If one is missing, WHAT is skipped. The
 # next two functions do the same
 has() {
     local tool
     for tool in "${@:2}"; do
-        command -v "$tool" >/dev/null || skips "$1" "$tool is missing (make setup all=yes)" ||
-            return
+        command -v "$tool" >/dev/null || skips "$1" "$tool is missing ($(brings "$tool"))" || return
     done
 }
 
@@ -72,7 +81,7 @@ has() {
 # command is tools/cargo-debian
 finds() {
     local missing
-    ! missing=$("$2" --missing "${@:3}") || skips "$1" "missing: $missing (make setup all=yes)"
+    ! missing=$("$2" --missing "${@:3}") || skips "$1" "missing: ${missing% } (make setup)"
 }
 
 # can WHAT NEED WORDS..: returns whether the words succeed. If they fail, NEED says what is missing,
