@@ -49,8 +49,8 @@ interface RequiringOptions extends Switches {
 interface CountingOptions extends Switches {
     /**
      * The default unit, which a number without a unit counts. With `ms`, `1500` is 1.5 seconds, and
-     * so is `1s 500`. With any unit except the second, `+` and `*` are not read (docs/GRAMMAR.md
-     * says why).
+     * so is `1s 500`. With any unit except the second, `+` and `*` are not read (docs/GRAMMAR.md in
+     * the repository says why).
      *
      * If you name a default unit, even the second, a number that is not a text is read as its
      * digits would be.
@@ -113,7 +113,8 @@ interface Counted<Name extends Unit> {
 
 /**
  * How much of a duration is printed, and how. By default all of it is printed, from `y` to `ns`. If
- * all counts are 0, the text is a zero, such as `0h` or `0s` (docs/GRAMMAR.md says which).
+ * all counts are 0, the text is a zero, such as `0h` or `0s` (docs/GRAMMAR.md in the repository says
+ * which).
  */
 export interface Format extends Counted<Unit> {
     /**
@@ -225,8 +226,8 @@ interface Told {
     readonly message: string;
     /**
      * The report for a terminal. For `SYNTAX` it is the text, a caret below the place, and the
-     * message. For other codes, and for some texts, it is the message alone (docs/GRAMMAR.md says
-     * for which).
+     * message. For other codes, and for some texts, it is the message alone (docs/GRAMMAR.md in the
+     * repository says for which).
      */
     readonly report: string;
 }

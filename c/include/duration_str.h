@@ -120,11 +120,11 @@ enum duration_str_option {
  * `1500` and `1s 500` are 1.5 seconds.
  *
  * For the second the option is 0. For any other unit it includes
- * DURATION_STR_OPTION_NO_CALC (docs/GRAMMAR.md says why). Then the option is
- * unknown if you take the bit DURATION_STR_OPTION_NO_CALC out, or if you add
- * DURATION_STR_OPTION_REQUIRE_UNIT. It is also unknown if no unit has the
- * number `unit`. The macro computes `unit` more than once, so don't write
- * `unit++` there.
+ * DURATION_STR_OPTION_NO_CALC (docs/GRAMMAR.md in the repository says why).
+ * Then the option is unknown if you take the bit DURATION_STR_OPTION_NO_CALC
+ * out, or if you add DURATION_STR_OPTION_REQUIRE_UNIT. It is also unknown if no
+ * unit has the number `unit`. The macro computes `unit` more than once, so
+ * don't write `unit++` there.
  *
  * Bindings that can't call macros, such as those of Go and ctypes, compute it.
  * For the second it is 0. For any other unit the bits from bit 16 on are the
@@ -268,7 +268,7 @@ size_t duration_str_format(
  * week are `6mon`.
  *
  * If all counts are 0, or if `parts` is 0, the text is a zero, such as `0h` or
- * `0s` (docs/GRAMMAR.md says which).
+ * `0s` (docs/GRAMMAR.md in the repository says which).
  *
  * Returns 0, and the text is empty, if `nanos` is 1,000,000,000 or more, if
  * `style` is above 2, or if `units` is the empty set or above
@@ -345,9 +345,9 @@ size_t duration_str_one_line(
  * has DURATION_STR_REPORT_BUFFER_SIZE bytes, in which each report and its zero
  * byte fit. Returns the length of the report, or 0 if the text is read.
  *
- * For some texts the report is the line alone (docs/GRAMMAR.md says for which).
- * Before the caret there are as many spaces as the text before the place takes
- * columns. */
+ * For some texts the report is the line alone (docs/GRAMMAR.md in the
+ * repository says for which). Before the caret there are as many spaces as the
+ * text before the place takes columns. */
 DURATION_STR_NONNULL(4, 5)
 size_t duration_str_report(
     const char *text, size_t length, uint32_t options,

@@ -141,7 +141,8 @@ class DurationError(ValueError):
     itself."""
     report: str
     """The report for a terminal: the text, a caret below the place, and the line. If the fault is
-    no syntax fault, and for some texts, it is the line alone (docs/GRAMMAR.md says for which)."""
+    no syntax fault, and for some texts, it is the line alone (docs/GRAMMAR.md in the repository
+    says for which)."""
 
     def __init__(
         self, report: str, text: str, cause: int, place: int | None = None, expected: int = 0,
