@@ -209,7 +209,10 @@ proptest! {
 
     #[test]
     fn reads_further_names_as_the_others(
-        text in r"[0-9 ]{0,3}((hrs?|mins?|secs?|millis|nanos|wks?|yrs?|[hx])[ .+*]{1,2}[0-9]{0,2}){0,4}",
+        text in concat!(
+            r"[0-9 ]{0,3}",
+            r"((hrs?|mins?|secs?|millis|nanos|wks?|yrs?|[hx])[ .+*]{1,2}[0-9]{0,2}){0,4}",
+        ),
     ) {
         // The replacements have the same length as the names, so all places stay the same.
         let others = [("hrs", "hr "), ("mins", "min "), ("secs", "sec "), ("millis", "ms    "),
