@@ -9,6 +9,9 @@ import { parse as parsePlain } from "../js/dist/plain.js";
 
 const ROUNDS = 2_500;
 const HALF_HOUR = 1_800_000;
+const MILLIS = { defaultUnit: "ms" };
+const UNITS = { units: ["h", "min"] };
+const DOWN_TO_HOURS = { smallest: "h" };
 /** Debian's package node-ms. If it is missing, its lines are left out. */
 const MS = "/usr/share/nodejs/ms/index.js";
 
@@ -45,7 +48,10 @@ const calls = [
         Array(100).fill("1m 3-5"),
     ],
     ["`parse` of one term, such as `5 min`", (text) => parse(text), oneTerm],
+    ["`parse` of a number such as `150`, as milliseconds", (value) => parse(value, MILLIS), counts],
     ["`format` of half hours, such as `13h 30min`", (length) => format(length), halfHours],
+    ["`format` of half hours, in hours and minutes", (length) => format(length, UNITS), halfHours],
+    ["`format` of half hours, down to hours", (length) => format(length, DOWN_TO_HOURS), halfHours],
     ...(ms ? OF_MS : []),
 ];
 

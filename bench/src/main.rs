@@ -140,6 +140,10 @@ fn styles() {
         ("whole", whole),
         ("in two parts", whole.parts(2)),
         ("down to seconds", whole.smallest(TimeUnit::Second)),
+        (
+            "in hours and minutes",
+            whole.only(&[TimeUnit::Hour, TimeUnit::Minute]),
+        ),
         ("compact", whole.style(Style::Compact)),
         ("long", whole.style(Style::Long)),
     ] {

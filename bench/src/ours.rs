@@ -2,9 +2,10 @@
 use crate::texts::{EXPRESSION, below_day, expressions, long_text, refusal, repeat};
 use duration_str::{
     DurationError, FORMAT_BUFFER_SIZE, Fault, Format, HumanFormat, Options, STYLED_BUFFER_SIZE,
+    TimeUnit,
 };
 use duration_str::{
-    parse, parse_duration, parse_require_unit, parse_with, write_format, write_human,
+    parse, parse_duration, parse_in, parse_require_unit, parse_with, write_format, write_human,
 };
 use std::hint::black_box;
 use std::time::Duration;
@@ -22,6 +23,11 @@ pub trait Library {
     fn reading_with(text: &str, options: u32) -> Self::Value;
     /// The value of a text whose numbers must have units, if the library has that rule.
     fn reading_units(_: &str) -> Self::Value {
+        unimplemented!()
+    }
+    /// The value of a text whose numbers without a unit count milliseconds, if the library can read
+    /// it so.
+    fn reading_millis(_: &str) -> Self::Value {
         unimplemented!()
     }
     /// The value of a text, and the text of a duration, by the calls for humantime's users.
@@ -75,6 +81,10 @@ impl Library for Crate {
 
     fn reading_units(text: &str) -> Duration {
         parse_require_unit(text).expect("a text that is read")
+    }
+
+    fn reading_millis(text: &str) -> Duration {
+        parse_in(text, TimeUnit::MilliSecond).expect("a text that is read")
     }
 
     fn reading_as_humantime(text: &str) -> Duration {
@@ -180,6 +190,10 @@ impl Library for Archive {
         Archive::reading_with(text, 8)
     }
 
+    fn reading_millis(text: &str) -> u64 {
+        Archive::reading_with(text, 0x9_0001)
+    }
+
     fn printing(length: Duration) -> usize {
         let nanos = length.as_secs() * 1_000_000_000 + u64::from(length.subsec_nanos());
         let mut buffer = [0; FORMAT_BUFFER_SIZE];
@@ -235,6 +249,9 @@ pub fn calls<L: Library>(words: &[&str], count: u64) {
         }),
         ["units"] => repeat(count, || {
             black_box(L::reading_units(black_box(EXPRESSION)));
+        }),
+        ["millis", text] => repeat(count, || {
+            black_box(L::reading_millis(black_box(text)));
         }),
         ["as-humantime", text] => repeat(count, || {
             black_box(L::reading_as_humantime(black_box(text)));
