@@ -88,8 +88,12 @@ finds() {
 # and how to get it
 can() { "${@:3}" >/dev/null 2>&1 || skips "$1" "missing: $2"; }
 
-# copies FOLDER: copies the files into the folder as they are here, except what was built
-copies() { mkdir "$1" && tar -c --exclude={.git,dist,out,target,__pycache__} . | tar -x -C "$1"; }
+# copies FOLDER: copies the files into the folder as they are here, except what was built. If root
+# copies the files of another user, the copy is root's, since git refuses a clone of another user
+copies() {
+    mkdir "$1" && tar -c --exclude={.git,dist,out,target,__pycache__} . |
+        tar -x --no-same-owner -C "$1"
+}
 
 # path_without NAME..: the path without these commands. Each folder that has one of them is replaced
 # by a folder of links to everything else in it
