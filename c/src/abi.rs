@@ -18,8 +18,8 @@ unsafe fn bytes<'a>(start: *const u8, len: usize) -> &'a [u8] {
 }
 
 /// Lets a call write to a buffer of this function, and copies the text and the zero after it to the
-/// caller's buffer, which C may not have initialised. Rust may make no reference to such memory,
-/// since a reference must point to a valid value (the Rust Reference, "Behavior considered
+/// caller's buffer, which C may not have initialised. Rust may make no `&mut [u8; SIZE]` of such
+/// memory, since a reference must point to a valid value (the Rust Reference, "Behavior considered
 /// undefined").
 #[cfg(not(target_family = "wasm"))]
 fn written<const SIZE: usize>(

@@ -79,7 +79,8 @@ pub(crate) fn read(text: &str) -> Result<StdDuration, Fault<'_>> {
     }
 }
 
-/// Reads a text that is not a sum without operators, which most texts are, and that may be refused.
+/// Reads a text again, also with operators, or refuses it. Most texts are sums without operators, and
+/// were read before.
 #[cold]
 #[inline(never)]
 fn read_other(text: &str) -> Result<StdDuration, Fault<'_>> {
