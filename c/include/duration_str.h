@@ -99,8 +99,8 @@ extern "C" {
 
 /* The options are bits of a `uint32_t`; 0 turns all of them off. Further bits
  * are those of DURATION_STR_OPTION_DEFAULT_UNIT. If a bit is set that belongs
- * to no option, every text is refused, with the cause
- * DURATION_STR_CAUSE_UNKNOWN_OPTION. */
+ * to no option, or if two options can't stand together, every text is refused,
+ * with the cause DURATION_STR_CAUSE_UNKNOWN_OPTION. */
 enum duration_str_option {
     /* `+` and `*` are not read, and the terms are added one by one */
     DURATION_STR_OPTION_NO_CALC = 1,

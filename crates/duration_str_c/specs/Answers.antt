@@ -35,7 +35,7 @@ are_options bits =
     && (unit_field bits == 0
     || (nat_le (unit_field bits) (length units) && has_flag bits 1 && not (has_flag bits 8)))
 
--- Each bit that is set belongs to an option.
+-- The bits are options: `are_options` says which are.
 abbrev pub AreOptions : ℕ → Type 0
 AreOptions bits = IsTrue (are_options bits)
 
@@ -105,7 +105,7 @@ value_answer nanos = record {
   later_operator = 0;
 }
 
--- the answer if a bit belongs to no option
+-- the answer if the bits are not options
 abbrev pub unknown_option_answer : Answer
 unknown_option_answer = record {
   nanos = 0;
@@ -146,7 +146,7 @@ IsReadBy bits text nanos = IsReadWith (default_unit_of_bits bits) (options_of_bi
 abbrev pub IsRefusedBy : ℕ → List ℕ → Cause → Type 0
 IsRefusedBy bits text cause = IsRefusedWith (default_unit_of_bits bits) (options_of_bits bits) text cause
 
--- One of four cases applies, and the proposition for it holds. A bit belongs to no option; or the bytes are not UTF-8;
+-- One of four cases applies, and the proposition for it holds. The bits are not options; or the bytes are not UTF-8;
 -- or they are read as a value under the options whose bits are set; or they are refused for a cause.
 abbrev pub IsTold : Type 0 → Type 0 → (ℕ → Type 0) → (Cause → Type 0) → ℕ → List ℕ → Type 0
 IsTold Unknown NotUtf8 Value Refusal bits bytes =
