@@ -43,8 +43,7 @@ pub fn parse_with_default_unit(
 }
 
 /// Reads a text as [`parse_duration`](crate::parse_duration) does, except that a number without a
-/// unit counts this unit, and that `+` and `*` are not read. If the unit is the second, it is the
-/// same call as `parse_duration`.
+/// unit counts this unit. If the unit is not the second, `+` and `*` are not read.
 ///
 /// This is for texts that used to be plain numbers, such as milliseconds in a configuration file.
 /// For fields that serde reads, the module `human_or_millis` also reads numbers that are not texts.

@@ -787,8 +787,8 @@ static int read_text(
 }
 
 /* Reads a value that has no text. Returns 1 if it is kept, 0 if it is refused, and -1 with an
- * error. If there is an error already, Python has refused to print a number, which is refused too.
- */
+ * error. If there is a ValueError already, a number has more digits than Python writes, and the
+ * value is refused. */
 static int read_other(struct state *state, const struct list *list, Py_ssize_t at, PyObject *value,
     PyObject **missing) {
     if (PyErr_Occurred()) {

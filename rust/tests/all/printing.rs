@@ -130,7 +130,8 @@ fn returns_no_part_after_the_last_one() {
     }
 }
 
-/// A text is its parts, joined. So the numbers of the vectors' short texts are the counts.
+/// Except for a zero, a short text is its parts with blanks between them. So the vectors' short texts
+/// also say which parts there are.
 #[test]
 fn breaks_the_vectors_down_as_they_are_printed() {
     for PrintedIn(text, names, parts, short, _) in vectors().printed_in {
