@@ -154,7 +154,7 @@ enum duration_str_cause {
     DURATION_STR_CAUSE_MIXED = 5,
     /* the bytes are not UTF-8 */
     DURATION_STR_CAUSE_NOT_TEXT = 7,
-    /* an unknown option bit is set; the text was not read */
+    /* the bits are not options; the text was not read */
     DURATION_STR_CAUSE_UNKNOWN_OPTION = 8
 };
 
@@ -331,8 +331,8 @@ bool duration_str_parse_with(const char *text, size_t length,
  *
  * The line quotes at most 40 characters of the text. Quotation marks,
  * backslashes, control characters and characters that can't be seen are
- * escaped. For bytes that are not UTF-8 the line is `not UTF-8`, and for an
- * unknown option bit it is `unknown option`. */
+ * escaped. For bytes that are not UTF-8 the line is `not UTF-8`, and for bits
+ * that are not options it is `unknown option`. */
 DURATION_STR_NONNULL(4, 5)
 size_t duration_str_one_line(
     const char *text, size_t length, uint32_t options,

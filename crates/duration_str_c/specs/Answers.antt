@@ -26,7 +26,7 @@ has_flag bits flag = not (bit_and bits flag == 0)
 abbrev pub unit_field : ℕ → ℕ
 unit_field bits = bits / 2 ^ 16
 
--- whether each bit that is set belongs to an option. These are 1, 2, 4, 8, and the four bits from bit 16 on. The four
+-- whether the bits are options. These are the bits 1, 2, 4, 8, and the four bits from bit 16 on. The four
 -- bits are 0, or a unit's index plus 1. If they are not 0, the flag 1 must be set, so that no operators are read, and
 -- the flag 8, which requires a unit, must not be set
 abbrev pub are_options : ℕ → Bool

@@ -14,8 +14,8 @@ use std::time::Duration;
 /// How many units there are.
 pub const UNIT_COUNT: usize = UNITS.len();
 
-/// Breaks a duration down into the units of a set, in at most `parts` parts. Writes the count of each unit to `counts`,
-/// the longest unit first, and the nanoseconds that no part has to `rest`. A unit without a part has the count 0.
+/// Breaks a duration down into the units of a set, in at most `parts` parts. Writes to `counts` the count of each unit,
+/// the longest unit first, and to `rest` the nanoseconds that no part has. A unit without a part has the count 0.
 ///
 /// The set is given by its bits, as for `duration_str_format_with`. If `nanos` is a second or more, if `units` is 0 or
 /// above 2,047, or if a count or the rest needs more than 64 bits, the call returns false, and `counts` and `rest` are
