@@ -96,7 +96,7 @@ function showPrinting() {
     for (const box of unitBoxes) {
         box.checked = true;
         box.addEventListener("change", () => {
-            // The last box stays checked.
+            // If no other box is checked, this one can't be unchecked.
             box.checked ||= unitBoxes.every((each) => !each.checked);
             read();
         });
