@@ -101,10 +101,10 @@ def parse_many(
     nanoseconds as an `array('Q')`. The options are those of `parse_ns`. If you
     name a default unit, whole numbers are read too, as by `parse_ns`.
 
-    With `errors="raise"` the first text that is refused, or number that is read
-    as one, raises a DurationError, whose `index` is its position. Any other
-    value, such as None, raises DurationTypeError, even if a text before it is
-    refused.
+    With `errors="raise"` the first text that is refused, or number that is
+    read as one, raises a DurationError, whose `index` is its position. Any
+    other value, such as None, raises DurationTypeError, even if a text before
+    it is refused.
 
     With `errors="coerce"` it returns two arrays. The first has the values, and
     0 for each text that is refused and for any other value. The second has the
