@@ -37,7 +37,8 @@ _Noreturn void abort(void) {
 }
 
 #ifdef __arm__
-/* Compilers for ARM call these names. `__aeabi_memset` has its arguments in another order. */
+/* Compilers for ARM call functions of these names. `__aeabi_memset` takes its arguments in another
+ * order than `memset`. */
 void __aeabi_memcpy(void *to, const void *from, size_t length) { memcpy(to, from, length); }
 void __aeabi_memcpy4(void *to, const void *from, size_t length) { memcpy(to, from, length); }
 void __aeabi_memcpy8(void *to, const void *from, size_t length) { memcpy(to, from, length); }

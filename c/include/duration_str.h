@@ -83,8 +83,8 @@
 #define DURATION_STR_MUST_USE
 #endif
 
-/* A conversion of an integer that compilers don't warn about. Because of `| 0`
- * they refuse pointers and fractions. */
+/* Converts an integer, in a way that compilers don't warn about. Because of
+ * the `| 0`, compilers refuse pointers and fractions. */
 #ifdef __cplusplus
 #define DURATION_STR_CAST(type, integer) static_cast<type>((integer) | 0)
 #else
