@@ -280,11 +280,11 @@ export declare const version: string;
  * `7200000`. A number with a fraction is refused as its text would be.
  *
  * @throws DurationError if the text or the number is refused
- * @throws TypeError if `text` is not a string, except for a number or a bigint if you name a
- * `defaultUnit`, or if an option is unknown or of another type
- * @throws RangeError if no unit has the name of `defaultUnit`, if it stands beside `requireUnit`,
- * or if it is not the second and `noCalc` is `false`. It is also thrown if a number is NaN, or if
- * it is 2^53 or more, since it can have lost digits then.
+ * @throws TypeError if an option is unknown or of another type, or if `text` is not a string. With
+ * a `defaultUnit`, a number and a bigint are read too.
+ * @throws RangeError if `defaultUnit` names no unit, stands beside `requireUnit`, or is not the
+ * second while `noCalc` is `false`. It is also thrown if a number is NaN, or if it is 2^53 or more,
+ * since it can have lost digits then.
  * @throws Error if WebAssembly is missing or refused. The other functions throw it too. The message
  * says what to do, and the `cause` is the engine's error. The next call tries again.
  */

@@ -543,8 +543,8 @@ function put(value) {
 const notText = (value, help = "") =>
     new TypeError(`a duration's text must be a string, not ${typeOf(value)}${help}`);
 
-/** The digits of a number or a bigint. For a fraction or a negative number it is the text that
- * JavaScript prints, which the library refuses. */
+/** The digits of a number or a bigint. For a fraction or a negative number, this returns the text
+ * that JavaScript prints, which the library refuses. */
 function digitsOf(value, bits) {
     if (!(bits & READS_NUMBERS)) {
         throw notText(value, ": to read numbers, name their unit, as by { defaultUnit: 'ms' }");

@@ -7,8 +7,8 @@ import { choicesFor, holds, optionsOf, VECTORS } from "./vectors.js";
 
 const LARGEST = 2n ** 64n - 1n;
 /** Texts that are no names of units: names with something before, after or within, Chinese names,
- * letters that look like a name's letter or whose small letter is one, and strings with lone
- * surrogates. */
+ * letters that look like a letter of a name or become one in small letters or capitals, and strings
+ * with lone surrogates. */
 const NO_UNITS = [
     "fortnight", "toString", "", " ", "mins", "年", "毫秒", "1分", " ms", "ms ", "m s", "m\n", "m 0s",
     "d 6d", "1", "1ms", "0ms", "ms1", "m\0", "+s", "s+", "2*s", "\u039cs", "\u03bcs", "\u017f",
