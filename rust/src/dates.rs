@@ -8,8 +8,8 @@ use alloc::string::String;
 use chrono::{NaiveDate, NaiveDateTime, Utc};
 use duration_str_core::{Cause, Options};
 
-/// Adds the value of a text to the given moment, and returns the moment in the same time zone, such
-/// as UTC.
+/// Adds the value of a text to the given moment, and returns the sum, which is a moment in the same
+/// time zone, such as UTC.
 ///
 /// If the text is refused, its fault is returned. Otherwise, if chrono can't represent the moment,
 /// the cause is [`Cause::OutOfRange`].
@@ -38,8 +38,8 @@ pub fn moment_after(
         .ok_or(Fault::of(input, Cause::OutOfRange, options))
 }
 
-/// Subtracts the value of a text from the given moment, and returns the moment in the same time
-/// zone. It refuses as [`moment_after`] does.
+/// Subtracts the value of a text from the given moment, and returns the difference, which is a
+/// moment in the same time zone. It refuses as [`moment_after`] does.
 ///
 /// # Errors
 ///
@@ -65,7 +65,7 @@ pub fn moment_before(
         .ok_or(Fault::of(input, Cause::OutOfRange, options))
 }
 
-/// Adds the value of a text to the present moment, and returns the moment in UTC.
+/// Adds the value of a text to the present moment, and returns the sum, a moment in UTC.
 /// [`parse`](crate::parse) reads the text.
 ///
 /// # Errors
@@ -84,7 +84,8 @@ pub fn after_naive_date_time(input: impl AsRef<str>) -> Result<NaiveDateTime, St
     moment_after(now(), input.as_ref(), FEATURES).map_err(|fault| fault.message())
 }
 
-/// Subtracts the value of a text from the present moment, and returns the moment in UTC.
+/// Subtracts the value of a text from the present moment, and returns the difference, a moment in
+/// UTC.
 /// [`parse`](crate::parse) reads the text.
 ///
 /// # Errors

@@ -5,7 +5,7 @@ use core::fmt::{self, Write};
 use core::time::Duration;
 use duration_str_core::{Breakdown, Format, STYLED_BUFFER_SIZE, Style, TimeUnit, write_format};
 
-/// A duration that its `Display` prints for people, without allocating. You choose the units, the
+/// A duration whose `Display` prints it for people, without allocating. You choose the units, the
 /// number of parts and the style.
 ///
 /// Call [`format_duration`] to get one. For a duration of `chrono` or `time`, call

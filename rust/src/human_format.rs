@@ -18,7 +18,7 @@ use duration_str_core::{FORMAT_BUFFER_SIZE, write_human};
 ///
 /// A duration of `chrono` or `time` may be negative. Then it prints as a minus and the text of its
 /// magnitude, which no call reads back, since texts have no minus. If that text is a zero, such as
-/// half a second in whole seconds, there is no minus:
+/// that of half a second in whole seconds, there is no minus:
 ///
 #[cfg_attr(feature = "chrono", doc = "```")]
 #[cfg_attr(not(feature = "chrono"), doc = "```ignore")]

@@ -108,7 +108,7 @@ const YEAR_SECONDS: u64 = 31_557_600;
 /// How many seconds a month has here.
 const MONTH_SECONDS: u64 = 2_630_016;
 
-/// A duration that its `Display` prints as humantime does. [`format_duration`] returns it.
+/// A duration whose `Display` prints it as humantime does. [`format_duration`] returns it.
 ///
 /// Width and fill pad the text, and a precision is ignored.
 #[derive(Clone, Copy, Debug, PartialEq, Eq, Hash)]

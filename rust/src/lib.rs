@@ -137,9 +137,9 @@
 //!   `cn_unit` (Chinese names are read) turn on the option of the same name for the calls of
 //!   `duration-str` 0.19.0.
 //!
-//! Cargo turns on each feature that any crate of a program asks for. So of the last three features
-//! only `cn_unit` affects calls that `duration-str` 0.19.0 does not have, since it takes nothing
-//! away from what another crate reads. To set options for one call, use [`parse_with`].
+//! Cargo turns on each feature that any crate of a program asks for. Of the last three features,
+//! only `cn_unit` takes nothing away from what another crate reads. So it alone affects calls that
+//! `duration-str` 0.19.0 does not have. To set options for one call, use [`parse_with`].
 //!
 //! # What is proved
 //!
@@ -153,7 +153,7 @@
 //! This crate has the calls of `duration-str` 0.19.0 from crates.io, such as [`parse`], whose error
 //! is a `String`, [`HumanFormat`] and `deserialize_duration`. A few macros and types are missing,
 //! which `docs/MIGRATING.md` in the repository lists. The module `dates` has the calls of
-//! `duration-str` for a moment before or after now.
+//! `duration-str` for a moment before or after now, and two for a moment before or after another.
 //!
 //! ```
 //! use duration_str::{parse, HumanFormat};

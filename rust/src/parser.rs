@@ -36,10 +36,10 @@ pub(crate) const FEATURES: Options = Options {
     cn_unit: cfg!(feature = "cn_unit"),
 };
 
-/// The options under which calls read that `duration-str` 0.19.0 does not have, unless such a call
-/// is given options of its own. Only the feature `cn_unit`, which adds names, affects these calls.
-/// The other features take something away. If they affected these calls, a crate that turns one on
-/// would break what the other crates of the program read.
+/// The options of the calls that `duration-str` 0.19.0 does not have, except of those calls that
+/// take options. Only the feature `cn_unit`, which adds names, affects these calls. The other
+/// features take something away. If they affected these calls, a crate that turns one on would
+/// break what the other crates of the program read.
 pub(crate) const ADDITIONS: Options = Options {
     cn_unit: FEATURES.cn_unit,
     ..Options::off()
@@ -83,7 +83,7 @@ fn read(text: &str) -> Result<Duration, String> {
 ///
 /// # Errors
 ///
-/// Returns the message of the fault.
+/// Returns the fault's message of up to three lines.
 pub fn parse(input: impl AsRef<str>) -> Result<Duration, String> {
     read(input.as_ref())
 }

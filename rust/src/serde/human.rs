@@ -5,8 +5,8 @@
 //! The field's type is a duration of `std`, `chrono` or `time`, or an `Option` or a `Vec` of such a
 //! type. In other collections, such as a map, use [`HumanDuration`], which needs no `with`.
 //!
-//! - The format is asked for a text. So YAML's `90` is 90 seconds, and formats that don't store the
-//!   types of their values, such as bincode, are read too.
+//! - The data format, such as JSON, is asked for a text. So YAML's `90` is 90 seconds, and formats
+//!   that don't store the types of their values, such as bincode, are read too.
 //!   [`human_or_seconds`](crate::human_or_seconds) and
 //!   [`human_or_millis`](crate::human_or_millis) also read numbers.
 //! - The empty text is refused.
@@ -262,8 +262,8 @@ impl<T: Length, const HOW: u8> Visitor<'_> for Text<T, HOW> {
 }
 
 impl<T: Length, const HOW: u8> Text<T, HOW> {
-    /// Reads a float of this many binary digits, which must be whole, not negative and below 2 to
-    /// the power of `digits`. From there on a float can have lost digits.
+    /// Reads a float of a type that holds this many binary digits. The float must be whole, not
+    /// negative and below 2 to the power of `digits`. From there on it can have lost digits.
     fn visit_whole<E: de::Error>(self, number: f64, digits: u32) -> Result<T, E> {
         if unit_of_numbers(HOW).is_none() {
             return Err(E::invalid_type(Unexpected::Float(number), &self));
