@@ -70,7 +70,8 @@ fn of_input(error: io::Error) -> io::Error {
 struct Run<'a> {
     output: BufWriter<Box<dyn Write>>,
     end: u8,
-    /// Whether the line that was read has no line end, and with `--field` or `--header` gets none.
+    /// Whether the answer gets no line end. With `--field` or `--header` that is so if the line has
+    /// none.
     is_open: bool,
     choices: &'a Choices,
     has_refused: bool,

@@ -13,6 +13,7 @@ use std::time::Duration;
 
 /// The options that say how to print for people. `--to` is in conflict with them. So if one of them
 /// is given, clap doesn't report that `--decimals` or `--round` lacks the `--to` that it requires.
+/// That is why these two are in conflict with them too.
 const SHAPES: [&str; 5] = ["style", "parts", "units", "largest", "smallest"];
 
 /// Read durations such as 1h 30m, and print them for people or as numbers
@@ -269,8 +270,8 @@ fn with_list(shell: Shell, script: &str) -> String {
 }
 
 /// Makes clap's script for bash leave the names of files to bash, which completes them itself if
-/// there is no answer, and quotes them. `compgen -f` gives them as they are, and a name can be a
-/// command.
+/// there is no answer, and quotes them. `compgen -f` gives them as they are, and a name can
+/// contain a command.
 fn without_files(script: &str) -> String {
     script.replace(r#"COMPREPLY=($(compgen -f "${cur}"))"#, "COMPREPLY=()")
 }
