@@ -215,7 +215,7 @@ class Buffers(unittest.TestCase):
             while not has_ended.is_set():
                 turns.append(time.sleep(0))
 
-        # The interpreter doesn't make a thread give way.
+        # For a minute the interpreter makes no thread give way to another.
         sys.setswitchinterval(60)
         try:
             threading.Thread(target=take_turns).start()

@@ -199,7 +199,7 @@ class Printing(unittest.TestCase):
             " y",
             "1",
             "0s",
-            "000ms",  # With a 1 before it, it is a second.
+            "000ms",  # With a 1 before it, it is read as a second.
             "h 0s",
             "\ud800",
             "y\0",

@@ -48,7 +48,8 @@ class Place:
 
 
 # Texts that are no names of units: names with something before, after or within, Chinese names,
-# letters that look like those of names or have them as small letters, and texts without UTF-8.
+# letters that look like a letter of a name or become one in small letters or capitals, and texts
+# without UTF-8.
 NO_UNITS = ["", " ", "mins", "年", "毫秒", "1分", " ms", "ms ", "m s", "m\n", "m 0s", "1", "1ms", "0ms"]
 NO_UNITS += [
     "ms1",
@@ -64,7 +65,7 @@ NO_UNITS += [
 ]
 NO_UNITS += ["\ud800", "ms\udc00", "\ud800s", "m" * 15, "m" * 16, "milliseconds" * 10_000]
 
-# Calls that take options, each of which reads a text if it reads one.
+# Calls that take options. Some of them read no text.
 CALLS = [
     lambda **words: parse("1s", **words),
     lambda **words: parse_ns("1s", **words),
@@ -231,7 +232,7 @@ class Reading(unittest.TestCase):
                         with self.assertRaisesRegex(ValueError, line) as raised:
                             call(**words)
                         self.assertNotIsInstance(raised.exception, DurationError)
-        # These callers may write False, and no others need to.
+        # These options can stand together.
         for call in CALLS:
             for words in [
                 {"no_calc": False},

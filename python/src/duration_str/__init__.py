@@ -58,7 +58,7 @@ To get the counts of such a duration, for a text of your own, call `breakdown`
 with the same options except `style`. It returns a `Breakdown`.
 
 `format` is not in `__all__`, so `from duration_str import *` doesn't hide
-the builtin function. `Unit` and `Style` are the types of its options.
+Python's own `format`. `Unit` and `Style` are types of options.
 
 For a column:
 

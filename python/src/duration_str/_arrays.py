@@ -21,7 +21,7 @@ _NAT = -(2**63)
 
 
 def _is_missing(value: Any) -> bool:
-    """Whether a value is None, NaN, or a value by which pandas marks missing ones."""
+    """Whether a value is None, NaN, NaT, or another value by which pandas marks missing ones."""
     # If a module isn't imported, no value has one of its types.
     numpy: Any = sys.modules.get("numpy")
     pandas: Any = sys.modules.get("pandas")
@@ -104,7 +104,7 @@ def _nanos_of_lengths(values: Any, lengths: Any, raises: bool) -> Any:
             else _like(values, lengths)
         )
     step, numbers = nanos_a_step(lengths.dtype), lengths.astype("int64").ravel()
-    # The number that stands for NaT is its own absolute value.
+    # `abs` returns the number that stands for NaT as it is, below zero. So NaT isn't beyond.
     beyond = abs(numbers) > (2**63 - 1) // step
     if raises and beyond.any():
         first = int(beyond.argmax())
@@ -186,8 +186,9 @@ def to_timedelta(
     2**63 nanoseconds or more, which is some 292 years, since timedelta64 can't
     hold it. A number is refused as the text of its digits would be. Any other
     value, such as bytes, or a number without a default unit, raises
-    DurationTypeError, even if a text before it is refused. With
-    `errors="coerce"` all of these become NaT.
+    DurationTypeError, even if a text before it is refused. A timedelta of
+    2**63 nanoseconds or more raises OverflowError. With `errors="coerce"` all
+    of these become NaT.
     """
     raises = raises_errors(errors)
     reading = _native.reading(
@@ -229,8 +230,8 @@ def format_many(
     int of nanoseconds or a timedelta. The options are those of `format`.
 
     For a list or any other iterable it returns a list of str. For a Series, an
-    Index or a NumPy array it returns the same kind of column, with the type
-    object and the same shape, index and name. Such a column may also have the
+    Index or a NumPy array it returns the same kind of column, with the dtype
+    `object` and the same shape, index and name. Such a column may also have the
     type timedelta64, in units from weeks to nanoseconds. Missing values, such
     as None, NaN and NaT, become None.
 

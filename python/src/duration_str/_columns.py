@@ -14,8 +14,9 @@ Errors = Literal["raise", "coerce"]
 
 
 def keeps_types(values: Any) -> bool:
-    """Whether the values of a column must keep NumPy's types. Python's types for dates and for
-    lengths of time would be int, and for floats of 32 bits float. They would be read as numbers."""
+    """Whether the values of a column must keep NumPy's types. As values of Python, dates and
+    lengths of time can be ints, and floats of 32 bits are floats. These would be read as numbers.
+    """
     dtype = getattr(values, "dtype", None)
     kind = getattr(dtype, "kind", "O")
     return kind in "mM" or kind == "f" and getattr(dtype, "itemsize", 0) != 8
@@ -101,10 +102,10 @@ def parse_many(
     nanoseconds as an `array('Q')`. The options are those of `parse_ns`. If you
     name a default unit, whole numbers are read too, as by `parse_ns`.
 
-    With `errors="raise"` the first text that is refused, or number that is
-    read as one, raises a DurationError, whose `index` is its position. Any
-    other value, such as None, raises DurationTypeError, even if a text before
-    it is refused.
+    With `errors="raise"` the first text that is refused raises a
+    DurationError, whose `index` is the text's position. With a default unit, a
+    number is refused as the text of its digits would be. Any other value, such
+    as None, raises DurationTypeError, even if a text before it is refused.
 
     With `errors="coerce"` it returns two arrays. The first has the values, and
     0 for each text that is refused and for any other value. The second has the

@@ -1,4 +1,4 @@
-/* The calls of duration_str.h for Python. It uses the limited API, so that one module serves
+/* The calls of duration_str.h for Python. They use the limited API, so that one module serves
  * CPython from 3.11 on. Interpreters without a global lock have no such API, and turn a lock on
  * when they load the module. */
 #ifndef Py_GIL_DISABLED
@@ -63,7 +63,7 @@ struct state {
 /* What the keywords of a call say about how values are read. */
 struct said {
     uint32_t on;      /* the flags that are on */
-    uint32_t off;     /* the flags that are off, except an UNSAID one */
+    uint32_t off;     /* the flags that are off, except one whose value is UNSAID */
     int default_unit; /* -1 if none is named */
 };
 
@@ -633,8 +633,9 @@ static PyObject *breakdown_of(
     if (!duration_str_breakdown(
             duration->secs, duration->nanos, limits->units, limits->parts, counts, &rest)) {
         /* The count of the longest unit is 2^64 or more, so each unit is shorter than a second, and
-         * a second is a multiple of it. Then the other counts and the rest are those of the
-         * nanoseconds and any number of seconds except 0. */
+         * a second is a multiple of it. Then the seconds only add to that count, so the other
+         * counts and the rest are the same with 1 second. (With 0 seconds that unit could have no
+         * part, and another unit could have one more.) */
         first = printed_count(duration, limits->units);
         if (!first || !duration_str_breakdown(
                           1, duration->nanos, limits->units, limits->parts, counts, &rest))
