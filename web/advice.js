@@ -22,8 +22,8 @@ function optionsToTry(options, text) {
     const changes = [{}, CALC, CAPITALS, CHINESE, both];
     for (const each of [CALC, CAPITALS, both]) changes.push({ ...each, ...CHINESE });
     const isDate = DATE.test(text);
-    // Beside a default unit other than the second, operators are never read. The page names no
-    // other default unit.
+    // Beside a default unit other than the second, operators are never read. If the page names a
+    // default unit, it is such a unit.
     const hasOperators = options.defaultUnit === undefined;
     const tried = changes.filter(({ cnUnit, noCalc }) => (
         !(isDate && cnUnit) && (hasOperators || noCalc === undefined)

@@ -1,17 +1,17 @@
-// Texts in other notations, with their exact values. A notation is in this list if all of the
+// Converts texts in other notations, with their exact values. A notation is converted if all of the
 // following is true:
 //
 // - People write durations like this: another program reads or prints it, a standard has it, or it
 //   is ordinary prose.
 // - It is recognised by the whole text, and not by a part of it.
 // - The text itself says what is meant. `10' 30"` is minutes and seconds; `5'` may be feet, so it is
-//   not in. No calendar is needed: `P1M` is not in, since months vary.
+//   left out. No calendar is needed: `P1M` is left out, since months vary.
 // - If people use a text with two meanings, such as `1:30`, both are offered. A text with more
-//   meanings is not in.
+//   meanings is left out.
 // - texts.json has texts in this notation with their values, and similar texts that mean something
 //   else.
 //
-// A notation that people type but that is not in has a row in REFUSED, with a sentence that says
+// If people type a notation that is left out, it has a row in REFUSED, with a sentence that says
 // why.
 import { tryParseNs } from "../js/dist/duration-str.js";
 import { defaultUnitOf, terms, UNITS, unitOf } from "./units.js";
