@@ -29,6 +29,10 @@ int memcmp(const void *first, const void *second, size_t length) {
     return 0;
 }
 
+int bcmp(const void *first, const void *second, size_t length) {
+    return memcmp(first, second, length);
+}
+
 /* A panic of the library would end here. For 64-bit processors it is proved that the code behind
  * each call has none. */
 _Noreturn void abort(void) {
