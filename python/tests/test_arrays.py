@@ -222,6 +222,9 @@ class Reading(unittest.TestCase):
             numpy.array(day, dtype="datetime64[ns]"),
             pandas.Series(day, dtype="datetime64[ns]"),
             numpy.array([1.0], dtype="float32"),
+            pandas.Series([1.0], dtype="float32"),
+            pandas.Series([1.0], dtype="Float32"),
+            pandas.array([1.0], dtype="Float32"),
             numpy.array([True]),
             [numpy.True_],
         ]:
@@ -237,6 +240,8 @@ class Reading(unittest.TestCase):
             parse_many(lengths, default_unit="ms")
         masked = numpy.ma.array([1, 2], mask=True, dtype="float32")
         self.assertEqual(numbers(to_timedelta(masked, default_unit="ms")), [None, None])
+        gap = pandas.Series([None], dtype="Float32")
+        self.assertEqual(numbers(to_timedelta(gap, default_unit="ms")), [None])
         with self.assertRaisesRegex(TypeError, "not int64: .*default_unit='ms'$"):
             to_timedelta([numpy.int64(1)])
 

@@ -9,7 +9,7 @@ from functools import partial
 from typing import TYPE_CHECKING, Any, overload
 
 from . import _native
-from ._columns import Errors, keeps_types, raises_errors, values_of, zeros
+from ._columns import Errors, keeps_types, raises_errors, typed_values, values_of, zeros
 from ._texts import UNNAMED, UNSAID, Style, Unit, nanos_a_step, nanos_of, type_error_of
 
 if TYPE_CHECKING:
@@ -43,7 +43,7 @@ def _flat(values: Any) -> list[Any]:
     flat: Any = numpy.asarray(values, dtype=object)
     if keeps_types(values):
         flat = numpy.empty(flat.shape, dtype=object)
-        flat.flat = list(numpy.asarray(values).flat)
+        flat.flat = typed_values(values)
     if isinstance(values, numpy.ma.MaskedArray):
         flat = flat.copy()
         flat[values.mask] = None

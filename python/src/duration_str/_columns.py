@@ -22,6 +22,16 @@ def keeps_types(values: Any) -> bool:
     return kind in "mM" or kind == "f" and getattr(dtype, "itemsize", 0) != 8
 
 
+def typed_values(values: Any) -> list[Any]:
+    """The values of a column, each with its type of NumPy."""
+    import numpy
+
+    array = numpy.asarray(values)
+    # Iterating a column of pandas makes its floats of 32 bits floats of Python. Only in a nullable
+    # column they keep their type, and there it is the array that has floats of Python.
+    return list(values if array.dtype == object else array.flat)
+
+
 def values_of(texts: Any) -> list[Any]:
     """The values of a sequence, in a list of their own. Raises TypeError for a single text and for
     a table.
@@ -32,7 +42,9 @@ def values_of(texts: Any) -> list[Any]:
         raise TypeError(
             f"the texts must be one column, not {texts.ndim} dimensions of {type(texts).__name__}"
         )
-    return list(texts.tolist() if hasattr(texts, "tolist") and not keeps_types(texts) else texts)
+    if keeps_types(texts):
+        return typed_values(texts)
+    return list(texts.tolist() if hasattr(texts, "tolist") else texts)
 
 
 def zeros(count: int) -> array[int]:
