@@ -19,7 +19,10 @@ from texts import Texts  # noqa: E402
 LONGEST_LINE = 1_048_576
 BLANKS = reference.BLANKS
 EDGES = BLANKS.encode() + b'"'  # What is around the text in a field.
-NUMBER = re.compile(rf"[{BLANKS}]*([0-9]+(\.[0-9]+)?|\.[0-9]+)([eE][-+]?[0-9]+)?[{BLANKS}]*")
+# A number with a fraction or an exponent
+NUMBER = re.compile(
+    rf"[{BLANKS}]*([0-9]*\.[0-9]+([eE][-+]?[0-9]+)?|[0-9]+[eE][-+]?[0-9]+)[{BLANKS}]*"
+)
 LENGTHS = {name: unit.length for unit in reference.UNITS for name in unit.names.split()}
 LENGTHS |= {name.upper(): length for name, length in LENGTHS.items() if name.isascii()}
 VALUES = (

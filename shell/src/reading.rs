@@ -75,12 +75,16 @@ pub fn read<'a>(bytes: &'a [u8], choices: &Choices) -> Result<(&'a str, u64), Re
     Ok((text, duration.as_nanos() as u64))
 }
 
-/// If a text is only a number, such as `12.5`, `.5` or `1.2e-05`, returns it without the blanks
-/// around it, with its nanoseconds in this unit. The number is written without its exponent, and
-/// rounded down to 18 decimals. The result is rounded down too. With `Round::Up`, the number and
-/// the result are rounded up.
+/// If a text is only a number with a fraction or an exponent, such as `12.5`, `.5` or `1.2e-05`,
+/// returns it without the blanks around it, with its nanoseconds in this unit. (The library reads a
+/// number that has neither.) The number is written without its exponent, and rounded down to 18
+/// decimals. The result is rounded down too. With `Round::Up`, the number and the result are rounded
+/// up.
 fn bare_number(text: &str, unit: TimeUnit, round: Round) -> Option<(&str, u128)> {
     let number = text.trim_matches([' ', '\t', '\r', '\n']);
+    if !number.contains(['.', 'e', 'E']) {
+        return None;
+    }
     let (digits, exponent) = number.split_once(['e', 'E']).unwrap_or((number, "0"));
     let (whole, decimals) = digits.split_once('.').unwrap_or((digits, ""));
     let is_number = [whole, decimals]

@@ -271,15 +271,15 @@ fn takes_bare_numbers_as_a_unit() {
     const WRAPPING: &str = "664613997892457936451903530140172288";
     for text in [
         "18446744073.709551616",
-        "99999999999999999999",
+        "99999999999999999999.0",
         "1e12",
         "1e99999",
-        WRAPPING,
-        &"9".repeat(40),
-        &"9".repeat(41),
+        &format!("{WRAPPING}.0"),
+        &format!("{}.9", "9".repeat(38)),
+        &format!("{}.9", "9".repeat(39)),
     ] {
         let quote = if text.len() > 40 {
-            format!("\"{}\"...", &text[1..])
+            format!("\"{}\"...", &text[..40])
         } else {
             format!("\"{text}\"")
         };
@@ -289,6 +289,15 @@ fn takes_bare_numbers_as_a_unit() {
             (1, "".into(), errors)
         );
     }
+    // A number that is too large has the line of the other packages, if it has digits only.
+    for text in ["1700000000000000000", WRAPPING, " 18446744073709551616"] {
+        assert_eq!(run(&["--from", "s", text], b""), run(&[text], b""));
+    }
+    let errors = "duration: argument 1: number of 2^64 or more in \"18446744073709551616\"\n";
+    assert_eq!(
+        run(&["--from", "ns", "18446744073709551616"], b""),
+        (1, "".into(), errors.into())
+    );
     assert_eq!(
         answer(&["--from", "s", "--to", "ns", "18446744073.709551615"]),
         "18446744073709551615\n"
