@@ -105,6 +105,10 @@ static void check_default_units(void) {
     expect(read_with("1s+1", second).nanos == 2000000000u, "operators beside the second");
     const uint32_t millisecond = DURATION_STR_OPTION_DEFAULT_UNIT(DURATION_STR_UNIT_MILLISECOND);
     expect(millisecond == 0x90001u, "the bits of a default unit, which bindings compute");
+    expect(read_with("90", 0x80001u).nanos == UINT64_C(90000000000) &&
+               read_with("90*2", 0x80001u).place == 2 && is_unknown(0x80000u) &&
+               is_unknown(0x80001u | DURATION_STR_OPTION_REQUIRE_UNIT),
+        "the bits of the second, if a binding computes them like those of another unit");
     expect(read_with("1s 500", millisecond).nanos == 1500000000u, "a second and milliseconds");
     expect(is_syntax(read_with("90s*2", millisecond), 3, after_unit, 1), "a factor");
     expect(is_syntax(read_with("1s+500ms", millisecond), 2, after_unit, 1), "a plus");
