@@ -225,6 +225,8 @@ class Reading(unittest.TestCase):
             pandas.Series([1.0], dtype="float32"),
             pandas.Series([1.0], dtype="Float32"),
             pandas.array([1.0], dtype="Float32"),
+            pandas.Series([1.0], dtype="Float32").astype("category"),
+            pandas.Series(day, dtype="datetime64[ns]").astype("category"),
             numpy.array([True]),
             [numpy.True_],
         ]:
@@ -241,7 +243,8 @@ class Reading(unittest.TestCase):
         masked = numpy.ma.array([1, 2], mask=True, dtype="float32")
         self.assertEqual(numbers(to_timedelta(masked, default_unit="ms")), [None, None])
         gap = pandas.Series([None], dtype="Float32")
-        self.assertEqual(numbers(to_timedelta(gap, default_unit="ms")), [None])
+        for column in (gap, gap.astype("category")):
+            self.assertEqual(numbers(to_timedelta(column, default_unit="ms")), [None])
         with self.assertRaisesRegex(TypeError, "not int64: .*default_unit='ms'$"):
             to_timedelta([numpy.int64(1)])
 

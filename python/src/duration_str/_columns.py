@@ -18,6 +18,8 @@ def keeps_types(values: Any) -> bool:
     lengths of time can be ints, and floats of 32 bits are floats. These would be read as numbers.
     """
     dtype = getattr(values, "dtype", None)
+    # A column of categories has the values of these categories.
+    dtype = getattr(getattr(dtype, "categories", None), "dtype", dtype)
     kind = getattr(dtype, "kind", "O")
     return kind in "mM" or kind == "f" and getattr(dtype, "itemsize", 0) != 8
 
@@ -26,6 +28,8 @@ def typed_values(values: Any) -> list[Any]:
     """The values of a column, each with its type of NumPy."""
     import numpy
 
+    if hasattr(values.dtype, "categories"):
+        values = values.astype(values.dtype.categories.dtype)
     array = numpy.asarray(values)
     # Iterating a column of pandas makes its floats of 32 bits floats of Python. Only in a nullable
     # column they keep their type, and there it is the array that has floats of Python.
