@@ -101,10 +101,6 @@ impl Run<'_> {
     fn lines(&mut self, mut input: BufReader<File>) -> io::Result<()> {
         let mut line = Vec::new();
         for number in 1.. {
-            // All answers so far are written before the program waits for more input.
-            if !input.buffer().contains(&self.end) {
-                self.output.flush()?;
-            }
             if !self.next(&mut input, &mut line)? {
                 break;
             }
@@ -134,8 +130,17 @@ impl Run<'_> {
 
     /// Reads a line with its line end, or the beginning of a line that is too long. Returns false
     /// at the end of the input.
-    fn next(&self, input: &mut BufReader<File>, line: &mut Vec<u8>) -> io::Result<bool> {
+    fn next(&mut self, input: &mut BufReader<File>, line: &mut Vec<u8>) -> io::Result<bool> {
         line.clear();
+        // Most lines are short, and whole in the buffer. A search that compares byte by byte finds
+        // the end of a short line in the least time.
+        if let Some(last) = input.buffer().iter().position(|byte| *byte == self.end) {
+            line.extend_from_slice(&input.buffer()[..=last]);
+            input.consume(last + 1);
+            return Ok(true);
+        }
+        // All answers so far are written before the program waits for more input.
+        self.output.flush()?;
         let read = input.take(LONGEST as u64 + 1).read_until(self.end, line);
         Ok(read.map_err(of_input)? > 0)
     }
