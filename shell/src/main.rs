@@ -4,7 +4,7 @@
 mod options;
 mod reading;
 
-use duration_str::TimeUnit;
+use duration_str::{STYLED_BUFFER_SIZE, TimeUnit};
 use options::{Choices, Round};
 use reading::Refusal;
 use std::ffi::{CStr, OsStr, OsString, c_char, c_int};
@@ -166,7 +166,11 @@ impl Run<'_> {
         match reading::read(text, self.choices) {
             Err(refusal) => self.refuse(refusal, [before, text, after], number),
             Ok((text, nanos)) if self.choices.json => self.object(text, nanos),
-            Ok((_, nanos)) => self.put(&[before, self.choices.printed(nanos).as_bytes(), after]),
+            Ok((_, nanos)) => {
+                let mut buffer = [0; STYLED_BUFFER_SIZE];
+                let printed = self.choices.printed(nanos, &mut buffer);
+                self.put(&[before, printed.as_bytes(), after])
+            }
         }
     }
 
@@ -177,7 +181,8 @@ impl Run<'_> {
         serde_json::to_writer(&mut self.output, text)?;
         let seconds = options::in_unit(nanos, TimeUnit::Second, None, Round::Down);
         let mark = if self.choices.to.is_some() { "" } else { "\"" };
-        let printed = self.choices.printed(nanos);
+        let mut buffer = [0; STYLED_BUFFER_SIZE];
+        let printed = self.choices.printed(nanos, &mut buffer);
         let mut breakdown = self.choices.breakdown(nanos);
         let parts: Vec<String> = breakdown
             .by_ref()
