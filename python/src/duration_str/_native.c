@@ -151,16 +151,14 @@ static int read_str(struct state *state, PyObject *given, uint32_t options, uint
     }
     text.length = (size_t)length;
     /* The call without options is faster, but doesn't say why it refuses a text. */
-    if (!options && duration_str_parse(text.bytes, text.length, nanos))
-        return 1;
-    if (!options && !raises)
-        return 0;
-    PyObject *report = raises ? report_of(text, options, &answer) : NULL;
-    if (!raises)
-        duration_str_parse_with(text.bytes, text.length, options, &answer);
-    *nanos = answer.nanos;
-    if (answer.cause == DURATION_STR_CAUSE_READ || !raises)
-        return answer.cause == DURATION_STR_CAUSE_READ;
+    const bool is_read = options
+                             ? duration_str_parse_with(text.bytes, text.length, options, &answer)
+                             : duration_str_parse(text.bytes, text.length, nanos);
+    if (is_read && options)
+        *nanos = answer.nanos;
+    if (is_read || !raises)
+        return is_read;
+    PyObject *report = report_of(text, options, &answer);
     raise_error(state, report, PyUnicode_FromObject(given), &answer, text.bytes, index);
     return -1;
 }
