@@ -605,6 +605,17 @@ static PyObject *printed_count(const struct duration *duration, uint32_t units) 
     return PyLong_FromString(buffer, NULL, 10);
 }
 
+/* Makes a named tuple of this type. It takes over the reference to the items, which are a tuple.
+ * The type's own constructor is a function in Python, and takes some ten times as long. */
+static PyObject *named_tuple(PyObject *type, PyObject *items) {
+    const newfunc new_tuple = (newfunc)(uintptr_t)PyType_GetSlot(&PyTuple_Type, Py_tp_new);
+    PyObject *arguments = items ? PyTuple_Pack(1, items) : NULL;
+    PyObject *made = arguments ? new_tuple((PyTypeObject *)type, arguments, NULL) : NULL;
+    Py_XDECREF(arguments);
+    Py_XDECREF(items);
+    return made;
+}
+
 /* The parts whose counts are not 0, as a list. `first` is the count of the first part if it is 2^64
  * or more, and otherwise NULL. */
 static PyObject *list_of_parts(struct state *state, const uint64_t *counts, PyObject *first) {
@@ -614,8 +625,8 @@ static PyObject *list_of_parts(struct state *state, const uint64_t *counts, PyOb
             continue;
         const bool is_large = first && PyList_Size(parts) == 0;
         PyObject *count = is_large ? Py_NewRef(first) : PyLong_FromUnsignedLongLong(counts[unit]);
-        PyObject *part =
-            PyObject_CallFunction(state->kept[PART], "NO", count, state->kept[UNIT_NAMES + unit]);
+        PyObject *part = named_tuple(
+            state->kept[PART], Py_BuildValue("(NO)", count, state->kept[UNIT_NAMES + unit]));
         if (!part || PyList_Append(parts, part))
             Py_CLEAR(parts);
         Py_XDECREF(part);
@@ -645,7 +656,8 @@ static PyObject *breakdown_of(
     Py_XDECREF(first);
     if (!parts)
         return NULL;
-    return PyObject_CallFunction(state->kept[BREAKDOWN], "NK", parts, (unsigned long long)rest);
+    return named_tuple(
+        state->kept[BREAKDOWN], Py_BuildValue("(NK)", parts, (unsigned long long)rest));
 }
 
 static PyObject *breakdown(
