@@ -11,9 +11,8 @@ import { instance } from "instance";
 const PAGE = 65_536;
 /** A count of 64 bits is two halves of 32 bits, each below this. */
 const HALF = 2 ** 32;
-/** The nanoseconds in a millisecond and in a second. */
+/** The nanoseconds in a millisecond. */
 const MILLISECOND = 1_000_000;
-const SECOND = 1_000_000_000;
 /** All durations are below this many nanoseconds. */
 const LIMIT = 1n << 64n;
 const LONE_SURROGATE = /\p{Surrogate}/u;
@@ -488,26 +487,34 @@ function unitsLeft({ units, largest, smallest }, all, longest) {
 /** The duration in nanoseconds. */
 const nanoseconds = () => fields.getBigUint64(ANSWER, true);
 
-/** The duration in nanoseconds. Below 2^53 it is a number, which is exact there, and faster to
- * count with. */
-function count() {
+/** The duration in whole milliseconds, and the nanoseconds beyond them. All numbers on the way are
+ * below 2^53, so they are exact. */
+function split() {
     const high = fields.getUint32(ANSWER + 4, true);
-    return high < 2 ** 21 ? high * HALF + fields.getUint32(ANSWER, true) : nanoseconds();
+    const lower = high % MILLISECOND;
+    const nanos = lower * HALF + fields.getUint32(ANSWER, true);
+    const rest = nanos % MILLISECOND;
+    const millis = (high - lower) / MILLISECOND * HALF + (nanos - rest) / MILLISECOND;
+    return { millis, rest };
 }
 
 /** The arguments of the calls that take seconds and nanoseconds. The module takes a number of 64
  * bits, such as the seconds, as two halves. */
-function argumentsOf(total) {
-    const second = typeof total === "number" ? SECOND : BigInt(SECOND);
-    const nanos = total % second;
-    const secs = Number((total - nanos) / second);
-    return { low: secs | 0, high: Math.trunc(secs / HALF), nanos: Number(nanos) };
+function secondsAndNanos() {
+    const { millis, rest } = split();
+    const secs = Math.trunc(millis / 1000);
+    const nanos = millis % 1000 * MILLISECOND + rest;
+    return { low: secs | 0, high: Math.trunc(secs / HALF), nanos };
 }
 
 /** The number of milliseconds that is nearest to the duration. */
 function milliseconds() {
-    const nanos = count();
-    return typeof nanos === "number" ? nanos / MILLISECOND : Number(`${nanos}e-6`);
+    const high = fields.getUint32(ANSWER + 4, true);
+    if (high < 2 ** 21) return (high * HALF + fields.getUint32(ANSWER, true)) / MILLISECOND;
+    // From 2^53 ns on the sum is a multiple of 2^-19. The fraction, which is rounded too, is either
+    // a multiple of 1/64, and then exact, or too far from the middle of two sums to reach it.
+    const { millis, rest } = split();
+    return millis + rest / MILLISECOND;
 }
 
 const negative = (value) => new RangeError(`a duration is not negative: ${value}`);
@@ -605,7 +612,7 @@ function print(options) {
     }
     // The duration is taken before the options are looked at, since an option may have a getter
     // that calls this package.
-    const { low, high, nanos } = argumentsOf(count());
+    const { low, high, nanos } = secondsAndNanos();
     const chosen = formatOf(options, PRINTED_WHOLE);
     const { left } = unitsLeft(chosen, ALL_UNITS, "y");
     const parts = countOf(chosen.parts);
@@ -645,7 +652,7 @@ function breakDown(value, options, all, longest) {
         throw new TypeError(`a duration is ${wanted}, not ${typeOf(value)}`);
     }
     put(value);
-    const { low, high, nanos } = argumentsOf(count());
+    const { low, high, nanos } = secondsAndNanos();
     const chosen = formatOf(options, COUNTED_WHOLE);
     const { left, named } = unitsLeft(chosen, all, longest);
     // `breakdown` counts all units, and `parts` all except the quarter.
