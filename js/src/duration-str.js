@@ -120,15 +120,17 @@ function decode(bytes) {
     return decoder.decode(bytes);
 }
 
-/** Arrays for the codes of short texts, one for each length. An array has all its elements from the
- * start. To assign to an element that it lacks would call a setter, if a page has given one to all
- * arrays. */
+/** An array that has all its elements from the start. To assign to an element that it lacks would
+ * call a setter, if a page has given one to all arrays. */
+const placesFor = (length) => " ".repeat(length).split("");
+
+/** Arrays for the codes of short texts, one for each length. */
 const codesOf = { __proto__: null };
 
 /** The text of this length that a call has written. */
 function output(length) {
     if (length > SHORT_WRITTEN) return decode(written.subarray(0, length));
-    const codes = codesOf[length] ??= " ".repeat(length).split("");
+    const codes = codesOf[length] ??= placesFor(length);
     for (let place = 0; place < length; place++) {
         codes[place] = written[place];
         if (codes[place] > 0x7f) return decode(written.subarray(0, length));
@@ -666,20 +668,19 @@ function breakDown(value, options, all, longest) {
 /** The count of a unit, as a bigint. */
 const countAt = (unit) => fields.getBigUint64(WRITTEN + 8 * unit, true);
 
-/** Adds an element to a list. To assign it would call a setter, if a page has given one to all
- * arrays. */
-function add(list, value) {
-    Object.defineProperty(list, list.length, {
-        __proto__: null, value, writable: true, enumerable: true, configurable: true,
-    });
+/** Whether a unit has a count. This makes no bigint. */
+function isCounted(unit) {
+    const address = WRITTEN + 8 * unit;
+    return fields.getUint32(address, true) !== 0 || fields.getUint32(address + 4, true) !== 0;
 }
 
 export function breakdown(value, options = {}) {
     breakDown(value, options, ALL_UNITS, "y");
-    const counted = [];
-    for (let unit = 0; unit < UNITS.length; unit++) {
-        const count = countAt(unit);
-        if (count > 0n) add(counted, { count, unit: UNITS[unit] });
+    let length = 0;
+    for (let unit = 0; unit < UNITS.length; unit++) length += isCounted(unit);
+    const counted = placesFor(length);
+    for (let unit = 0, place = 0; place < length; unit++) {
+        if (isCounted(unit)) counted[place++] = { count: countAt(unit), unit: UNITS[unit] };
     }
     return { parts: counted, restNs: nanoseconds() };
 }
@@ -705,9 +706,8 @@ export function parts(value, options = {}) {
     let counts = {};
     let isZero = true;
     for (let unit = 0; unit < UNITS.length; unit++) {
-        const count = exactly(countAt(unit));
-        if (count === 0) continue;
-        counts = withCount(counts, PARTS[unit], count);
+        if (!isCounted(unit)) continue;
+        counts = withCount(counts, PARTS[unit], exactly(countAt(unit)));
         isZero = false;
     }
     if (!isZero) return counts;
