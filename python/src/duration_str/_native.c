@@ -40,6 +40,7 @@ enum kept {
     TIMEDELTA,
     A_MICROSECOND,
     A_SECOND,
+    DATETIME_CALLS,
     UNIT_NAMES,
     KEPT = UNIT_NAMES + DURATION_STR_UNIT_NANOSECOND + 1
 };
@@ -56,8 +57,20 @@ static const char *const kept_names[] = {"no_calc", "lowercase", "cn_unit", "req
 /* From here on a float can have lost digits of the number that it was made of. */
 #define INEXACT 9007199254740992.0
 
+/* The beginning of the structure that the module datetime exports, whose function makes a timedelta
+ * of days, seconds and microseconds. It is the same in the headers of CPython 3.11 to 3.13, but the
+ * limited API leaves it out, so it is used for these versions only. */
+struct datetime_calls {
+    PyTypeObject *types[5];
+    PyObject *utc;
+    void (*others[3])(void);
+    PyObject *(*timedelta)(int days, int seconds, int micros, int normalizes, PyTypeObject *type);
+};
+#define KNOWN_DATETIME (Py_Version < 0x030e0000)
+
 struct state {
     PyObject *kept[KEPT];
+    const struct datetime_calls *datetime; /* NULL if the structure isn't known */
 };
 
 /* What the keywords of a call say about how values are read. */
@@ -339,17 +352,27 @@ static PyObject *parse_ns(
     return PyLong_FromUnsignedLongLong(nanos);
 }
 
+/* The timedelta of nanoseconds, rounded down to microseconds. */
+static PyObject *timedelta_of(struct state *state, uint64_t nanos) {
+    if (state->datetime) {
+        const uint64_t secs = nanos / SECOND;
+        return state->datetime->timedelta((int)(secs / 86400), (int)(secs % 86400),
+            (int)(nanos % SECOND / 1000), 0, (PyTypeObject *)state->kept[TIMEDELTA]);
+    }
+    /* Multiplying takes two thirds of the time that the constructor would take. */
+    PyObject *micros = PyLong_FromUnsignedLongLong(nanos / 1000);
+    PyObject *value = micros ? PyNumber_Multiply(state->kept[A_MICROSECOND], micros) : NULL;
+    Py_XDECREF(micros);
+    return value;
+}
+
 static PyObject *parse(
     PyObject *self, PyObject *const *arguments, Py_ssize_t count, PyObject *keywords) {
     struct state *state = PyModule_GetState(self);
     uint64_t nanos;
     if (read_call(state, "parse", arguments, count, keywords, &nanos))
         return NULL;
-    /* Multiplying takes two thirds of the time that the constructor would take. */
-    PyObject *micros = PyLong_FromUnsignedLongLong(nanos / 1000);
-    PyObject *value = micros ? PyNumber_Multiply(state->kept[A_MICROSECOND], micros) : NULL;
-    Py_XDECREF(micros);
-    return value;
+    return timedelta_of(state, nanos);
 }
 
 static PyObject *parse_seconds(
@@ -1099,9 +1122,21 @@ static PyObject *member(const char *module, const char *name) {
     return taken;
 }
 
+/* Finds the structure of the module datetime, if it is known. Otherwise timedelta_of does without.
+ */
+static void find_datetime(struct state *state) {
+    const char *name = "datetime.datetime_CAPI";
+    PyObject *capsule = KNOWN_DATETIME ? member("datetime", "datetime_CAPI") : NULL;
+    if (capsule)
+        state->datetime = PyCapsule_GetPointer(capsule, name);
+    PyErr_Clear();
+    state->kept[DATETIME_CALLS] = capsule ? capsule : Py_NewRef(Py_None);
+}
+
 static int begin(PyObject *module) {
     struct state *state = PyModule_GetState(module);
     int is_there = 1;
+    find_datetime(state);
     for (int at = 0; at < ERROR; at++)
         state->kept[at] = PyUnicode_InternFromString(kept_names[at]);
     state->kept[ERROR] = member("duration_str._texts", "DurationError");
