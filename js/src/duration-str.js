@@ -11,9 +11,8 @@ import { instance } from "instance";
 const PAGE = 65_536;
 /** A count of 64 bits is two halves of 32 bits, each below this. */
 const HALF = 2 ** 32;
-/** The nanoseconds in a millisecond and in a second. */
+/** The nanoseconds in a millisecond. */
 const MILLISECOND = 1_000_000;
-const SECOND = 1_000_000_000;
 /** All durations are below this many nanoseconds. */
 const LIMIT = 1n << 64n;
 const LONE_SURROGATE = /\p{Surrogate}/u;
@@ -121,15 +120,17 @@ function decode(bytes) {
     return decoder.decode(bytes);
 }
 
-/** Arrays for the codes of short texts, one for each length. An array has all its elements from the
- * start. To assign to an element that it lacks would call a setter, if a page has given one to all
- * arrays. */
+/** An array that has all its elements from the start. To assign to an element that it lacks would
+ * call a setter, if a page has given one to all arrays. */
+const placesFor = (length) => " ".repeat(length).split("");
+
+/** Arrays for the codes of short texts, one for each length. */
 const codesOf = { __proto__: null };
 
 /** The text of this length that a call has written. */
 function output(length) {
     if (length > SHORT_WRITTEN) return decode(written.subarray(0, length));
-    const codes = codesOf[length] ??= " ".repeat(length).split("");
+    const codes = codesOf[length] ??= placesFor(length);
     for (let place = 0; place < length; place++) {
         codes[place] = written[place];
         if (codes[place] > 0x7f) return decode(written.subarray(0, length));
@@ -488,26 +489,34 @@ function unitsLeft({ units, largest, smallest }, all, longest) {
 /** The duration in nanoseconds. */
 const nanoseconds = () => fields.getBigUint64(ANSWER, true);
 
-/** The duration in nanoseconds. Below 2^53 it is a number, which is exact there, and faster to
- * count with. */
-function count() {
+/** The duration in whole milliseconds, and the nanoseconds beyond them. All numbers on the way are
+ * below 2^53, so they are exact. */
+function split() {
     const high = fields.getUint32(ANSWER + 4, true);
-    return high < 2 ** 21 ? high * HALF + fields.getUint32(ANSWER, true) : nanoseconds();
+    const lower = high % MILLISECOND;
+    const nanos = lower * HALF + fields.getUint32(ANSWER, true);
+    const rest = nanos % MILLISECOND;
+    const millis = (high - lower) / MILLISECOND * HALF + (nanos - rest) / MILLISECOND;
+    return { millis, rest };
 }
 
 /** The arguments of the calls that take seconds and nanoseconds. The module takes a number of 64
  * bits, such as the seconds, as two halves. */
-function argumentsOf(total) {
-    const second = typeof total === "number" ? SECOND : BigInt(SECOND);
-    const nanos = total % second;
-    const secs = Number((total - nanos) / second);
-    return { low: secs | 0, high: Math.trunc(secs / HALF), nanos: Number(nanos) };
+function secondsAndNanos() {
+    const { millis, rest } = split();
+    const secs = Math.trunc(millis / 1000);
+    const nanos = millis % 1000 * MILLISECOND + rest;
+    return { low: secs | 0, high: Math.trunc(secs / HALF), nanos };
 }
 
 /** The number of milliseconds that is nearest to the duration. */
 function milliseconds() {
-    const nanos = count();
-    return typeof nanos === "number" ? nanos / MILLISECOND : Number(`${nanos}e-6`);
+    const high = fields.getUint32(ANSWER + 4, true);
+    if (high < 2 ** 21) return (high * HALF + fields.getUint32(ANSWER, true)) / MILLISECOND;
+    // From 2^53 ns on the sum is a multiple of 2^-19. The fraction, which is rounded too, is either
+    // a multiple of 1/64, and then exact, or too far from the middle of two sums to reach it.
+    const { millis, rest } = split();
+    return millis + rest / MILLISECOND;
 }
 
 const negative = (value) => new RangeError(`a duration is not negative: ${value}`);
@@ -605,7 +614,7 @@ function print(options) {
     }
     // The duration is taken before the options are looked at, since an option may have a getter
     // that calls this package.
-    const { low, high, nanos } = argumentsOf(count());
+    const { low, high, nanos } = secondsAndNanos();
     const chosen = formatOf(options, PRINTED_WHOLE);
     const { left } = unitsLeft(chosen, ALL_UNITS, "y");
     const parts = countOf(chosen.parts);
@@ -645,7 +654,7 @@ function breakDown(value, options, all, longest) {
         throw new TypeError(`a duration is ${wanted}, not ${typeOf(value)}`);
     }
     put(value);
-    const { low, high, nanos } = argumentsOf(count());
+    const { low, high, nanos } = secondsAndNanos();
     const chosen = formatOf(options, COUNTED_WHOLE);
     const { left, named } = unitsLeft(chosen, all, longest);
     // `breakdown` counts all units, and `parts` all except the quarter.
@@ -659,20 +668,19 @@ function breakDown(value, options, all, longest) {
 /** The count of a unit, as a bigint. */
 const countAt = (unit) => fields.getBigUint64(WRITTEN + 8 * unit, true);
 
-/** Adds an element to a list. To assign it would call a setter, if a page has given one to all
- * arrays. */
-function add(list, value) {
-    Object.defineProperty(list, list.length, {
-        __proto__: null, value, writable: true, enumerable: true, configurable: true,
-    });
+/** Whether a unit has a count. This makes no bigint. */
+function isCounted(unit) {
+    const address = WRITTEN + 8 * unit;
+    return fields.getUint32(address, true) !== 0 || fields.getUint32(address + 4, true) !== 0;
 }
 
 export function breakdown(value, options = {}) {
     breakDown(value, options, ALL_UNITS, "y");
-    const counted = [];
-    for (let unit = 0; unit < UNITS.length; unit++) {
-        const count = countAt(unit);
-        if (count > 0n) add(counted, { count, unit: UNITS[unit] });
+    let length = 0;
+    for (let unit = 0; unit < UNITS.length; unit++) length += isCounted(unit);
+    const counted = placesFor(length);
+    for (let unit = 0, place = 0; place < length; unit++) {
+        if (isCounted(unit)) counted[place++] = { count: countAt(unit), unit: UNITS[unit] };
     }
     return { parts: counted, restNs: nanoseconds() };
 }
@@ -698,9 +706,8 @@ export function parts(value, options = {}) {
     let counts = {};
     let isZero = true;
     for (let unit = 0; unit < UNITS.length; unit++) {
-        const count = exactly(countAt(unit));
-        if (count === 0) continue;
-        counts = withCount(counts, PARTS[unit], count);
+        if (!isCounted(unit)) continue;
+        counts = withCount(counts, PARTS[unit], exactly(countAt(unit)));
         isZero = false;
     }
     if (!isZero) return counts;

@@ -324,6 +324,18 @@ test("reads the nearest number of milliseconds", () => {
     assert.deepEqual(fault.expected, { number: false, unit: true, operator: false, end: false });
 });
 
+test("reads the nearest number of milliseconds of a long duration", () => {
+    for (let exponent = 52n; exponent < 64n; exponent++) {
+        for (let step = 0n; step < 300n; step++) {
+            // This is near the middle of two numbers. 2^-20 ms are 15,625 / 2^14 ns.
+            const middle = 2n ** exponent + 15_625n * step * 997n / 2n ** 14n;
+            for (const nanos of [middle, middle + 1n]) {
+                assert.equal(parse(`${nanos}ns`), Number(`${nanos}e-6`), `${nanos}`);
+            }
+        }
+    }
+});
+
 test("reads 10 MB, and keeps the memory for later texts", (context) => {
     const grow = context.mock.method(WebAssembly.Memory.prototype, "grow");
     const count = 3_400_000;

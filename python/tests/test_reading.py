@@ -10,6 +10,8 @@ import itertools
 import json
 import random
 import re
+import subprocess
+import sys
 import typing
 import unittest
 from array import array
@@ -113,6 +115,18 @@ class Reading(unittest.TestCase):
         help_words = "(write the number's unit: y, q, mon, w, d, h, min, s, ms, us or ns)"
         line = f"expected a unit at column 3, found the end {help_words}"
         self.assertEqual(str(raised.exception), line)
+
+    def test_makes_timedeltas_without_the_calls_of_datetime(self):
+        # Later versions of Python perhaps have other calls, and others have none.
+        program = """
+import datetime, random
+del datetime.datetime_CAPI
+from duration_str import parse
+for nanos in [999, 1000, 86_400 * 10**9 - 1, 2**64 - 1, *map(random.getrandbits, range(64))]:
+    assert parse(f"{nanos}ns") == datetime.timedelta(microseconds=nanos // 1000), nanos
+"""
+        for lines in [program, program.replace("del datetime.datetime_CAPI", "")]:
+            subprocess.run([sys.executable, "-c", lines], check=True)
 
     def test_counts_the_default_unit(self):
         for name in typing.get_args(Unit):

@@ -7,6 +7,7 @@ use duration_str::{
     Breakdown, Format, STYLED_BUFFER_SIZE, Style, TimeUnit, Units, UnknownUnit, parse_duration,
     write_format,
 };
+use std::borrow::Cow;
 use std::ffi::{OsStr, OsString};
 use std::os::unix::ffi::OsStrExt;
 use std::time::Duration;
@@ -150,12 +151,16 @@ impl Choices {
         Breakdown::new(&Duration::from_nanos(nanos), self.format())
     }
 
-    pub fn printed(&self, nanos: u64) -> String {
+    /// What is printed for these nanoseconds: a number, or a text that is written to the buffer.
+    pub fn printed<'b>(
+        &self,
+        nanos: u64,
+        buffer: &'b mut [u8; STYLED_BUFFER_SIZE],
+    ) -> Cow<'b, str> {
         if let Some(unit) = self.to {
-            return in_unit(nanos, unit, self.decimals, self.round);
+            return in_unit(nanos, unit, self.decimals, self.round).into();
         }
-        let mut buffer = [0; STYLED_BUFFER_SIZE];
-        write_format(&Duration::from_nanos(nanos), self.format(), &mut buffer).to_string()
+        write_format(&Duration::from_nanos(nanos), self.format(), buffer).into()
     }
 }
 

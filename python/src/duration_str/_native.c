@@ -40,6 +40,7 @@ enum kept {
     TIMEDELTA,
     A_MICROSECOND,
     A_SECOND,
+    DATETIME_CALLS,
     UNIT_NAMES,
     KEPT = UNIT_NAMES + DURATION_STR_UNIT_NANOSECOND + 1
 };
@@ -56,8 +57,20 @@ static const char *const kept_names[] = {"no_calc", "lowercase", "cn_unit", "req
 /* From here on a float can have lost digits of the number that it was made of. */
 #define INEXACT 9007199254740992.0
 
+/* The beginning of the structure that the module datetime exports, whose function makes a timedelta
+ * of days, seconds and microseconds. It is the same in the headers of CPython 3.11 to 3.13, but the
+ * limited API leaves it out, so it is used for these versions only. */
+struct datetime_calls {
+    PyTypeObject *types[5];
+    PyObject *utc;
+    void (*others[3])(void);
+    PyObject *(*timedelta)(int days, int seconds, int micros, int normalizes, PyTypeObject *type);
+};
+#define KNOWN_DATETIME (Py_Version < 0x030e0000)
+
 struct state {
     PyObject *kept[KEPT];
+    const struct datetime_calls *datetime; /* NULL if the structure isn't known */
 };
 
 /* What the keywords of a call say about how values are read. */
@@ -151,16 +164,14 @@ static int read_str(struct state *state, PyObject *given, uint32_t options, uint
     }
     text.length = (size_t)length;
     /* The call without options is faster, but doesn't say why it refuses a text. */
-    if (!options && duration_str_parse(text.bytes, text.length, nanos))
-        return 1;
-    if (!options && !raises)
-        return 0;
-    PyObject *report = raises ? report_of(text, options, &answer) : NULL;
-    if (!raises)
-        duration_str_parse_with(text.bytes, text.length, options, &answer);
-    *nanos = answer.nanos;
-    if (answer.cause == DURATION_STR_CAUSE_READ || !raises)
-        return answer.cause == DURATION_STR_CAUSE_READ;
+    const bool is_read = options
+                             ? duration_str_parse_with(text.bytes, text.length, options, &answer)
+                             : duration_str_parse(text.bytes, text.length, nanos);
+    if (is_read && options)
+        *nanos = answer.nanos;
+    if (is_read || !raises)
+        return is_read;
+    PyObject *report = report_of(text, options, &answer);
     raise_error(state, report, PyUnicode_FromObject(given), &answer, text.bytes, index);
     return -1;
 }
@@ -341,17 +352,27 @@ static PyObject *parse_ns(
     return PyLong_FromUnsignedLongLong(nanos);
 }
 
+/* The timedelta of nanoseconds, rounded down to microseconds. */
+static PyObject *timedelta_of(struct state *state, uint64_t nanos) {
+    if (state->datetime) {
+        const uint64_t secs = nanos / SECOND;
+        return state->datetime->timedelta((int)(secs / 86400), (int)(secs % 86400),
+            (int)(nanos % SECOND / 1000), 0, (PyTypeObject *)state->kept[TIMEDELTA]);
+    }
+    /* Multiplying takes two thirds of the time that the constructor would take. */
+    PyObject *micros = PyLong_FromUnsignedLongLong(nanos / 1000);
+    PyObject *value = micros ? PyNumber_Multiply(state->kept[A_MICROSECOND], micros) : NULL;
+    Py_XDECREF(micros);
+    return value;
+}
+
 static PyObject *parse(
     PyObject *self, PyObject *const *arguments, Py_ssize_t count, PyObject *keywords) {
     struct state *state = PyModule_GetState(self);
     uint64_t nanos;
     if (read_call(state, "parse", arguments, count, keywords, &nanos))
         return NULL;
-    /* Multiplying takes two thirds of the time that the constructor would take. */
-    PyObject *micros = PyLong_FromUnsignedLongLong(nanos / 1000);
-    PyObject *value = micros ? PyNumber_Multiply(state->kept[A_MICROSECOND], micros) : NULL;
-    Py_XDECREF(micros);
-    return value;
+    return timedelta_of(state, nanos);
 }
 
 static PyObject *parse_seconds(
@@ -607,6 +628,17 @@ static PyObject *printed_count(const struct duration *duration, uint32_t units) 
     return PyLong_FromString(buffer, NULL, 10);
 }
 
+/* Makes a named tuple of this type. It takes over the reference to the items, which are a tuple.
+ * The type's own constructor is a function in Python, and takes some ten times as long. */
+static PyObject *named_tuple(PyObject *type, PyObject *items) {
+    const newfunc new_tuple = (newfunc)(uintptr_t)PyType_GetSlot(&PyTuple_Type, Py_tp_new);
+    PyObject *arguments = items ? PyTuple_Pack(1, items) : NULL;
+    PyObject *made = arguments ? new_tuple((PyTypeObject *)type, arguments, NULL) : NULL;
+    Py_XDECREF(arguments);
+    Py_XDECREF(items);
+    return made;
+}
+
 /* The parts whose counts are not 0, as a list. `first` is the count of the first part if it is 2^64
  * or more, and otherwise NULL. */
 static PyObject *list_of_parts(struct state *state, const uint64_t *counts, PyObject *first) {
@@ -616,8 +648,8 @@ static PyObject *list_of_parts(struct state *state, const uint64_t *counts, PyOb
             continue;
         const bool is_large = first && PyList_Size(parts) == 0;
         PyObject *count = is_large ? Py_NewRef(first) : PyLong_FromUnsignedLongLong(counts[unit]);
-        PyObject *part =
-            PyObject_CallFunction(state->kept[PART], "NO", count, state->kept[UNIT_NAMES + unit]);
+        PyObject *part = named_tuple(
+            state->kept[PART], Py_BuildValue("(NO)", count, state->kept[UNIT_NAMES + unit]));
         if (!part || PyList_Append(parts, part))
             Py_CLEAR(parts);
         Py_XDECREF(part);
@@ -647,7 +679,8 @@ static PyObject *breakdown_of(
     Py_XDECREF(first);
     if (!parts)
         return NULL;
-    return PyObject_CallFunction(state->kept[BREAKDOWN], "NK", parts, (unsigned long long)rest);
+    return named_tuple(
+        state->kept[BREAKDOWN], Py_BuildValue("(NK)", parts, (unsigned long long)rest));
 }
 
 static PyObject *breakdown(
@@ -1089,9 +1122,21 @@ static PyObject *member(const char *module, const char *name) {
     return taken;
 }
 
+/* Finds the structure of the module datetime, if it is known. Otherwise timedelta_of does without.
+ */
+static void find_datetime(struct state *state) {
+    const char *name = "datetime.datetime_CAPI";
+    PyObject *capsule = KNOWN_DATETIME ? member("datetime", "datetime_CAPI") : NULL;
+    if (capsule)
+        state->datetime = PyCapsule_GetPointer(capsule, name);
+    PyErr_Clear();
+    state->kept[DATETIME_CALLS] = capsule ? capsule : Py_NewRef(Py_None);
+}
+
 static int begin(PyObject *module) {
     struct state *state = PyModule_GetState(module);
     int is_there = 1;
+    find_datetime(state);
     for (int at = 0; at < ERROR; at++)
         state->kept[at] = PyUnicode_InternFromString(kept_names[at]);
     state->kept[ERROR] = member("duration_str._texts", "DurationError");
