@@ -180,7 +180,7 @@ class Models(unittest.TestCase):
         self.assertEqual(adapter.validate_json("1500"), MINUTE / 40)
         for value, line in [
             ("1.5", r'found "\." \(numbers have digits only: write 1500ms for 1\.5s\)'),
-            ("-5", "negative durations are not read"),
+            ("-5", 'at column 1, found "-"'),
             ("18446744073709551616", "number of 2\\^64 or more"),
             ("true", r"valid string or integer \[type=duration_type"),
             ("[1]", r"valid string or integer \[type=duration_type"),

@@ -34,7 +34,7 @@ assert_type(broken, duration_str.Breakdown)
 assert_type(broken.rest_ns, int)
 assert_type(duration_str.breakdown(datetime.timedelta(1)).parts[0].count, int)
 part: duration_str.Part = duration_str.breakdown(numpy.timedelta64(5, "s")).parts[0]
-assert_type(part.unit, duration_str.Unit)
+assert_type(part.unit, duration_str.PrintedUnit)
 count, printed = part
 assert_type(duration_str.format(count, largest=printed), str)
 duration_str.breakdown(5, style="long")  # type: ignore[call-arg]

@@ -58,7 +58,8 @@ To get the counts of such a duration, for a text of your own, call `breakdown`
 with the same options except `style`. It returns a `Breakdown`.
 
 `format` is not in `__all__`, so `from duration_str import *` doesn't hide
-Python's own `format`. `Unit` and `Style` are types of options.
+Python's own `format`. `Unit` and `Style` are types of options, and `PrintedUnit`
+is the type of a `Part`'s unit.
 
 For a column:
 
@@ -93,6 +94,7 @@ from ._texts import (
     DurationTypeError,
     Expected,
     Part,
+    PrintedUnit,
     Style,
     Unit,
 )
@@ -107,6 +109,7 @@ __all__ = [
     "DurationRequireUnit",
     "Expected",
     "Part",
+    "PrintedUnit",
     "Style",
     "Unit",
 ]

@@ -22,6 +22,14 @@ Unit = Literal[
 ]
 # fmt: on
 
+#: A unit by the name that is printed in the short style
+# Made by tests/repository --write.
+# fmt: off
+PrintedUnit = Literal[
+    "y", "q", "mon", "w", "d", "h", "min", "s", "ms", "µs", "ns"
+]
+# fmt: on
+
 #: How a duration is printed: `1h 30min`, `1h30min`, `1 hour 30 minutes`
 Style = Literal["short", "compact", "long"]
 
@@ -32,7 +40,7 @@ class Part(NamedTuple):
     # Each tuple has a method of this name.
     count: int  # type: ignore[assignment]
     """How many there are of the unit, at least 1."""
-    unit: Unit
+    unit: PrintedUnit
     """The unit, by the name that `format` prints in the short style."""
 
 
