@@ -95,7 +95,8 @@
 extern "C" {
 #endif
 
-/* The name of each constant begins with the name of its enumeration. */
+/* The name of each constant begins with the name of its enumeration, or for a
+ * unit with DURATION_STR_UNIT. */
 
 /* The options are bits of a `uint32_t`; 0 turns all of them off. Further bits
  * are those of DURATION_STR_OPTION_DEFAULT_UNIT. If a bit is set that belongs
@@ -116,8 +117,8 @@ enum duration_str_option {
 };
 
 /* With this option a number without a unit counts `unit`, one of
- * `enum duration_str_unit`, instead of seconds. For example, with milliseconds
- * `1500` and `1s 500` are 1.5 seconds.
+ * `enum duration_str_time_unit`, instead of seconds. For example, with
+ * milliseconds `1500` and `1s 500` are 1.5 seconds.
  *
  * For the second the option is 0. For any other unit it includes
  * DURATION_STR_OPTION_NO_CALC (docs/GRAMMAR.md in the repository says why).
@@ -177,10 +178,9 @@ enum duration_str_expected {
     DURATION_STR_EXPECTED_END = 8       /* the end of the text */
 };
 
-/* The units, the longest first. In C++ the enumeration's name always needs the
- * word `enum`, since a function has the same name. */
+/* The units, the longest first. */
 /* The enumeration is made by tests/repository --write. */
-enum duration_str_unit {
+enum duration_str_time_unit {
     DURATION_STR_UNIT_YEAR = 0,
     DURATION_STR_UNIT_QUARTER = 1,
     DURATION_STR_UNIT_MONTH = 2,
@@ -198,7 +198,8 @@ enum duration_str_unit {
  * unit. */
 #define DURATION_STR_UNITS_ALL UINT32_C(0x7FF)
 
-/* The set of one unit of `enum duration_str_unit`. Sets are joined by `|`. */
+/* The set of one unit of `enum duration_str_time_unit`. Sets are joined by
+ * `|`. */
 #define DURATION_STR_UNITS(unit) (UINT32_C(1) << (unit))
 
 /* The set of the units from `largest` to `smallest`. The set is empty, which
@@ -284,8 +285,8 @@ size_t duration_str_format_with(
  * duration_str_format_with prints, without counts of 0.
  *
  * Returns true, and writes to `counts` how many there are of each unit. The
- * count of a unit is at the unit's number in `enum duration_str_unit`. It is 0
- * if the unit has no part. Writes to `*rest` the nanoseconds that no part has.
+ * count of a unit is at the unit's number in `enum duration_str_time_unit`. It
+ * is 0 if the unit has no part. Writes to `*rest` the nanoseconds that no part has.
  * So the counts, each times the length of its unit, and the rest are together
  * the duration. `rest` must not point into `counts`.
  *
@@ -355,8 +356,8 @@ size_t duration_str_report(
     char buffer[DURATION_STR_AT_LEAST DURATION_STR_REPORT_BUFFER_SIZE]);
 
 /* Finds a unit by its name, such as `h`, `ms` or `minutes`. Returns the unit's
- * number in `enum duration_str_unit`, or -1 if no unit has this name or if the
- * bytes are not UTF-8.
+ * number in `enum duration_str_time_unit`, or -1 if no unit has this name or if
+ * the bytes are not UTF-8.
  *
  * The name is passed like a text. It is one of the names of units above, and
  * its ASCII letters may be capitals. The Chinese names give -1. So do the empty
