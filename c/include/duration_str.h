@@ -37,9 +37,13 @@
 #ifndef DURATION_STR_H
 #define DURATION_STR_H
 
+/* For LuaJIT, PHP's FFI and Python's cffi, which read declarations and nothing
+ * else, `cpp -P -DDURATION_STR_DECLARATIONS_ONLY duration_str.h` prints them. */
+#ifndef DURATION_STR_DECLARATIONS_ONLY
 #include <stdbool.h>
 #include <stddef.h>
 #include <stdint.h>
+#endif
 
 /* The version of this header. duration_str_version returns the library's. */
 #define DURATION_STR_VERSION_MAJOR 0
@@ -70,12 +74,13 @@
 
 /* Attributes for GCC and Clang. They say how many bytes a buffer has (in C),
  * which pointers may not be null, and which results must be used. */
-#if defined __GNUC__ && !defined __cplusplus
+#if defined __GNUC__ && !defined __cplusplus && \
+    !defined DURATION_STR_DECLARATIONS_ONLY
 #define DURATION_STR_AT_LEAST static
 #else
 #define DURATION_STR_AT_LEAST
 #endif
-#ifdef __GNUC__
+#if defined __GNUC__ && !defined DURATION_STR_DECLARATIONS_ONLY
 #define DURATION_STR_NONNULL(...) __attribute__((nonnull(__VA_ARGS__)))
 #define DURATION_STR_MUST_USE __attribute__((warn_unused_result))
 #else
@@ -159,6 +164,7 @@ enum duration_str_cause {
     DURATION_STR_CAUSE_UNKNOWN_OPTION = 8
 };
 
+#ifndef DURATION_STR_DECLARATIONS_ONLY
 /* Returns the name of a cause, such as `NUMBER_TOO_LARGE`. If the number is no
  * cause, returns an empty string. This is an inline function of the header,
  * and no symbol of the library. */
@@ -169,6 +175,7 @@ static inline const char *duration_str_cause_name(uint32_t cause)
         "MIXED", "",      "NOT_TEXT", "UNKNOWN_OPTION"};
     return cause < sizeof names / sizeof *names ? names[cause] : "";
 }
+#endif
 
 /* What could stand at the place of a syntax fault: the bits of a `uint32_t`. */
 enum duration_str_expected {
