@@ -37,9 +37,13 @@
 #ifndef DURATION_STR_H
 #define DURATION_STR_H
 
+/* For LuaJIT, PHP's FFI and Python's cffi, which read declarations and nothing
+ * else, `cpp -P -DDURATION_STR_DECLARATIONS_ONLY duration_str.h` prints them. */
+#ifndef DURATION_STR_DECLARATIONS_ONLY
 #include <stdbool.h>
 #include <stddef.h>
 #include <stdint.h>
+#endif
 
 /* The version of this header. duration_str_version returns the library's. */
 #define DURATION_STR_VERSION_MAJOR 0
@@ -70,12 +74,13 @@
 
 /* Attributes for GCC and Clang. They say how many bytes a buffer has (in C),
  * which pointers may not be null, and which results must be used. */
-#if defined __GNUC__ && !defined __cplusplus
+#if defined __GNUC__ && !defined __cplusplus && \
+    !defined DURATION_STR_DECLARATIONS_ONLY
 #define DURATION_STR_AT_LEAST static
 #else
 #define DURATION_STR_AT_LEAST
 #endif
-#ifdef __GNUC__
+#if defined __GNUC__ && !defined DURATION_STR_DECLARATIONS_ONLY
 #define DURATION_STR_NONNULL(...) __attribute__((nonnull(__VA_ARGS__)))
 #define DURATION_STR_MUST_USE __attribute__((warn_unused_result))
 #else
@@ -95,7 +100,8 @@
 extern "C" {
 #endif
 
-/* The name of each constant begins with the name of its enumeration. */
+/* The name of each constant begins with the name of its enumeration, or for a
+ * unit with DURATION_STR_UNIT. */
 
 /* The options are bits of a `uint32_t`; 0 turns all of them off. Further bits
  * are those of DURATION_STR_OPTION_DEFAULT_UNIT. If a bit is set that belongs
@@ -116,8 +122,8 @@ enum duration_str_option {
 };
 
 /* With this option a number without a unit counts `unit`, one of
- * `enum duration_str_unit`, instead of seconds. For example, with milliseconds
- * `1500` and `1s 500` are 1.5 seconds.
+ * `enum duration_str_time_unit`, instead of seconds. For example, with
+ * milliseconds `1500` and `1s 500` are 1.5 seconds.
  *
  * For the second the option is 0. For any other unit it includes
  * DURATION_STR_OPTION_NO_CALC (docs/GRAMMAR.md in the repository says why).
@@ -159,6 +165,7 @@ enum duration_str_cause {
     DURATION_STR_CAUSE_UNKNOWN_OPTION = 8
 };
 
+#ifndef DURATION_STR_DECLARATIONS_ONLY
 /* Returns the name of a cause, such as `NUMBER_TOO_LARGE`. If the number is no
  * cause, returns an empty string. This is an inline function of the header,
  * and no symbol of the library. */
@@ -169,6 +176,7 @@ static inline const char *duration_str_cause_name(uint32_t cause)
         "MIXED", "",      "NOT_TEXT", "UNKNOWN_OPTION"};
     return cause < sizeof names / sizeof *names ? names[cause] : "";
 }
+#endif
 
 /* What could stand at the place of a syntax fault: the bits of a `uint32_t`. */
 enum duration_str_expected {
@@ -178,10 +186,9 @@ enum duration_str_expected {
     DURATION_STR_EXPECTED_END = 8       /* the end of the text */
 };
 
-/* The units, the longest first. In C++ the enumeration's name always needs the
- * word `enum`, since a function has the same name. */
+/* The units, the longest first. */
 /* The enumeration is made by tests/repository --write. */
-enum duration_str_unit {
+enum duration_str_time_unit {
     DURATION_STR_UNIT_YEAR = 0,
     DURATION_STR_UNIT_QUARTER = 1,
     DURATION_STR_UNIT_MONTH = 2,
@@ -199,7 +206,8 @@ enum duration_str_unit {
  * unit. */
 #define DURATION_STR_UNITS_ALL UINT32_C(0x7FF)
 
-/* The set of one unit of `enum duration_str_unit`. Sets are joined by `|`. */
+/* The set of one unit of `enum duration_str_time_unit`. Sets are joined by
+ * `|`. */
 #define DURATION_STR_UNITS(unit) (UINT32_C(1) << (unit))
 
 /* The set of the units from `largest` to `smallest`. The set is empty, which
@@ -285,8 +293,8 @@ size_t duration_str_format_with(
  * duration_str_format_with prints, without counts of 0.
  *
  * Returns true, and writes to `counts` how many there are of each unit. The
- * count of a unit is at the unit's number in `enum duration_str_unit`. It is 0
- * if the unit has no part. Writes to `*rest` the nanoseconds that no part has.
+ * count of a unit is at the unit's number in `enum duration_str_time_unit`. It
+ * is 0 if the unit has no part. Writes to `*rest` the nanoseconds that no part has.
  * So the counts, each times the length of its unit, and the rest are together
  * the duration. `rest` must not point into `counts`.
  *
@@ -356,8 +364,8 @@ size_t duration_str_report(
     char buffer[DURATION_STR_AT_LEAST DURATION_STR_REPORT_BUFFER_SIZE]);
 
 /* Finds a unit by its name, such as `h`, `ms` or `minutes`. Returns the unit's
- * number in `enum duration_str_unit`, or -1 if no unit has this name or if the
- * bytes are not UTF-8.
+ * number in `enum duration_str_time_unit`, or -1 if no unit has this name or if
+ * the bytes are not UTF-8.
  *
  * The name is passed like a text. It is one of the names of units above, and
  * its ASCII letters may be capitals. The Chinese names give -1. So do the empty

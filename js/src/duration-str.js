@@ -22,8 +22,8 @@ const CODES = [
     "READ", "EMPTY", "SYNTAX", "NUMBER_TOO_LARGE", "OVERFLOW", "MIXED", "OUT_OF_RANGE", "NOT_TEXT",
 ];
 
-/** The printed names of the units, in the order of `enum duration_str_unit`, and their names in
- * `parts`, which has no quarters. */
+/** The printed names of the units, in the order of `enum duration_str_time_unit`, and their names
+ * in `parts`, which has no quarters. */
 // Made by tests/repository --write.
 const UNITS = ["y", "q", "mon", "w", "d", "h", "min", "s", "ms", "µs", "ns"];
 const PARTS = [

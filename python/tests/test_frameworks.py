@@ -19,6 +19,8 @@ from duration_str import parse
 
 MINUTE = datetime.timedelta(minutes=1)
 HOUR = 60 * MINUTE
+# The JSON schema of a field without options
+TEXT = {"type": "string", "pattern": duration_str.pattern()}
 
 
 def has(name):
@@ -187,9 +189,9 @@ class Models(unittest.TestCase):
         ]:
             with self.assertRaisesRegex(self.pydantic.ValidationError, line):
                 adapter.validate_json(value)
-        kinds = {"anyOf": [{"type": "integer"}, {"type": "string"}]}
-        self.assertEqual(adapter.json_schema(), kinds)
-        self.assertEqual(adapter.json_schema(mode="serialization"), {"type": "string"})
+        text = {"type": "string", "pattern": duration_str.pattern(default_unit="ms")}
+        self.assertEqual(adapter.json_schema(), {"anyOf": [{"type": "integer"}, text]})
+        self.assertEqual(adapter.json_schema(mode="serialization"), text)
         for plain in [duration_str.Duration, duration_str.DurationRequireUnit]:
             with self.assertRaisesRegex(self.pydantic.ValidationError, "type=string_type"):
                 self.pydantic.TypeAdapter(plain).validate_python(60)
@@ -221,9 +223,10 @@ class Models(unittest.TestCase):
     def test_has_the_schema_of_its_json(self):
         for mode in ["validation", "serialization"]:
             schema = self.model.model_json_schema(mode=mode)
-            self.assertEqual(
-                schema["properties"], {"timeout": {"title": "Timeout", "type": "string"}}
-            )
+            self.assertEqual(schema["properties"], {"timeout": {"title": "Timeout", **TEXT}})
+            strict = self.pydantic.TypeAdapter(duration_str.DurationRequireUnit)
+            pattern = duration_str.pattern(require_unit=True)
+            self.assertEqual(strict.json_schema(mode=mode)["pattern"], pattern)
 
     def models_with(self, **words):
         """Models with one field that has these limits: once assigned, and once in `Annotated`."""
@@ -260,9 +263,7 @@ class Models(unittest.TestCase):
                 for model in self.models_with(description="how long", **{demand: HOUR}):
                     schema = model.model_json_schema(mode=mode)["properties"]["length"]
                     schema.pop("default", None)
-                    self.assertEqual(
-                        schema, {"title": "Length", "type": "string", "description": "how long"}
-                    )
+                    self.assertEqual(schema, {"title": "Length", **TEXT, "description": "how long"})
 
     def test_shows_a_default_as_a_text(self):
         field = self.pydantic.Field
@@ -302,7 +303,7 @@ class Models(unittest.TestCase):
             self.assertEqual(model().model_dump_json(), '{"length":"30s"}')
             for mode in ["validation", "serialization"]:
                 schema = model.model_json_schema(mode=mode)["properties"]["length"]
-                self.assertEqual(schema, {"title": "Length", "type": "string", "default": "30s"})
+                self.assertEqual(schema, {"title": "Length", **TEXT, "default": "30s"})
         for value, config in [(-HOUR, {"ser_json_timedelta": "float"}), ("Pst", {})]:
             model = self.pydantic.create_model(
                 "Kept", __config__=config, length=(duration_str.Duration, value)

@@ -49,6 +49,8 @@ assert_type(duration_str.parse_many(["1500"], default_unit="ms"), "array[int]")
 assert_type(duration_str.parse(1500, default_unit="ms"), datetime.timedelta)
 assert_type(duration_str.parse_ns(numpy.int64(1500), default_unit="s"), int)
 assert_type(duration_str.parse_many([1500, "2h"], default_unit="ms"), "array[int]")
+assert_type(duration_str.pattern(no_calc=True, default_unit="ms"), str)
+duration_str.pattern(default_unit="mins")  # type: ignore[arg-type]
 duration_str.parse("1500", default_unit="mins")  # type: ignore[call-overload]
 duration_str.parse(1500)  # type: ignore[call-overload]
 duration_str.parse_many([1500])  # type: ignore[list-item]

@@ -68,6 +68,8 @@ For a column:
   to_timedelta   reads texts for NumPy or pandas
   format_many    prints durations
 
+For a validator that takes a regular expression, `pattern` returns one.
+
 For other packages:
 
   duration_str.click.DURATION     a type of Click's options
@@ -87,6 +89,7 @@ from ._columns import parse_buffers, parse_many
 from ._models import Duration, DurationField, DurationRequireUnit
 from ._native import format as format
 from ._native import breakdown, parse, parse_ns, parse_seconds
+from ._pattern import pattern
 from ._texts import (
     Breakdown,
     Cause,
@@ -121,6 +124,7 @@ __all__ += [
     "parse_many",
     "parse_ns",
     "parse_seconds",
+    "pattern",
     "to_timedelta",
 ]
 __version__ = "0.19.0"

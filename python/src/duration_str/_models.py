@@ -9,6 +9,7 @@ from typing import Annotated, Any
 
 from ._native import format, parse
 from ._options import WithOptions
+from ._pattern import pattern
 from ._texts import DurationError, DurationTypeError
 
 
@@ -104,7 +105,7 @@ class DurationField(WithOptions):
         )
 
     def __get_pydantic_json_schema__(self, schema: Any, handler: Any) -> Any:
-        kinds = [{"type": "str"}]
+        kinds = [{"type": "str", "pattern": pattern(**self._options)}]
         if self._takes_numbers and handler.mode == "validation":
             kinds.insert(0, {"type": "int"})
         told = handler({"type": "union", "choices": kinds} if kinds[1:] else kinds[0])

@@ -1,0 +1,66 @@
+"""Makes the regular expressions of the sentences of docs/GRAMMAR.md from the table of units.
+
+They need no flags, and use only what ECMA 262, RE2, PCRE, Python, Perl and Java have in common. At
+each character only one way to go on fits, so an engine that goes back after a mismatch takes no
+more steps than some multiple of the text's length.
+"""
+import units
+
+BLANKS = r"[ \t\n\r]*"
+NUMBER = f"[0-9]+{BLANKS}"
+# The letter stands for the pattern of a unit.
+UNIT = f"U{BLANKS}"
+
+# The sentences by the options `no_calc` and `require_unit`. If no unit is required, `$` lets a text
+# end after a unit, so that the unit occurs only once.
+SENTENCES = {
+    (False, False): f"^{BLANKS}{NUMBER}"
+    rf"(?:{UNIT}(?:(?:[+*]{BLANKS})?{NUMBER}|$)|[+*]{BLANKS}{NUMBER})*$",
+    (True, False): f"^{BLANKS}{NUMBER}(?:{UNIT}(?:{NUMBER}|$))*$",
+    (False, True): f"^{BLANKS}{NUMBER}{UNIT}(?:(?:[+*]{BLANKS})?{NUMBER}{UNIT})*$",
+    (True, True): f"^{BLANKS}(?:{NUMBER}{UNIT})+$",
+}
+
+
+def one_of(letters, capitals):
+    """The pattern of one of these letters. With `capitals` an ASCII capital is read as its small
+    letter.
+    """
+    cases = [
+        case
+        for letter in letters
+        for case in ((letter.upper(), letter) if capitals and letter.isascii() else letter)
+    ]
+    return cases[0] if len(cases) == 1 else f"[{''.join(cases)}]"
+
+
+def any_of(names, capitals):
+    """The pattern of one of these names. Names that begin alike share their beginning, and letters
+    after which the same can follow share a class.
+    """
+    follows = {}
+    for name in names:
+        follows.setdefault(name[:1], []).append(name[1:])
+    may_end = follows.pop("", None)
+    firsts = {}
+    for letter, tails in follows.items():
+        firsts.setdefault(any_of(tails, capitals), []).append(letter)
+    branches = [one_of(letters, capitals) + tail for tail, letters in firsts.items()]
+    if may_end and [*firsts] == [""]:
+        return f"{branches[0]}?"
+    if may_end and branches:
+        return f"(?:{'|'.join(branches)})?"
+    return "|".join(branches) if len(branches) < 2 else f"(?:{'|'.join(branches)})"
+
+
+def units_by(lowercase, cn_unit):
+    """The pattern of a unit under these options."""
+    table = list(units.table())
+    names = [name for unit in table for name in unit.names]
+    chinese = [name for unit in table for name in unit.chinese if cn_unit]
+    return any_of([*names, *chinese], not lowercase)
+
+
+def pattern(no_calc=False, lowercase=False, cn_unit=False, require_unit=False):
+    """The pattern of the sentences under these options."""
+    return SENTENCES[no_calc, require_unit].replace("U", units_by(lowercase, cn_unit))
