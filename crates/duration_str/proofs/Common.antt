@@ -34,7 +34,7 @@ pub use Rattle.duration_str.specs.Answer.{allows, answer, answer_at, answer_in, 
 pub use Rattle.duration_str.specs.Messages.{byte_text, caret_text, EndsInsideLine, has_line_feed, line_of, message_of, placed_text}
 pub use Rattle.duration_str.specs.Faults.{found_token, IsMissingAtEnd, IsSliceOf, place_of, token_at}
 pub use Rattle.duration_str.specs.Grammar.{BeginsWith, IsSentence, IsSentenceIn, IsSentenceOf, IsSentenceWith, number, operator, operator_or_other, other, sign_terminal, Spells, Terminal, terminal_by, terminal_in, terminal_of, word}
-pub use Rattle.duration_str.specs.Laws.{AllParts, AnswerIsReading, BlanksFree, EqualTexts, GreatestBreakdown, HasNoCapital, HasNoChinese, HasNoOperator, HasNoStar, is_operator, IsIdle, IsMostWithin, KeepsWithin, NearWords, NeverMore, NoCalcAgrees, OlderTexts, OneCut, OneReading, OneSentence, OptionsIdle, PartsAndRest, PlaceAndKinds, ReadsBack, Reorder, SumOfTexts, times_in, TwoFactors, counts_of, AllPlus, AreTokens, EndsRun, IsLexeme}
+pub use Rattle.duration_str.specs.Laws.{AllParts, AnswerIsReading, BlanksFree, EqualTexts, GreatestBreakdown, HasNoCapital, HasNoChinese, HasNoOperator, HasNoStar, is_operator, IsIdle, IsMostWithin, KeepsWithin, NearWords, NeverMore, NoCalcAgrees, OlderTexts, OneCut, OneReading, OneReadingIn, OneSentence, OptionsIdle, PartsAndRest, PlaceAndKinds, ReadsBack, Reorder, SumOfTexts, times_in, TwoFactors, counts_of, AllPlus, AreTokens, EndsRun, IsLexeme}
 pub use Rattle.duration_str.specs.Older.{older_nanos_of, older_row_of, older_terminals, older_terms, older_unit_of_word, sentence_fault, was_named, WasRead, WasRefused, WasSentenceOf}
 pub use Rattle.duration_str.specs.declared.format.Format.{Format}
 pub use Rattle.duration_str.specs.declared.format.Style.{Style}

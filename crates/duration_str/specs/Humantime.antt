@@ -5,7 +5,7 @@ use Rattle.duration_str.specs.declared.unit.TimeUnit.TheVariants.{Year, Month, W
 use Rattle.duration_str.specs.Text.{Characters}
 use Rattle.duration_str.specs.Units.{UnitRow, row_of}
 
--- a row with further names, which stand before the others
+-- a row with further names, which stand before the others, since the last two are the long name and its plural
 abbrev pub with_names : List Characters → UnitRow → UnitRow
 with_names names row = record row { names = names ++ row.names }
 

@@ -13,13 +13,13 @@ use Rattle.duration_str.specs.declared.cause.Cause.{Cause}
 use Rattle.duration_str.specs.declared.cause.Cause.TheVariants.{Overflow}
 use Rattle.duration_str.specs.declared.cause.Expected.{Expected}
 use Rattle.duration_str.specs.Text.{Bytes, Characters, operator_of, is_chinese, IsBlank, is_blank, byte_len}
-use Rattle.duration_str.specs.Units.{UnitRow, row_of, unit_lengths, nanos_of, units, unit_of_word}
+use Rattle.duration_str.specs.Units.{Table, UnitRow, row_of, unit_lengths, nanos_of, units, unit_of_word}
 use Rattle.duration_str.specs.OneLine.{is_among, near_name, near_words}
 use Rattle.duration_str.specs.Grammar.{Terminal, operator, IsSentence, IsSentenceOf, IsSentenceWith, Spells, terminal_of}
 use Rattle.duration_str.specs.Tokens.{Token, tokens_of, lexemes_of, are_of_one_run, goes_on}
 use Rattle.duration_str.specs.Place.{BeginsSentence, CanFollow, IsFront}
 use Rattle.duration_str.specs.Value.{Term, value_of_term, terms_with, second}
-use Rattle.duration_str.specs.Reading.{IsRead, IsReadWith, IsRefused, IsRefusedWith}
+use Rattle.duration_str.specs.Reading.{IsRead, IsReadIn, IsReadWith, IsRefused, IsRefusedIn, IsRefusedWith}
 use Rattle.duration_str.specs.Messages.{EndsInsideLine, message_of, line_of}
 use Rattle.duration_str.specs.Answer.{answer_with, expected_after, last_of, front_of}
 use Rattle.duration_str.specs.Older.{older_row_of, older_terminals, older_unit_of_word, WasSentenceOf, WasRead, WasRefused}
@@ -91,17 +91,21 @@ pub record OneCut : Type 0 where
   pub only : (o : Options) (text : Characters) (tokens : List Token) → AreTokens o 0 text tokens
       → tokens ≡ tokens_of o text
 
--- A text is either read as one value or refused for one cause.
-pub record OneReading : Type 0 where
+-- By this table of units a text is either read as one value or refused for one cause.
+pub record OneReadingIn (rows : Table) : Type 0 where
   pub some : (default_unit : Option TimeUnit) (o : Options) (text : Characters)
-      → ((nanos : ℕ) × IsReadWith default_unit o text nanos)
-      ⊎ ((cause : Cause) × IsRefusedWith default_unit o text cause)
+      → ((nanos : ℕ) × IsReadIn rows default_unit o text nanos)
+      ⊎ ((cause : Cause) × IsRefusedIn rows default_unit o text cause)
   pub one_value : (default_unit : Option TimeUnit) (o : Options) (text : Characters) (m n : ℕ)
-      → IsReadWith default_unit o text m → IsReadWith default_unit o text n → m ≡ n
+      → IsReadIn rows default_unit o text m → IsReadIn rows default_unit o text n → m ≡ n
   pub one_cause : (default_unit : Option TimeUnit) (o : Options) (text : Characters) (c d : Cause)
-      → IsRefusedWith default_unit o text c → IsRefusedWith default_unit o text d → c ≡ d
+      → IsRefusedIn rows default_unit o text c → IsRefusedIn rows default_unit o text d → c ≡ d
   pub not_both : (default_unit : Option TimeUnit) (o : Options) (text : Characters) (nanos : ℕ) (cause : Cause)
-      → IsReadWith default_unit o text nanos → IsRefusedWith default_unit o text cause → ⊥
+      → IsReadIn rows default_unit o text nanos → IsRefusedIn rows default_unit o text cause → ⊥
+
+-- `OneReadingIn`, with the library's own table of units.
+abbrev pub OneReading : Type 0
+OneReading = OneReadingIn row_of
 
 -- The computed answer is the value of the text, or the cause of its refusal.
 pub record AnswerIsReading : Type 0 where

@@ -1,7 +1,7 @@
 -- Exports the names that most contracts and definitions use. It declares nothing.
 pub use Rattle.duration_str.specs.Answer.{allows}
 pub use Rattle.duration_str.specs.Dates.{IsCivil, IsCivilDay, IsInRange, IsOutOfRange}
-pub use Rattle.duration_str.specs.Grammar.{IsSentenceOf, Terminal, terminal_of, word}
+pub use Rattle.duration_str.specs.Grammar.{IsSentenceOf, IsSentenceWith, Terminal, terminal_of, word}
 pub use Rattle.duration_str.specs.Laws.{HasNoStar, is_operator, counts_of, IsLexeme, AllPlus}
 pub use Rattle.duration_str.specs.Printing.{IsGreatestBreakdown, IsPrintedIn, printed_counts}
 pub use Rattle.duration_str.specs.Options.{off}
@@ -9,13 +9,14 @@ pub use Rattle.duration_str.specs.Reading.{IsRead, IsReadWith, IsRefused, IsRefu
 pub use Rattle.duration_str.specs.Text.{byte_len, is_chinese}
 pub use Rattle.duration_str.specs.Iteration.{what_of}
 pub use Rattle.duration_str.specs.Units.{nanos_of, unit_lengths}
-pub use Rattle.duration_str.specs.Value.{Term, written_terms}
+pub use Rattle.duration_str.specs.Value.{Term, terms_with}
 pub use Rattle.duration_str.specs.declared.cause.Cause.{Cause}
 pub use Rattle.duration_str.specs.declared.cause.Cause.TheVariants.{NotText, OutOfRange, Overflow, Syntax}
 pub use Rattle.duration_str.specs.declared.cause.Expected.{Expected}
 pub use Rattle.duration_str.specs.declared.fault.Fault.{Fault}
 pub use Rattle.duration_str.specs.declared.operator.CondUnit.TheVariants.{Plus, Star}
 pub use Rattle.duration_str.specs.declared.options.Options.{Options}
+pub use Rattle.duration_str.specs.declared.unit.TimeUnit.{TimeUnit}
 pub use Rattle.std.specs.Duration.{as_nanos}
 pub use Rattle.std.specs.List.{AllByRecursion, list_all}
 pub use Rattle.std.specs.Str.{chars}

@@ -2,7 +2,7 @@
 use Rattle.duration_str.proofs.Common.{arith, List, OneCut, OneSentence, row_of, Spells, subst, sym, ℕ, ◌∙◌}
 use Rattle.duration_str.proofs.Cutting.TokenLemmas.{tokens_are, tokens_once}
 use Rattle.duration_str.proofs.Sentences.SpellingLemmas.{sentence_tokens, tokens_spell}
-use Rattle.duration_str.proofs.Sentences.AnswerLemmas.{answer_is_reading_holds, one_reading_holds}
+use Rattle.duration_str.proofs.Sentences.AnswerLemmas.{answer_is_reading_holds, one_reading_by_humantime, one_reading_holds}
 
 pub one_sentence_holds : OneSentence
 one_sentence_holds = record {
@@ -17,4 +17,4 @@ one_sentence_holds = record {
 pub one_cut_holds : OneCut
 one_cut_holds = search (arith, tokens_are, tokens_once)
 
-pub ruleset each_holds = (one_sentence_holds, one_cut_holds, one_reading_holds, answer_is_reading_holds)
+pub ruleset each_holds = (one_sentence_holds, one_cut_holds, one_reading_holds, one_reading_by_humantime, answer_is_reading_holds)

@@ -1,5 +1,6 @@
 -- A text is either read or refused, and the computed answer says which.
-use Rattle.duration_str.proofs.Common.{AllPlus, answer_in, answer_with, AnswerIsReading, ap, append-nil, arith, as_nanos, Bool, byte_len, Cause, chars, UnitTable, combination, CondUnit, early, early_fault, Err, Evaluates, evaluation_fault, expected_after, false, Fault, fault_of_terms, fault_or, first_fault, IfErr, if◌then◌else◌, inl, inr, is_same_operator, is_whole, IsFront, IsOkAnd, IsReadIn, IsReadWith, IsRefusedAt, IsRefusedIn, IsRefusedWith, IsSentence, IsSentenceIn, IsSentenceWith, last_of, late, late_answer, late_fault, later_total, le-ltb, length, List, list_all, map, MatchResult, None, number, Ok, OneReading, operator, Option, Options, other, Overflow, Own, ParsesWith, refl, Result, row_of, rows_of, rules, Some, start_after, sum_of, sym, Syntax, syntax_fault, Table, Term, Terminal, terminal_in, terminal_of, terminals_in, terms_in, terms_of, TimeUnit, tokens_of, true, value_of, value_of_term, word, [], ℕ, ◌++◌, ◌<◌, ◌^◌, ◌↔◌, ◌∙◌, ◌∷◌, ◌≡◌, ◌≤◌, ◌⊎◌, ParsesText, off}
+use Rattle.duration_str.proofs.Common.{AllPlus, answer_in, AnswerIsReading, ap, append-nil, arith, as_nanos, Bool, byte_len, Cause, chars, UnitTable, combination, CondUnit, early, early_fault, Err, Evaluates, evaluation_fault, expected_after, false, Fault, fault_of_terms, fault_or, first_fault, Humantime, IfErr, if◌then◌else◌, inl, inr, is_same_operator, is_whole, IsFront, IsOkAnd, IsReadIn, IsReadWith, IsRefusedAt, IsRefusedIn, IsRefusedWith, IsSentence, IsSentenceIn, IsSentenceWith, last_of, late, late_answer, late_fault, later_total, le-ltb, length, List, list_all, map, MatchResult, None, number, Ok, OneReading, OneReadingIn, operator, Option, Options, other, Overflow, Own, ParsesWith, refl, Result, row_of, rows_of, rules, Some, start_after, sum_of, sym, Syntax, syntax_fault, Table, Term, Terminal, terminal_in, terminal_of, terminals_in, terms_in, terms_of, TimeUnit, tokens_of, true, value_of, value_of_term, word, [], ℕ, ◌++◌, ◌<◌, ◌^◌, ◌↔◌, ◌∙◌, ◌∷◌, ◌≡◌, ◌≤◌, ◌⊎◌, ParsesText, off}
+use Rattle.duration_str.specs.Humantime.{humantime_row_of}
 use Rattle.duration_str.proofs.Sentences.FrontLemmas.{AreAllowed, complete_sentence, ends_by_table, expected_by_table, front_allowed, no_operators, one_expected, one_front, sentence_allowed, table_front}
 use Rattle.duration_str.proofs.Sentences.SpellingLemmas.{empty_no_sentence, sentence_terminals, tokens_spell}
 use Rattle.duration_str.proofs.Sentences.SumLemmas.{added_overflow, AreAdded, below_evaluate, evaluate_below, has_terms, no_fault, or_else-none, running_below, running_none, running_overflow, terms_added, value_is_sum}
@@ -249,17 +250,24 @@ only_meaning table default_unit o text (Ok m) (Err d) h k = absurd (not_both tab
 only_meaning table default_unit o text (Err c) (Ok n) h k = absurd (not_both table default_unit o text n c k h)
 only_meaning table default_unit o text (Err c) (Err d) h k = ap Err (one_cause table default_unit o text c d h k)
 
-pub one_reading_holds : OneReading
-one_reading_holds = record {
-  some = λ default_unit o text. elim (answer_with default_unit o text) as (λ r. Means row_of default_unit o text r
-      → ((nanos : ℕ) × IsReadWith default_unit o text nanos) ⊎ ((cause : Cause) × IsRefusedWith default_unit o text cause)) [
+one_reading_in : (table : UnitTable) → OneReadingIn (rows_of table)
+one_reading_in table = record {
+  some = λ default_unit o text. elim (answer_in (rows_of table) default_unit o text) as (λ r. Means (rows_of table) default_unit o text r
+      → ((nanos : ℕ) × IsReadIn (rows_of table) default_unit o text nanos)
+      ⊎ ((cause : Cause) × IsRefusedIn (rows_of table) default_unit o text cause)) [
         | Ok nanos ↦ λ h. inl (nanos, h)
         | Err cause ↦ λ h. inr (cause, h)
-      ] (answer_means Own default_unit o text);
+      ] (answer_means table default_unit o text);
   one_value = λ default_unit o text m n. one_value;
-  one_cause = one_cause Own;
-  not_both = not_both Own;
+  one_cause = one_cause table;
+  not_both = not_both table;
 }
+
+pub one_reading_holds : OneReading
+one_reading_holds = one_reading_in Own
+
+pub one_reading_by_humantime : OneReadingIn humantime_row_of
+one_reading_by_humantime = one_reading_in Humantime
 
 -- The computed answer is a value exactly if the text is read as that value.
 answer_read : (table : UnitTable) (default_unit : Option TimeUnit) (o : Options) (text : List ℕ) (nanos : ℕ)
