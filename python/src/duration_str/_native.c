@@ -663,7 +663,8 @@ static PyObject *breakdown(
         return NULL;
     if (take_limits(state, "breakdown", SMALLEST, arguments + 1, keywords, &limits))
         return NULL;
-    if (take_duration(state, arguments[0], state->kept[NANOS_OF], &duration) < 0)
+    /* nanos_of never returns None, so no value is missing here. */
+    if (take_duration(state, arguments[0], state->kept[NANOS_OF], &duration) != 1)
         return NULL;
     return breakdown_of(state, &duration, &limits);
 }
