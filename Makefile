@@ -222,7 +222,7 @@ install install-library: installable
 	    program=$$($(MAKE) --silent program installing=yes target=$(target) static=$(static))
 	    programs=durstr
 	    put_program "$$program" $(bindir)/durstr
-	    $(call page,docs/man/durstr.1.in) | put_text $(mandir)/man1/durstr.1
+	    $(call page,program/durstr.1.in) | put_text $(mandir)/man1/durstr.1
 	fi
 	libraries=$$($(MAKE) --silent library installing=yes target=$(target))
 	put $(header) $(includedir)/duration_str.h

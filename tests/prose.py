@@ -203,7 +203,7 @@ def misspelt():
     if not shutil.which("codespell"):
         print("repository: spelling skipped, codespell is missing (make setup)")
         return []
-    files = tracked_files("*.md", "docs/man/*.in", "c/*.in", "c/include/*.h")
+    files = tracked_files("*.md", "program/*.in", "c/*.in", "c/include/*.h")
     # A word of Rust, and two requests of manual pages, which codespell takes for mistakes.
     words = ["codespell", "--ignore-words-list", "crate,nd,fo", *files]
     return subprocess.run(words, cwd=ROOT, capture_output=True, text=True).stdout.splitlines()
