@@ -13,7 +13,6 @@
 # make quick           runs the tests that take seconds and the checks of what has changed
 # make format          lays out all files except those that a tool here writes, by the usual tool of
 #                      each language
-# make coverage        names the lines written by hand that no test runs, in some minutes
 # make install         installs what was built, the header, the manual pages and completions below
 #                      prefix=/usr/local, or into bindir=, libdir=, includedir=, mandir=, docdir=
 #                      and datarootdir=, all below DESTDIR= if that is set
@@ -32,7 +31,7 @@ SHELL := bash
 .SHELLFLAGS := -euo pipefail -c
 .ONESHELL:
 .NOTPARALLEL:
-.PHONY: all program library duration setup prove check quick format coverage install \
+.PHONY: all program library duration setup prove check quick format install \
     install-library uninstall release page clean help installable
 unexport MAKEFLAGS CDPATH
 MAKEFLAGS += --no-builtin-rules --no-print-directory
@@ -223,7 +222,7 @@ install install-library: installable
 	    program=$$($(MAKE) --silent program installing=yes target=$(target) static=$(static))
 	    programs=durstr
 	    put_program "$$program" $(bindir)/durstr
-	    $(call page,docs/man/durstr.1.in) | put_text $(mandir)/man1/durstr.1
+	    $(call page,program/durstr.1.in) | put_text $(mandir)/man1/durstr.1
 	fi
 	libraries=$$($(MAKE) --silent library installing=yes target=$(target))
 	put $(header) $(includedir)/duration_str.h
@@ -320,9 +319,6 @@ quick:
 
 format:
 	@tools/format
-
-coverage:
-	@tools/coverage
 
 release:
 	@tools/release $(call quoted,$(dist))

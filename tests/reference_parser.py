@@ -579,8 +579,10 @@ def print_part(count, unit, style):
     """A count with its unit's printed name. In the long style it is a count, a space and the last
     of the unit's names, or the last but one for a count of 1.
     """
+    if style != "long":
+        return f"{count}{unit.printed}"
     one, many = unit.names.split()[-2:]
-    return f"{count} {one if count == 1 else many}" if style == "long" else f"{count}{unit.printed}"
+    return f"{count} {one if count == 1 else many}"
 
 
 def print_within(nanos, units, parts, style="short"):
@@ -689,8 +691,10 @@ def kind_in_line(character):
     Neighbours of one kind form a piece. A letter is one of ASCII, or a character beyond ASCII that
     is neither hidden nor a sign.
     """
+    if character in DIGITS:
+        return "digit"
     if character.isascii():
-        return "letter" if character.isalpha() else "digit" if character in DIGITS else None
+        return "letter" if character.isalpha() else None
     return None if HIDDEN.match(character) or SIGNS.match(character) else "letter"
 
 

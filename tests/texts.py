@@ -102,7 +102,10 @@ class Texts:
         draw = self.random.random()
         if draw < 0.15:
             return ""
-        name = self.choice(self.SHORT if draw < 0.7 else self.NAMES if draw < 0.97 else self.NEAR)
+        names = self.SHORT
+        if draw >= 0.7:
+            names = self.NAMES if draw < 0.97 else self.NEAR
+        name = self.choice(names)
         if draw > 0.98:
             name = name.replace("µ", "μ")
         if draw > 0.9:

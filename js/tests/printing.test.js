@@ -31,18 +31,6 @@ function checkBreakdown(value, options) {
     assert.equal(lengths.reduce((sum, each) => sum + each, restNs), value);
 }
 
-/** Returns whole numbers from 0 on that are below 2^bits, the same ones each time. (It is the
- * generator splitmix64.) */
-function numbers(seed) {
-    let state = BigInt.asUintN(64, BigInt(seed));
-    return (bits) => {
-        state = BigInt.asUintN(64, state + 0x9e3779b97f4a7c15n);
-        let mixed = BigInt.asUintN(64, (state ^ state >> 30n) * 0xbf58476d1ce4e5b9n);
-        mixed = BigInt.asUintN(64, (mixed ^ mixed >> 27n) * 0x94d049bb133111ebn);
-        return BigInt.asUintN(bits, mixed ^ mixed >> 31n);
-    };
-}
-
 /** The printed text in each style, given the short and the long one. */
 function inStyles(short, long) {
     const texts = { short, compact: short.replaceAll(" ", ""), long };
@@ -238,19 +226,6 @@ test("breaks durations down", () => {
     // What is broken down is the value, whatever an option's getter calls.
     const options = { get parts() { return breakdown(5_400_000).parts.length; } };
     assert.deepEqual(breakdown(60_001, options).parts[1], { count: 1n, unit: "ms" });
-});
-
-test("breaks random durations down as they are printed", () => {
-    const next = numbers(20);
-    const rounds = Number(process.env.DURATION_STR_ROUNDS ?? 20_000);
-    for (let round = 0; round < rounds; round++) {
-        const value = next(Number(next(6)) + 1);
-        const set = next(11);
-        const units = NAMES.filter((_, unit) => set >> BigInt(unit) & 1n);
-        checkBreakdown(value, {
-            units: units.length > 0 ? units : undefined, parts: Number(next(4)) + 1,
-        });
-    }
 });
 
 test("counts the parts", () => {

@@ -229,7 +229,11 @@ impl Run<'_> {
 
     fn tell(&mut self, refusal: Refusal, text: &[u8], number: u64) -> io::Result<()> {
         self.has_refused = true;
-        let what = ["argument", "line"][usize::from(self.choices.texts.is_empty())];
+        let what = if self.choices.texts.is_empty() {
+            "line"
+        } else {
+            "argument"
+        };
         if self.choices.json {
             return self.put(&[refusal.json(text, what, number).as_bytes()]);
         }
@@ -242,9 +246,10 @@ impl Run<'_> {
             .choices
             .field
             .map_or(String::new(), |field| format!(", field {field}"));
-        let (gap, said) = match refusal.report.contains('\n') && io::stderr().is_terminal() {
-            true => ('\n', refusal.report),
-            false => (' ', refusal.message),
+        let (gap, said) = if refusal.report.contains('\n') && io::stderr().is_terminal() {
+            ('\n', refusal.report)
+        } else {
+            (' ', refusal.message)
         };
         io::stderr().write_all(format!("duration: {what} {number}{field}:{gap}{said}\n").as_bytes())
     }

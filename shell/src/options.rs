@@ -173,7 +173,11 @@ pub fn in_unit(nanos: u64, unit: TimeUnit, decimals: Option<u8>, round: Round) -
         return whole.to_string();
     }
     let steps = 10_u64.pow(decimals.unwrap_or(9).into());
-    let more = [0, length - 1, length / 2][round as usize];
+    let more = match round {
+        Round::Down => 0,
+        Round::Up => length - 1,
+        Round::Nearest => length / 2,
+    };
     let parts = (u128::from(rest) * u128::from(steps) + u128::from(more)) / u128::from(length);
     let (whole, part) = (whole + parts as u64 / steps, parts as u64 % steps);
     // `steps` puts a one before the decimals, so that they keep their leading zeros.

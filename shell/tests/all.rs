@@ -220,7 +220,7 @@ fn reads_all_texts_in_the_unit_of_from() {
 
 #[test]
 fn takes_bare_numbers_as_a_unit() {
-    let rows: [(&[&str], &str); 10] = [
+    let rows: [(&[&str], &str); 11] = [
         (&["h", ".50000000000000000000"], "30min\n"),
         (
             &["s", "1e-05", "1.2e+06", "12.5E1", "0.00015e4", "0e999"],
@@ -245,6 +245,8 @@ fn takes_bare_numbers_as_a_unit() {
             "19min 59s 999ms 999µs 999ns\n",
         ),
         (&["y", "1.5"], "1y 2q 12h\n"),
+        // A year has 3.15e16 nanoseconds, so the 18th decimal counts.
+        (&["y", "0.000000000000000032"], "1ns\n"),
         (&["ns", "007.99"], "7ns\n"),
         (
             &["s", "1.250000000999999999999999999999999999999999"],

@@ -13,7 +13,6 @@ advice.test.js tries, one of each kind is tried here. page.js runs in the page.
 """
 import ast
 import base64
-import hashlib
 import json
 import pathlib
 import re
@@ -931,17 +930,6 @@ def shown_in_picture(page, scheme):
     )
 
 
-def said_in_picture(page):
-    """The words in the pictures, and a digest of how the pictures look. They show whether a picture
-    is out of date."""
-    selectors = ["header", "#examples", "#options", "#answer"]
-    words = page.answer_line(
-        f"{json.dumps(selectors)}.map((each) => document.querySelector(each).innerText)"
-    )
-    style = hashlib.sha256((ROOT / "web/style.css").read_bytes()).hexdigest()
-    return "\n".join([*words, f"style.css: {style}", ""])
-
-
 def take_pictures(page):
     for scheme in SCHEMES:
         clip = {
@@ -954,17 +942,6 @@ def take_pictures(page):
         words = {"format": "webp", "quality": 50, "clip": clip}
         taken = page.driver.execute_cdp_cmd("Page.captureScreenshot", words)
         (PICTURES / f"page-{scheme}.webp").write_bytes(base64.b64decode(taken["data"]))
-    (PICTURES / "page.txt").write_text(said_in_picture(page), encoding="utf-8")
-
-
-def try_pictures(page):
-    shown_in_picture(page, "light")
-    taken = (PICTURES / "page.txt").read_text(encoding="utf-8")
-    page.same(
-        "what the pictures show; web/check --pictures takes them anew",
-        said_in_picture(page),
-        taken,
-    )
 
 
 def try_outside(page):

@@ -283,10 +283,14 @@ static int take_option(
         said->default_unit = unit_of(state, value, "default_unit");
         return said->default_unit < 0 ? -1 : 0;
     }
-    const int is_on = value == Py_True ? 1 : value == Py_False ? 0 : PyObject_IsTrue(value);
+    const int is_on = PyObject_IsTrue(value);
+    const uint32_t bit = UINT32_C(1) << option;
     if (is_on < 0)
         return -1;
-    *(is_on ? &said->on : &said->off) |= UINT32_C(1) << option;
+    if (is_on)
+        said->on |= bit;
+    else
+        said->off |= bit;
     return 0;
 }
 
@@ -692,7 +696,8 @@ static PyObject *breakdown(
         return NULL;
     if (take_limits(state, "breakdown", SMALLEST, arguments + 1, keywords, &limits))
         return NULL;
-    if (take_duration(state, arguments[0], state->kept[NANOS_OF], &duration) < 0)
+    /* nanos_of never returns None, so no value is missing here. */
+    if (take_duration(state, arguments[0], state->kept[NANOS_OF], &duration) != 1)
         return NULL;
     return breakdown_of(state, &duration, &limits);
 }

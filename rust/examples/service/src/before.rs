@@ -1,4 +1,4 @@
-//! The program before it moved to this crate, for the test of what its texts meant then.
+//! The program before it moved to this crate. Its tests must pass with humantime too.
 use ::humantime;
 use std::error::Error;
 
@@ -7,9 +7,6 @@ mod service;
 fn main() -> Result<(), Box<dyn Error + Send + Sync>> {
     service::main()
 }
-
-#[cfg(test)]
-const IS_BEFORE: bool = true;
 
 /// Stands in for the crate humantime-serde, which Debian does not have.
 mod humantime_serde {

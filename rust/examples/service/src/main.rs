@@ -10,9 +10,6 @@ fn main() -> Result<(), Box<dyn Error + Send + Sync>> {
     service::main()
 }
 
-#[cfg(test)]
-const IS_BEFORE: bool = false;
-
 #[cfg(all(test, feature = "humantime"))]
 mod beside;
 

@@ -64,19 +64,19 @@ mod humantime_items;
 mod tests {
     use super::{Arguments, Parser};
 
-    /// Timeouts, with the seconds that each is after the move to this crate and before it. 0 stands
+    /// Timeouts, with the seconds that each is before and after the move to this crate. 0 stands
     /// for a text that is refused.
-    const TIMEOUTS: [(&str, [u64; 2]); 10] = [
-        ("1h 30m", [5_400, 5_400]),
-        ("2weeks 3days", [1_468_800, 1_468_800]),
-        ("1M", [2_630_016, 2_630_016]),
-        ("1month", [2_630_016, 2_630_016]),
-        ("1y", [31_557_600, 31_557_600]),
-        ("5mins", [300, 300]),
-        ("90secs", [90, 90]),
-        ("2hrs", [7_200, 7_200]),
-        ("90", [0, 0]),
-        ("2h 90", [0, 0]),
+    const TIMEOUTS: [(&str, u64); 10] = [
+        ("1h 30m", 5_400),
+        ("2weeks 3days", 1_468_800),
+        ("1M", 2_630_016),
+        ("1month", 2_630_016),
+        ("1y", 31_557_600),
+        ("5mins", 300),
+        ("90secs", 90),
+        ("2hrs", 7_200),
+        ("90", 0),
+        ("2h 90", 0),
     ];
 
     #[test]
@@ -84,7 +84,7 @@ mod tests {
         for (text, seconds) in TIMEOUTS {
             let read = Arguments::try_parse_from(["service", "--timeout", text, "config"]);
             let timeout = read.map_or(0, |arguments| arguments.timeout.unwrap().as_secs());
-            assert_eq!(timeout, seconds[usize::from(crate::IS_BEFORE)], "{text}");
+            assert_eq!(timeout, seconds, "{text}");
         }
     }
 }

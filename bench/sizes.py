@@ -1,0 +1,107 @@
+"""How much larger a program gets by this library, for bench/run."""
+import os
+import pathlib
+import tempfile
+
+TOP = pathlib.Path(__file__).resolve().parent.parent
+
+# Programs with these lines, each with the lines of the program that it is compared with, and the
+# most bytes by which it may be larger. Both are stripped.
+ARGUMENT, NANOS = 'println!("{text}");', 'println!("{}", length.as_nanos());'
+READ_AND_PRINT = """match duration_str::parse_duration(&text) {
+        Ok(read) => println!("{}", duration_str::format_duration(read)),
+        Err(error) => println!("{error}"),
+    }"""
+SIZES = {
+    "reads by `parse_duration`, and prints the error": (
+        "show(duration_str::parse_duration(&text));",
+        ARGUMENT,
+        16_300,
+    ),
+    "prints by `format_duration`": (
+        'println!("{}", duration_str::format_duration(length));',
+        NANOS,
+        3_900,
+    ),
+    "does both": (READ_AND_PRINT, ARGUMENT, 21_200),
+    "reads by `parse_with`, `parse` and `parse_duration`": (
+        "\n    ".join(
+            f"show(duration_str::{call});"
+            for call in (
+                "parse_with(&text, Default::default())",
+                "parse(&text)",
+                "parse_duration(&text)",
+            )
+        ),
+        ARGUMENT,
+        22_000,
+    ),
+    "reads by humantime's `parse_duration`": (
+        "show(humantime::parse_duration(&text));",
+        ARGUMENT,
+        None,
+    ),
+    "prints by humantime's `format_duration`": (
+        'println!("{}", humantime::format_duration(length));',
+        NANOS,
+        None,
+    ),
+}
+PACKAGE = """[package]
+name = "sizes"
+version = "0.1.0"
+edition = "2024"
+[dependencies]
+duration-str = { path = "%s", default-features = false }
+humantime = "2"
+[profile.release]
+strip = true
+"""
+PROGRAM = """#[allow(dead_code)]
+fn show<E: std::fmt::Display>(answer: Result<std::time::Duration, E>) {
+    match answer {
+        Ok(duration) => println!("{}", duration.as_secs()),
+        Err(error) => println!("{error}"),
+    }
+}
+
+fn main() {
+    let text = std::env::args().nth(1).unwrap();
+    #[allow(unused)]
+    let length = std::time::Duration::from_secs(text.len() as u64);
+    %s
+}
+"""
+
+
+def sizes(output):
+    """The bytes of code and data of each program beyond those of the one that it is compared with,
+    in a plain release build. `output` runs words, and returns what they write.
+    """
+    programs = [ARGUMENT, NANOS, *(lines for lines, *_ in SIZES.values())]
+    with tempfile.TemporaryDirectory() as room:
+        folder = pathlib.Path(room, "src/bin")
+        folder.mkdir(parents=True)
+        pathlib.Path(room, "Cargo.toml").write_text(PACKAGE % (TOP / "rust"))
+        for number, lines in enumerate(programs):
+            (folder / f"p{number}.rs").write_text(PROGRAM % lines)
+        # A panic names its source's path, which is to be as long in every checkout as humantime's.
+        flags = {
+            **os.environ,
+            "RUSTFLAGS": f"--remap-path-prefix={TOP}/rust=/usr/share/cargo/registry/duration-str",
+        }
+        output(
+            TOP / "tools/cargo-debian",
+            "build",
+            "--release",
+            "--quiet",
+            "--manifest-path",
+            f"{room}/Cargo.toml",
+            env=flags,
+        )
+        built = [f"{room}/target/release/p{number}" for number in range(len(programs))]
+        rows = [
+            list(map(int, line.split()[:2])) for line in output("size", *built).splitlines()[1:]
+        ]
+    size_of = dict(zip(programs, map(sum, rows)))
+    return {label: size_of[lines] - size_of[base] for label, (lines, base, _) in SIZES.items()}

@@ -1,0 +1,134 @@
+// The library's module, its memory, and texts out of it and into it. The module is one of
+// WebAssembly (compiled.js), or JavaScript made from that module (plain.js). `instance` comes from
+// one of the two.
+import { instance } from "instance";
+
+/** The size of a page in bytes, by which a memory of WebAssembly grows. */
+const PAGE = 65_536;
+const LONE_SURROGATE = /\p{Surrogate}/u;
+
+/** The size of the buffer that the module writes to. Everything that it writes fits. */
+const WRITTEN_SIZE = 867;
+/** Copying a short text takes less time than calling an encoder or a decoder. A text to read is
+ * short up to this many UTF-16 units, and a written text up to this many bytes. */
+const SHORT_TEXT = 40;
+const SHORT_WRITTEN = 28;
+
+let memory;
+export let calls;
+// After the module's own memory come a `struct duration_str_answer`, the buffer that the module
+// writes to, and the text that it reads. These are the addresses of the struct and its fields, of
+// the buffer and of the text.
+export let ANSWER, PLACE, FOUND_LENGTH, CAUSE, EXPECTED, HAS_PLACE, WRITTEN, TEXT;
+// Views of the whole memory, of the buffer, and of the memory from TEXT on.
+export let fields;
+let written;
+export let texts;
+
+/** Makes the module. This happens at the first call, so that an import takes no time, and does not
+ * throw if WebAssembly is refused. */
+export function start() {
+    const { memory: all, __heap_base: heap, ...others } = instance();
+    ANSWER = Math.ceil(heap.value / 8) * 8;
+    PLACE = ANSWER + 8;
+    FOUND_LENGTH = PLACE + 4;
+    CAUSE = FOUND_LENGTH + 4;
+    EXPECTED = CAUSE + 4;
+    HAS_PLACE = EXPECTED + 4;
+    WRITTEN = ANSWER + 32;
+    TEXT = WRITTEN + WRITTEN_SIZE;
+    memory = all;
+    // With one more page, there is at least a page for the text.
+    memory.grow(1);
+    makeViews();
+    calls = others;
+}
+
+/** Makes the views. Older views stop working when the memory grows. */
+function makeViews() {
+    fields = new DataView(memory.buffer);
+    written = new Uint8Array(memory.buffer, WRITTEN, WRITTEN_SIZE);
+    texts = new Uint8Array(memory.buffer, TEXT);
+}
+
+/** Grows the memory so that it has this many bytes from TEXT on. */
+function reserve(length) {
+    if (texts.length >= length) return;
+    memory.grow(Math.ceil((length - texts.length) / PAGE));
+    makeViews();
+}
+
+// ---- Texts out of the memory
+
+let decoder;
+
+/** Does what `decode` does, by the URI functions, if there is no decoder, as in jsdom. */
+function decodeEscaped(bytes) {
+    let escaped = "";
+    for (let place = 0; place < bytes.length; place++) {
+        escaped += `%${bytes[place].toString(16).padStart(2, "0")}`;
+    }
+    return decodeURIComponent(escaped);
+}
+
+/** The text of these bytes of UTF-8. */
+export function decode(bytes) {
+    if (typeof TextDecoder === "undefined") return decodeEscaped(bytes);
+    decoder ??= new TextDecoder("utf-8", { ignoreBOM: true });
+    return decoder.decode(bytes);
+}
+
+/** An array that has all its elements from the start. To assign to an element that it lacks would
+ * call a setter, if a page has given one to all arrays. */
+export const placesFor = (length) => " ".repeat(length).split("");
+
+/** Arrays for the codes of short texts, one for each length. */
+const codesOf = { __proto__: null };
+
+/** The text of this length that a call has written. */
+export function output(length) {
+    if (length > SHORT_WRITTEN) return decode(written.subarray(0, length));
+    const codes = codesOf[length] ??= placesFor(length);
+    for (let place = 0; place < length; place++) {
+        codes[place] = written[place];
+        if (codes[place] > 0x7f) return decode(written.subarray(0, length));
+    }
+    return String.fromCharCode.apply(null, codes);
+}
+
+// ---- Texts into the memory
+
+let encoder;
+
+/** Copies a short ASCII text to TEXT and returns its length. Returns -1 for any other text. */
+function copyShort(text) {
+    if (text.length > SHORT_TEXT) return -1;
+    for (let index = 0; index < text.length; index++) {
+        const unit = text.charCodeAt(index);
+        if (unit > 0x7f) return -1;
+        texts[index] = unit;
+    }
+    return text.length;
+}
+
+/** Does what `write` does, if there is no encoder. */
+function writeEscaped(text) {
+    const lone = text.search(LONE_SURROGATE);
+    const bytes = lone >= 0 ? "" : unescape(encodeURIComponent(text));
+    for (let index = 0; index < bytes.length; index++) texts[index] = bytes.charCodeAt(index);
+    return { length: bytes.length, lone };
+}
+
+/** Writes a text in UTF-8 to TEXT. Returns its length in bytes, and the index of the first lone
+ * surrogate, which is -1 if there is none. */
+export function write(text) {
+    reserve(3 * text.length);
+    const short = copyShort(text);
+    if (short >= 0) return { length: short, lone: -1 };
+    if (typeof TextEncoder === "undefined") return writeEscaped(text);
+    encoder ??= new TextEncoder();
+    const { written: length } = encoder.encodeInto(text, texts);
+    // A text that has no more bytes than UTF-16 units is ASCII, and has no surrogates.
+    const lone = length > text.length ? text.search(LONE_SURROGATE) : -1;
+    return { length, lone };
+}

@@ -1,0 +1,206 @@
+// The options of reading, and the format in which durations are printed and counted.
+import { calls, start, TEXT, write } from "./memory.js";
+
+/** The printed names of the units, in the order of `enum duration_str_time_unit`, and their names
+ * in `parts`, which has no quarters. */
+// Made by tests/repository --write.
+export const UNITS = ["y", "q", "mon", "w", "d", "h", "min", "s", "ms", "µs", "ns"];
+export const PARTS = [
+    "years", null, "months", "weeks", "days", "hours", "minutes",
+    "seconds", "milliseconds", "microseconds", "nanoseconds",
+];
+/** A set of units is a number with the bit `1 << unit` for each unit. These are the set of all
+ * units, and the set of the units that `parts` counts. */
+export const ALL_UNITS = (1 << UNITS.length) - 1;
+export const COUNTED_UNITS = ALL_UNITS & ~(1 << indexIn(PARTS, null));
+/** The styles, in the order of `enum duration_str_style`. */
+const STYLES = ["short", "compact", "long"];
+/** The options of reading that are on or off, with their bits in `enum duration_str_option`. */
+const OPTIONS = { __proto__: null, noCalc: 1, lowercase: 2, cnUnit: 4, requireUnit: 8 };
+/** From this bit on, the options hold the default unit's number plus 1, or 0 for the second. */
+const DEFAULT_UNIT = 16;
+/** A bit that the library doesn't know: a default unit is named, so numbers are read. */
+export const READS_NUMBERS = 1 << 30;
+
+// ---- Lists
+
+/** The index of a name in a list, or -1 if it isn't there. */
+export function indexIn(names, name) {
+    for (let index = 0; index < names.length; index++) {
+        if (names[index] === name) return index;
+    }
+    return -1;
+}
+
+/** The names in one line, with commas between them. */
+function listed(names) {
+    let line = names[0];
+    for (let index = 1; index < names.length; index++) line += `, ${names[index]}`;
+    return line;
+}
+
+// ---- Options of reading
+
+export function typeOf(value) {
+    if (value === null) return "null";
+    return Array.isArray(value) ? "array" : typeof value;
+}
+
+/** Whether an object inherits only what every object inherits, in this realm or another. */
+function isPlain(options) {
+    if (typeof options !== "object" || options === null) return false;
+    const prototype = Object.getPrototypeOf(options);
+    if (prototype === Object.prototype || prototype === null) return true;
+    return Object.getPrototypeOf(prototype) === null
+        && Object.getOwnPropertyDescriptor(prototype, "isPrototypeOf") !== undefined;
+}
+
+function checkPlain(options, hint = "") {
+    if (isPlain(options)) return;
+    const type = typeOf(options).replace("object", "one that inherits");
+    throw new TypeError(`the options must be a plain object, not ${type}${hint}`);
+}
+
+const unknown = (name) => new TypeError(`unknown option: ${name}`);
+
+/** The number of the unit that a text calls by this name if all options are off. `what` is the
+ * option that has this value, for the error. */
+function unitOf(what, name) {
+    if (typeof name !== "string") {
+        throw new TypeError(`${what} must be a string, not ${typeOf(name)}`);
+    }
+    // Comparing the printed names takes less time than a call.
+    const printed = indexIn(UNITS, name);
+    if (printed >= 0) return printed;
+    if (!calls) start();
+    const unit = calls.duration_str_unit(TEXT, write(name).length);
+    if (unit >= 0) return unit;
+    throw new RangeError(`${what} must be one of ${listed(UNITS)}, not ${name}`);
+}
+
+/** The bits of a default unit. The second has none. Another unit turns `noCalc` on. */
+function defaultUnitBits(name) {
+    if (name === undefined) return 0;
+    const unit = unitOf("the option defaultUnit", name);
+    if (UNITS[unit] === "s") return READS_NUMBERS;
+    return READS_NUMBERS | OPTIONS.noCalc | (unit + 1) << DEFAULT_UNIT;
+}
+
+/** The bits of the options that are on, and of the default unit. */
+export function bitsOf(options) {
+    if (options === undefined) return 0;
+    // `map` passes the index as the second argument.
+    checkPlain(options, ": write (text) => parse(text)");
+    let bits = 0;
+    let wantsOperators = false;
+    const names = Object.keys(options);
+    for (let index = 0; index < names.length; index++) {
+        const name = names[index];
+        const value = options[name];
+        if (name === "defaultUnit") {
+            bits |= defaultUnitBits(value);
+        } else if (!(name in OPTIONS)) {
+            throw unknown(name);
+        } else if (value === true) {
+            bits |= OPTIONS[name];
+        } else if (value === false) {
+            wantsOperators ||= name === "noCalc";
+        } else if (value !== undefined) {
+            throw new TypeError(`the option ${name} must be a boolean, not ${typeOf(value)}`);
+        }
+    }
+    if (bits & OPTIONS.requireUnit && bits & READS_NUMBERS) {
+        throw new RangeError("the options requireUnit and defaultUnit contradict each other");
+    }
+    // If `noCalc` is false and yet on, the default unit has turned it on.
+    if (wantsOperators && bits & OPTIONS.noCalc) {
+        const why = "a factor would count that unit too";
+        throw new RangeError(
+            `the option noCalc can't be false if defaultUnit is not the second: ${why}`,
+        );
+    }
+    return bits;
+}
+
+// ---- Formats
+
+/** The number of a style by its name. */
+export function styleOf(name) {
+    if (typeof name !== "string") {
+        throw new TypeError(`the option style must be a string, not ${typeOf(name)}`);
+    }
+    const number = indexIn(STYLES, name);
+    if (number >= 0) return number;
+    throw new RangeError(`the option style must be one of ${listed(STYLES)}, not ${name}`);
+}
+
+/** The set of the units that a list names. */
+function unitsOf(names) {
+    if (!Array.isArray(names)) {
+        throw new TypeError(`the option units must be an array, not ${typeOf(names)}`);
+    }
+    if (names.length === 0) throw new RangeError("the option units must name a unit");
+    let units = 0;
+    for (let index = 0; index < names.length; index++) {
+        units |= 1 << unitOf("a unit of the option units", names[index]);
+    }
+    return units;
+}
+
+/** The greatest number of parts. No duration has more parts than there are units. */
+export function countOf(parts) {
+    if (typeof parts !== "number") {
+        throw new TypeError(`the option parts must be a number, not ${typeOf(parts)}`);
+    }
+    if (parts < 1 || !Number.isInteger(parts) && parts !== Infinity) {
+        throw new RangeError(`the option parts must be a whole number from 1 on, not ${parts}`);
+    }
+    return Math.min(parts, UNITS.length);
+}
+
+/** The options for printing and for counting, with their default values. */
+export const PRINTED_WHOLE = {
+    __proto__: null, units: undefined, largest: undefined, smallest: "ns", parts: Infinity,
+    style: "short",
+};
+export const COUNTED_WHOLE = {
+    __proto__: null, units: undefined, largest: undefined, smallest: "ns", parts: Infinity,
+};
+
+/** The format with these options for printing or for counting. `whole` has their names and default
+ * values. */
+export function formatOf(options, whole) {
+    checkPlain(options);
+    let { units, largest, smallest, parts, style } = whole;
+    const names = Object.keys(options);
+    for (let index = 0; index < names.length; index++) {
+        const name = names[index];
+        if (!(name in whole)) throw unknown(name);
+        const value = options[name];
+        if (value === undefined) continue;
+        if (name === "units") units = value;
+        else if (name === "largest") largest = value;
+        else if (name === "smallest") smallest = value;
+        else if (name === "parts") parts = value;
+        else style = value;
+    }
+    return { units, largest, smallest, parts, style };
+}
+
+/** The set of the units in `all` that a format leaves, and the set of the units that it names. If
+ * no units are listed and no largest is chosen, the largest is `longest`. */
+export function unitsLeft({ units, largest, smallest }, all, longest) {
+    const wanted = units === undefined ? all : unitsOf(units);
+    if (largest === undefined) largest = units === undefined ? longest : "y";
+    const first = unitOf("the option largest", largest);
+    const last = unitOf("the option smallest", smallest);
+    if (first > last) {
+        const why = `the largest unit, ${largest}, is shorter than the smallest, ${smallest}`;
+        throw new RangeError(why);
+    }
+    const left = wanted & (2 << last) - (1 << first);
+    if (left === 0) {
+        throw new RangeError(`the option units has no unit from ${largest} to ${smallest}`);
+    }
+    return { left, named: wanted | 1 << first | 1 << last };
+}

@@ -1,0 +1,138 @@
+// Why a text is refused: the fault that a call returns, and the error that a call throws.
+import {
+    CAUSE, decode, EXPECTED, fields, FOUND_LENGTH, HAS_PLACE, output, PLACE, texts,
+} from "./memory.js";
+
+/** The codes of refusals, in the order of `enum duration_str_cause` in the library's header. */
+const CODES = [
+    "READ", "EMPTY", "SYNTAX", "NUMBER_TOO_LARGE", "OVERFLOW", "MIXED", "OUT_OF_RANGE", "NOT_TEXT",
+];
+
+/** The most UTF-16 units of a text that Node shows with an error. */
+const SHOWN_LENGTH = 80;
+
+/** What is wrong with a text. The report's last line is the message. */
+class Fault {
+    code;
+    text;
+    index;
+    place;
+    found;
+    expected;
+    message;
+    #report;
+
+    constructor({ code, text, index, place, found, expected }, report) {
+        this.code = code;
+        this.text = text;
+        this.index = index;
+        this.place = place;
+        this.found = found;
+        this.expected = expected;
+        this.message = report.slice(report.lastIndexOf("\n") + 1);
+        this.#report = report;
+    }
+
+    get report() {
+        return this.#report;
+    }
+
+    toString() {
+        return this.message;
+    }
+}
+
+/** Hides the field of this name behind a getter if its text is long. If nobody catches an error,
+ * Node shows up to 10,000 characters of each text in its cause, but calls no getter. */
+function hideLong(cause, name) {
+    const text = cause[name];
+    if (text === null || text.length <= SHOWN_LENGTH) return;
+    Object.defineProperty(cause, name, { __proto__: null, get: () => text });
+}
+
+/** The error for a refused text. Everything about the fault except its message is in `cause`, since
+ * a structured clone of an error keeps no other field. */
+export class DurationError extends Error {
+    #report;
+
+    constructor(fault) {
+        if (!(fault instanceof Fault)) {
+            throw new TypeError("a DurationError is made of a fault, as tryParse returns it");
+        }
+        const { message, ...cause } = fault;
+        hideLong(cause, "text");
+        hideLong(cause, "found");
+        super(message, { cause });
+        this.#report = fault.report;
+    }
+
+    get report() {
+        return this.#report;
+    }
+
+    get code() {
+        return this.cause.code;
+    }
+
+    get text() {
+        return this.cause.text;
+    }
+
+    get index() {
+        return this.cause.index;
+    }
+
+    get place() {
+        return this.cause.place;
+    }
+
+    get found() {
+        return this.cause.found;
+    }
+
+    get expected() {
+        return this.cause.expected;
+    }
+
+    toJSON() {
+        return { name: this.name, message: this.message, ...this.cause };
+    }
+}
+
+// A plain assignment would throw if the prototype of errors is frozen.
+Object.defineProperty(DurationError.prototype, "name", {
+    __proto__: null, value: "DurationError", writable: true, configurable: true,
+});
+
+/** What could stand at the place, from the bits of `enum duration_str_expected`. */
+function expectedOf(bits) {
+    return {
+        number: (bits & 1) !== 0,
+        unit: (bits & 2) !== 0,
+        operator: (bits & 4) !== 0,
+        end: (bits & 8) !== 0,
+    };
+}
+
+/** The fault of the text at TEXT, from the answer and the report that the call has written. */
+export function faultOf(text, length, reportLength) {
+    const code = CODES[fields.getUint32(CAUSE, true)];
+    const place = fields.getUint8(HAS_PLACE) ? fields.getUint32(PLACE, true) : null;
+    const foundLength = fields.getUint32(FOUND_LENGTH, true);
+    const expected = expectedOf(fields.getUint32(EXPECTED, true));
+    let index = place;
+    let found = foundLength ? text.slice(place, place + foundLength) : null;
+    // Beyond ASCII, bytes and UTF-16 units differ.
+    if (place !== null && length !== text.length) {
+        index = decode(texts.subarray(0, place)).length;
+        if (foundLength) found = decode(texts.subarray(place, place + foundLength));
+    }
+    return new Fault({ code, text, index, place, found, expected }, output(reportLength));
+}
+
+/** The fault of a text that has a lone surrogate at this index. */
+export function loneSurrogateAt(text, index) {
+    const expected = expectedOf(0);
+    const cause = { code: "NOT_TEXT", text, index, place: null, found: null, expected };
+    return new Fault(cause, `not UTF-8: a lone surrogate at index ${index}`);
+}

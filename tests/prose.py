@@ -1,0 +1,222 @@
+"""Checks what the documents say, for tests/repository.
+
+- A link leads to a file or folder of the repository, and to a heading if it names one. Links to
+  other hosts are not followed. A path in backquotes exists, and a name in backquotes occurs in a
+  source.
+- What is proved stands in docs/PROMISES.md. Each row there has one promise, names the contract, law
+  or test that shows it, and has a hardest case: a text of the vectors or a test. The section of
+  README.md has only sentences of that page. The documents of the packages, and those about texts,
+  other programs and speed, have one sentence that leads there, and no other about proofs.
+- The helps in docs/GRAMMAR.md are those of lines in the vectors.
+- docs/MIGRATING.md has no code in its prose, since people paste code, and tests/documents only runs
+  blocks.
+- codespell finds nothing.
+"""
+import json
+import pathlib
+import re
+import shutil
+import subprocess
+
+ROOT = pathlib.Path(__file__).resolve().parent.parent
+CRATE = ROOT / "crates/duration_str"
+HEADER = "c/include/duration_str.h"
+VECTORS = "rust/vectors.json"
+
+
+def read(name):
+    return (ROOT / name).read_text(encoding="utf-8")
+
+
+def tracked_files(*patterns):
+    words = ["git", "ls-files", "--cached", "--others", "--exclude-standard", *patterns]
+    told = subprocess.run(words, cwd=ROOT, capture_output=True, text=True, check=True)
+    return [name for name in told.stdout.splitlines() if (ROOT / name).is_file()]
+
+
+# ---- Links, paths and names
+
+LINK = re.compile(r"\]\(([^)\s]+)\)|(?:src|srcset)=\"([^\"]+)\"")
+NAMED = re.compile(r"`(?:\w+::)*([A-Za-z]\w{3,})`")
+# Names of the toolchain and of Rust, which occur in no source of the repository.
+FOREIGN = {"dac8208d650f15bf", "VecDeque", "Cursor", "manylinux_2_17"}
+# Documents with names of other libraries and of earlier versions.
+ABOUT_OTHERS = {"CHANGELOG.md", "docs/MIGRATING.md"}
+
+
+def prose(name):
+    return re.sub(r"^```.*?^```$", "", read(name), flags=re.M | re.S)
+
+
+def headings(path):
+    """The anchors of a document's headings, as a forge makes them."""
+    found = re.findall(r"^#+ (.*)$", prose(path.relative_to(ROOT)), re.M)
+    return {re.sub(r"[^\w\- ]", "", heading.lower()).strip().replace(" ", "-") for heading in found}
+
+
+def wrong_links(name):
+    for target in (first or second for first, second in LINK.findall(prose(name))):
+        file, _, anchor = target.partition("#")
+        path = ((ROOT / name).parent / file).resolve() if file else ROOT / name
+        if "://" not in target and (not path.exists() or anchor and anchor not in headings(path)):
+            yield f"{name}: leads nowhere: {target}"
+
+
+def wrong_paths(name, folders):
+    near = (ROOT, (ROOT / name).parent, CRATE)
+    for path in re.findall(rf"`((?:{'|'.join(folders)})/[\w./-]*)`", prose(name)):
+        if not any((folder / path).exists() for folder in near):
+            yield f"{name}: names a path that is not there: {path}"
+
+
+def code_in_prose(name):
+    """Code in the prose of a document: a call with arguments, a statement, or a command with
+    options."""
+    for code in re.findall(r"`([^`\n]+)`", prose(name)):
+        if re.search(r"\w\([^)]|;|\w -[\w-]+ .*\w", code):
+            yield f"{name}: has code in its prose, which nothing runs: {code}"
+
+
+def sentences_of(text):
+    """The sentences of a text, including those in lists and tables, each as one line."""
+    text = re.sub(r"^```.*?^```$", "", text, flags=re.M | re.S)
+    text = re.sub(r"^#.*", "", text, flags=re.M)
+    for block in re.split(r"\n\n|\n(?=[-|#]|\d+\. )", text):
+        for part in block.split("|") if block.startswith("|") else [block]:
+            ends = r"(?:(?<=[.:!?])|(?<=[.:!?]\*\*)) +(?=[A-Z`\[(*])"
+            for sentence in filter(None, re.split(ends, " ".join(part.split()))):
+                yield re.sub(r"^[-*\d. ]+", "", sentence)
+
+
+def texts_of_vectors():
+    """All texts of the vectors, in whatever kind of row."""
+    left = [json.loads(read(VECTORS))]
+    while left:
+        here = left.pop()
+        if isinstance(here, str):
+            yield here
+        elif isinstance(here, (list, dict)):
+            left.extend(here.values() if isinstance(here, dict) else here)
+
+
+def other_helps():
+    """The helps in GRAMMAR's table that no line of the vectors ends with."""
+    _, table = read("docs/GRAMMAR.md").split("| help | what stands at the place |\n|---|---|\n")
+    lines = set(texts_of_vectors())
+    for told in re.findall("^\\| `(.*?)` \\|", table.split("\n\n")[0], re.M):
+        if not any(line.endswith(f" ({told})") for line in lines):
+            yield f"docs/GRAMMAR.md: no error in the vectors has the help `{told}`"
+
+
+# ---- What is proved
+
+PROMISES = "docs/PROMISES.md"
+LEADS_THERE = " says what is proved, what is tested, and what you trust."
+# The words that make a sentence one about proofs
+OF_PROOFS = re.compile(r"\b(dis)?(prov(e[dns]?|ing)|prover|proofs?|verif\w+|guarantee\w*)\b", re.I)
+# The files that have the sentence that leads to PROMISES, and others that say nothing of proofs
+PACKAGES = (
+    "c/README.md",
+    HEADER,
+    "js/README.md",
+    "js/index.d.ts",
+    "python/README.md",
+    "python/src/duration_str/__init__.py",
+    "rust/README.md",
+    "rust/core/README.md",
+    "rust/src/lib.rs",
+    "shell/README.md",
+    "web/page.html",
+)
+OTHERS = ("docs/GRAMMAR.md", "docs/MIGRATING.md", "docs/SPEED.md")
+
+
+def section(name, heading):
+    """The lines of a document from this heading to the next of its rank."""
+    return read(name).split(f"\n{heading}\n")[1].split(f"\n{heading.split()[0]} ")[0]
+
+
+def plain(text):
+    """A text without the marks of links and code."""
+    return re.sub(r"\[([^]]*)\]\([^)]*\)", r"\1", text).replace("`", "")
+
+
+def wrong_promises():
+    """What is wrong in the rows of promises, and what stands there outside of a row."""
+    known = set(texts_of_vectors())
+    names = tracked_files("crates/*.rt", "crates/*.antt", "tests/*", "*.edits", "*.edit")
+    known |= set(re.findall(r"\w+", "".join(map(read, names))))
+    head = ["promise", "shown by", "hardest cases"]
+    for line in section(PROMISES, "## What is proved").splitlines():
+        if re.match(r"$|### |\|-", line):
+            continue
+        cells = [cell.strip() for cell in line.strip("|").split(" | ")]
+        if cells == head:
+            continue
+        if not line.startswith("| ") or len(cells) != 3 or not all(cells):
+            yield f"{PROMISES}: is no promise with what shows it and a hardest case: {line}"
+        elif len(list(sentences_of(cells[0]))) != 1:
+            yield f"{PROMISES}: has two sentences in one promise: {cells[0]}"
+        elif unknown := set(re.findall(r"`([^`]+)`", cells[1])) - known:
+            yield f"{PROMISES}: names what is nowhere: {', '.join(unknown)}"
+        elif not set(re.findall(r"`([^`]+)`", cells[2])) & known:
+            yield f"{PROMISES}: has no text of the vectors and no test: {cells[2]}"
+
+
+def other_sentences_on_proofs():
+    """The sentences on proofs that stand outside of docs/PROMISES.md, and are neither of that page
+    nor the one that leads there.
+    """
+    there = {plain(each) for each in sentences_of(read(PROMISES))}
+    for sentence in sentences_of(section("README.md", "## What is proved")):
+        if plain(sentence) not in there | {f"PROMISES{LEADS_THERE}"}:
+            yield f"README.md: says what {PROMISES} doesn't: {sentence}"
+    for name in (*PACKAGES, *OTHERS):
+        # Marks of comments and of a web page are no part of a sentence.
+        text = re.sub(r"(?m)^ *(//[/!]?|\*|/\*+)( |$)", "", read(name).replace("<code>", "`"))
+        text = re.sub(r"</?\w+[^>]*>", "", text.replace("</code>", "`"))
+        said = [plain(each) for each in sentences_of(text) if OF_PROOFS.search(each)]
+        wanted = f"{PROMISES} in the repository{LEADS_THERE}"
+        if said.count(wanted) != (name in PACKAGES):
+            yield f"{name}: has not once the sentence: {wanted}"
+        for sentence in said:
+            if sentence != wanted:
+                yield f"{name}: says something of its own about proofs: {sentence}"
+
+
+def wrong_names():
+    sources = (
+        f"{name} {(ROOT / name).read_text(encoding='utf-8', errors='replace')}"
+        for name in tracked_files()
+    )
+    texts = (text for text in sources if not text.split()[0].endswith((".md", ".svg")))
+    words = {word for text in texts for word in re.findall(r"\w+", text)}
+    for name in set(tracked_files("*.md")) - ABOUT_OTHERS:
+        for word in sorted(set(NAMED.findall(prose(name))) - words - FOREIGN):
+            yield f"{name}: names what stands in no source: {word}"
+
+
+# ---- Spelling
+
+
+def misspelt():
+    if not shutil.which("codespell"):
+        print("repository: spelling skipped, codespell is missing (make setup)")
+        return []
+    files = tracked_files("*.md", "program/*.in", "c/*.in", "c/include/*.h")
+    # A word of Rust, and two requests of manual pages, which codespell takes for mistakes.
+    words = ["codespell", "--ignore-words-list", "crate,nd,fo", *files]
+    return subprocess.run(words, cwd=ROOT, capture_output=True, text=True).stdout.splitlines()
+
+
+# ---- All together
+
+
+def problems():
+    folders = sorted({name.split("/")[0] for name in tracked_files("*/**")})
+    for name in tracked_files("*.md"):
+        yield from wrong_links(name)
+        yield from wrong_paths(name, folders)
+    yield from code_in_prose("docs/MIGRATING.md")
+    for each in (wrong_promises, other_sentences_on_proofs, other_helps, wrong_names, misspelt):
+        yield from each()
