@@ -10,13 +10,15 @@
 - The helps in docs/GRAMMAR.md are those of lines in the vectors.
 - docs/MIGRATING.md has no code in its prose, since people paste code, and tests/documents only runs
   blocks.
-- codespell finds nothing.
+- The pictures are the ones that tools/pictures draws, and codespell finds nothing.
 """
+import filecmp
 import json
 import pathlib
 import re
 import shutil
 import subprocess
+import tempfile
 
 ROOT = pathlib.Path(__file__).resolve().parent.parent
 CRATE = ROOT / "crates/duration_str"
@@ -196,7 +198,7 @@ def wrong_names():
             yield f"{name}: names what stands in no source: {word}"
 
 
-# ---- Spelling
+# ---- Spelling and pictures
 
 
 def misspelt():
@@ -209,6 +211,21 @@ def misspelt():
     return subprocess.run(words, cwd=ROOT, capture_output=True, text=True).stdout.splitlines()
 
 
+def other_pictures():
+    if subprocess.run(
+        ["/usr/bin/python3", "-c", "import railroad"], capture_output=True
+    ).returncode:
+        print("repository: pictures skipped, railroad-diagrams is missing (make setup all=yes)")
+        return
+    with tempfile.TemporaryDirectory() as room:
+        drawn = subprocess.run([ROOT / "tools/pictures", room], capture_output=True, text=True)
+        if drawn.returncode:
+            yield f"tools/pictures: {drawn.stderr.strip()}"
+        for picture in pathlib.Path(room).iterdir():
+            if not filecmp.cmp(picture, ROOT / "docs/images" / picture.name, shallow=False):
+                yield f"docs/images/{picture.name}: is not what tools/pictures draws"
+
+
 # ---- All together
 
 
@@ -218,5 +235,12 @@ def problems():
         yield from wrong_links(name)
         yield from wrong_paths(name, folders)
     yield from code_in_prose("docs/MIGRATING.md")
-    for each in (wrong_promises, other_sentences_on_proofs, other_helps, wrong_names, misspelt):
+    for each in (
+        wrong_promises,
+        other_sentences_on_proofs,
+        other_helps,
+        wrong_names,
+        misspelt,
+        other_pictures,
+    ):
         yield from each()
