@@ -136,8 +136,8 @@ impl FormattedDuration {
     /// assert_eq!(parts.rest(), 29_000_000);
     /// ```
     ///
-    /// The README of this crate has recipes for lists, clocks, decimals, rounding and other
-    /// languages, in its section "Durations in your own words".
+    /// The file `tests/printers.rs` of this crate has functions for lists, clocks, decimals,
+    /// rounding and other languages.
     #[must_use]
     pub fn breakdown(&self) -> Breakdown {
         Breakdown::new(&self.magnitude, self.format)

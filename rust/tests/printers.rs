@@ -1,10 +1,10 @@
-//! Functions that print durations as other programs do. docs/MIGRATING.md in the repository says
-//! for which durations each gives the same text, byte for byte, as the program that it is named
-//! after.
+//! Functions that print durations in other ways than this crate. Many are named after a program.
+//! docs/MIGRATING.md in the repository says for which durations they give the same text as that
+//! program, byte for byte.
 #![forbid(unsafe_code)]
 
-use duration_str::TimeUnit::{Day, Hour, MilliSecond, Minute, Second, Week, Year};
-use duration_str::{FormattedDuration, Style, TimeUnit, format_duration};
+use duration_str::TimeUnit::{self, Day, Hour, MilliSecond, Minute, Second, Week, Year};
+use duration_str::{FormattedDuration, Style, format_duration};
 use std::time::Duration;
 
 // `m` for the minute, or one unit
@@ -195,4 +195,68 @@ fn prints_decimals_and_clocks() {
     assert_eq!(go(Duration::from_nanos(1_500)), "1.5µs");
     let zero = [borg, cargo, go, pretty_ms, restic].map(|print| print(Duration::ZERO));
     assert_eq!(zero, ["0.00 seconds", "0.00s", "0s", "0ms", "0:00"]);
+}
+
+// Texts of your own
+
+fn clock(duration: Duration) -> String {
+    let secs = duration.as_secs();
+    format!("{}:{:02}:{:02}", secs / 3_600, secs / 60 % 60, secs % 60)
+}
+
+/// Seconds with three decimals, after the longer units.
+fn minutes_and_seconds(duration: Duration) -> String {
+    let mut parts = format_duration(duration).smallest(Minute).breakdown();
+    let text: String = parts
+        .by_ref()
+        .map(|(unit, count)| format!("{count}{unit} "))
+        .collect();
+    let millis = parts.rest() / 1_000_000;
+    format!("{text}{}.{:03}s", millis / 1_000, millis % 1_000)
+}
+
+/// Rounded to the nearest minute.
+fn rounded(duration: Duration) -> String {
+    let half = Duration::from_secs(30);
+    format_duration(duration.saturating_add(half))
+        .smallest(Minute)
+        .to_string()
+}
+
+/// German has one form for the count 1 and another for all other counts. Some languages have more.
+fn german(duration: Duration) -> String {
+    let part = |(unit, count): (TimeUnit, u128)| {
+        let (one, other) = match unit {
+            Hour => ("Stunde", "Stunden"),
+            Minute => ("Minute", "Minuten"),
+            _ => ("Sekunde", "Sekunden"),
+        };
+        format!("{count} {}", if count == 1 { one } else { other })
+    };
+    let parts = format_duration(duration)
+        .only(&[Hour, Minute, Second])
+        .breakdown();
+    let words: Vec<String> = parts.map(part).collect();
+    if words.is_empty() {
+        "0 Sekunden".to_string()
+    } else {
+        words.join(" ")
+    }
+}
+
+#[test]
+fn prints_texts_of_ones_own() {
+    assert_eq!(
+        [3_723, 90_000, 0].map(Duration::from_secs).map(clock),
+        ["1:02:03", "25:00:00", "0:00:00"]
+    );
+    let lengths = [193_029, 0].map(Duration::from_millis);
+    assert_eq!(lengths.map(minutes_and_seconds), ["3min 13.029s", "0.000s"]);
+    let lengths = [29, 89, 90, 7_199].map(Duration::from_secs);
+    assert_eq!(lengths.map(rounded), ["0min", "1min", "2min", "2h"]);
+    assert_eq!(
+        german(Duration::from_secs(5_461)),
+        "1 Stunde 31 Minuten 1 Sekunde"
+    );
+    assert_eq!(german(Duration::ZERO), "0 Sekunden");
 }
