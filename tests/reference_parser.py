@@ -44,7 +44,6 @@ UNITS = (
     Unit(1, "ns", "ns nsec nanosecond nanoseconds", "纳秒"),
 )
 
-# The index of a unit in UNITS, by each of its names.
 PLACES = {name: place for place, unit in enumerate(UNITS) for name in unit.names.split()}
 
 # The line of a syntax fault where a unit could stand, and the most bytes that a printed duration
@@ -242,7 +241,7 @@ def terminals_at_each_place(text, options):
 
 
 def list_of(pairs):
-    """The list that is written as pairs of its first item and the rest."""
+    """The items of a list that is made of nested pairs, such as (1, (2, ()))."""
     items = []
     while pairs:
         item, pairs = pairs

@@ -81,7 +81,7 @@ function start() {
     WRITTEN = ANSWER + 32;
     TEXT = WRITTEN + WRITTEN_SIZE;
     memory = all;
-    // With one more page, there is at least a page for the text.
+    // The page that is added here is room for the text.
     memory.grow(1);
     makeViews();
     calls = others;

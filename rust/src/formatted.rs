@@ -85,7 +85,6 @@ pub const fn format_duration(duration: Duration) -> FormattedDuration {
 }
 
 impl FormattedDuration {
-    /// The duration with this sign and this magnitude.
     pub(crate) const fn with_sign(is_negative: bool, magnitude: Duration) -> FormattedDuration {
         FormattedDuration {
             is_negative,

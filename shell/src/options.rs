@@ -213,7 +213,6 @@ fn list_of_units(words: &str) -> Result<UnitList, String> {
 // Made by tests/repository --write.
 const WORDS: [&str; 11] = ["y", "q", "mon", "w", "d", "h", "min", "s", "ms", "us", "ns"];
 
-/// The completions for a shell.
 pub fn completions(shell: Shell) -> String {
     let complete = |command: Command, name, words: &'static [&str]| {
         let words = PossibleValuesParser::new(words);

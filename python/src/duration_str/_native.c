@@ -79,7 +79,6 @@ struct text {
     size_t length;
 };
 
-/* Returns the number, or None if there is none. */
 static PyObject *size_or_none(bool is_there, size_t size) {
     return is_there ? PyLong_FromSize_t(size) : Py_NewRef(Py_None);
 }
@@ -831,12 +830,15 @@ static int raise_first(struct state *state, const struct list *list, PyObject *r
     return is_raised || PyErr_Occurred() ? -1 : 0;
 }
 
-/* read_list(values, nanos, reading, raises, first, function): puts the values of a list's texts,
- * and of its numbers, if numbers are read, into a buffer of zeros. Returns a list of the positions
- * of those that are refused, and of all other values. If `raises` is true, it raises the error of
- * the first other value, or, if there is none, of the first text that is refused. The first value
- * has the index `first`. If the function is not None, the results are numbers of timedelta64, a
- * refused text is NaT, and the function returns the number for another value. */
+/* read_list(values, nanos, reading, raises, first, function): reads the texts in a list into a
+ * buffer of zeros, and also its numbers, if `reading` allows that. Returns a list of the positions
+ * of the values that it refuses. These are refused texts and numbers, and values of other types.
+ *
+ * If `raises` is true, it raises an error instead: that of the first value of another type, or, if
+ * there is none, that of the first refused text. The error counts positions from `first`.
+ *
+ * If `function` is not None, the buffer gets numbers of timedelta64. None, NaN and a refused text
+ * become NaT, and a timedelta is kept. For any other value the function returns the number. */
 static PyObject *read_list(PyObject *self, PyObject *arguments) {
     struct list list;
     Py_buffer nanos;
