@@ -139,8 +139,8 @@ export interface Breakdown {
 
 /**
  * How much of a duration the function `parts` counts. By default it counts all of the duration,
- * from days to nanoseconds. Longer units are counted if they are among the `units`, or if the
- * `largest` is longer than a day.
+ * from days to nanoseconds. It counts longer units if `units` names them, or up to the unit that
+ * `largest` names.
  */
 export type PartFormat = Counted<Exclude<Unit, "q" | "quarter" | "quarters">>;
 
