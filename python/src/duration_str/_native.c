@@ -293,7 +293,7 @@ static int take_options(struct state *state, const char *call, PyObject *const *
         PyErr_SetString(PyExc_ValueError, "default_unit can't be named if require_unit is on");
         return -1;
     }
-    /* A default unit other than the second turns no_calc on. */
+    /* A default unit other than seconds turns no_calc on. */
     const uint32_t unit = DURATION_STR_OPTION_DEFAULT_UNIT((uint32_t)said.default_unit);
     if (unit & said.off) {
         PyErr_SetString(PyExc_ValueError, "no_calc can't be False if default_unit is not the "
@@ -1007,9 +1007,9 @@ PyDoc_STRVAR(parse_ns_doc,
     "  cn_unit       the Chinese names of the units are read too\n"
     "  require_unit  a number without a unit is refused\n\n"
     "A number without a unit counts the `default_unit`. You can give the unit by any\n"
-    "of its names, except for the Chinese ones. With any unit except the second, `+`\n"
+    "of its names, except for the Chinese ones. With any unit except seconds, `+`\n"
     "and `*` are not read.\n\n"
-    "If you name a default unit, even the second, a whole number that is not a text\n"
+    "If you name a default unit, even seconds, a whole number that is not a text\n"
     "is read as its digits would be. It is an int (also NumPy's), or a float that is\n"
     "whole and below 2**53.\n\n"
     "Raises DurationError if the text or the number is refused, and\n"
