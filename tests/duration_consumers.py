@@ -88,7 +88,7 @@ def in_nanos(texts, unit=10**9):
 
 def waits_longer():
     """Whether sleep and timeout wait longer than they are told, by up to four units in the last
-    place of a double. Those of coreutils 9.7 do so, and those of 9.1 don't."""
+    place of a double. In coreutils 9.7 they do so, and in 9.1 they don't."""
     version = output_of(["sleep", "--version"])[0].split()[-1]
     return tuple(map(int, version.split(".")[:2])) > (9, 1)
 

@@ -4,8 +4,8 @@ tests/compare compares the program, the library and the packages with this parse
 from the documents, not from the Rattle code, and works in another way. It tries all ways to split a
 text into terminals, and keeps those that are sentences. To find out what can follow the beginning
 of a sentence, it tries each kind of terminal there. And its numbers are whole numbers without
-bound. If the documents say that there is only one of something, it looks for all of them, and fails
-if it finds another one.
+bound. If the documents say that there is only one answer, it looks for all answers, and fails if it
+finds more than one.
 """
 import functools
 import itertools

@@ -122,8 +122,8 @@ function decode(bytes) {
 }
 
 /** Arrays for the codes of short texts, one for each length. An array has all its elements from the
- * start. To assign to an element that it lacks would call a setter, if a page has given one to all
- * arrays. */
+ * start. A page can give all arrays a setter for an element, which is called if the array itself
+ * lacks the element. */
 const codesOf = { __proto__: null };
 
 /** The text of this length that a call has written. */
