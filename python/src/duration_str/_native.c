@@ -245,7 +245,7 @@ static void raise_name(PyObject *name, const char *keyword, const char *listed) 
 
 /* The number of the unit that has this name if all options are off. Returns -1 with an error. */
 static int unit_of(struct state *state, PyObject *name, const char *keyword) {
-    /* A name that stands in a program is almost always the same object as the kept one. */
+    /* Python keeps one object for equal names in a program, so most names are found here. */
     for (int unit = 0; unit <= DURATION_STR_UNIT_NANOSECOND; unit++)
         if (name == state->kept[UNIT_NAMES + unit])
             return unit;
