@@ -87,7 +87,7 @@ pub struct Choices {
     /// Read the Chinese names of units too
     #[arg(long)]
     pub cn_unit: bool,
-    /// Refuse a number without a unit, which otherwise counts seconds
+    /// Refuse a number without a unit
     #[arg(long, conflicts_with = "from")]
     pub require_unit: bool,
     /// Print the completions for a shell
