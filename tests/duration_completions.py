@@ -126,9 +126,12 @@ bind \co reports
 # What is on the path besides `duration`. fish and its functions use the first two.
 TOOLS = ("mkdir", "sed", "touch")
 
-# What must be there, the words that start the shell in the folder `work`, where it reads its
-# configuration below the folder `home`, the keys that type a line feed, and in how many terminals
-# it runs. fish has more, since it can wait for 100 ms if nothing completes a word.
+# - needs: what must be installed
+# - words: the command that starts the shell, in the folder `work`
+# - file, configuration: where it reads its configuration, below the folder `home`, and its text
+# - line_feed: the keys that type a line feed
+# - terminals: in how many it runs. fish has more, since it can wait for 100 ms if nothing completes
+#   a word
 Shell = collections.namedtuple("Shell", "needs words file configuration line_feed terminals")
 OF_BASH = ("bash", "--rcfile", "../home/rc", "-i")
 SHELLS = {
