@@ -182,8 +182,8 @@ mod parser;
 #[cfg(feature = "serde")]
 mod serde;
 
-// The documentation has these only in their module, since otherwise the list of this crate's
-// functions would begin with them.
+// The documentation shows these only in their module. Otherwise the list of this crate's functions,
+// which is in alphabetical order, would begin with them.
 #[cfg(feature = "chrono")]
 #[doc(hidden)]
 pub use dates::{
