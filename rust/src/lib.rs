@@ -87,8 +87,8 @@
 //!
 //! # Why and where a text is refused
 //!
-//! A [`Fault`] and a [`DurationError`] display as one line. For a syntax fault their `report` also
-//! gives the text, and a caret below the place.
+//! A [`Fault`] and a [`DurationError`] display as one line. For most syntax faults their `report`
+//! also gives the text, and a caret below the place.
 //!
 //! ```
 //! use duration_str::{Options, parse_with};
