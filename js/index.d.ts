@@ -15,7 +15,7 @@
  */
 
 /**
- * Options for reading. If you give none, all are off, and the default unit is the second. They must
+ * Options for reading. If you give none, all are off, and numbers count seconds. They must
  * be a plain object, and only the object's own properties count. An unknown name is a `TypeError`.
  * `requireUnit` and `defaultUnit` can't stand together. Beside a `defaultUnit` other than the
  * second, `noCalc` can't be `false`. An option that is `undefined` is the same as one that is left
@@ -49,10 +49,10 @@ interface RequiringOptions extends Switches {
 interface CountingOptions extends Switches {
     /**
      * The default unit, which a number without a unit counts. With `ms`, `1500` is 1.5 seconds, and
-     * so is `1s 500`. With any unit except the second, `+` and `*` are not read (docs/GRAMMAR.md in
+     * so is `1s 500`. With any unit except seconds, `+` and `*` are not read (docs/GRAMMAR.md in
      * the repository says why).
      *
-     * If you name a default unit, even the second, a number that is not a text is read as its
+     * If you name a default unit, even seconds, a number that is not a text is read as its
      * digits would be.
      */
     defaultUnit?: Unit | undefined;
@@ -60,7 +60,7 @@ interface CountingOptions extends Switches {
     noCalc?: true | undefined;
 }
 
-/** Options that name the second as the default unit, so that `noCalc` can be `false`. */
+/** Options that name seconds as the default unit, so that `noCalc` can be `false`. */
 interface SecondsOptions extends Switches {
     defaultUnit: "s" | "sec" | "second" | "seconds";
     requireUnit?: false | undefined;
@@ -139,8 +139,8 @@ export interface Breakdown {
 
 /**
  * How much of a duration the function `parts` counts. By default it counts all of the duration,
- * from days to nanoseconds. Longer units are counted if they are among the `units`, or if the
- * `largest` is longer than a day.
+ * from days to nanoseconds. It counts longer units if `units` names them, or up to the unit that
+ * `largest` names.
  */
 export type PartFormat = Counted<Exclude<Unit, "q" | "quarter" | "quarters">>;
 

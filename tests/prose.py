@@ -7,7 +7,11 @@
   or test that shows it, and has a hardest case: a text of the vectors or a test. The section of
   README.md has only sentences of that page. The documents of the packages, and those about texts,
   other programs and speed, have one sentence that leads there, and no other about proofs.
-- The helps in docs/GRAMMAR.md are those of lines in the vectors.
+- The helps in docs/GRAMMAR.md are those of lines in the vectors. In tables of README.md, GRAMMAR.md
+  and MIGRATING.md each text is answered as the reference parser answers it, and each duration
+  printed as it prints it.
+- The contracts that CALLING.md quotes are those of the sources, and the oldest versions of Rust,
+  Python and Node are those that the packages name.
 - docs/MIGRATING.md has no code in its prose, since people paste code, and tests/documents only runs
   blocks.
 - The pictures are the ones that tools/pictures draws, and codespell finds nothing.
@@ -19,6 +23,8 @@ import re
 import shutil
 import subprocess
 import tempfile
+
+import reference_parser
 
 ROOT = pathlib.Path(__file__).resolve().parent.parent
 CRATE = ROOT / "crates/duration_str"
@@ -41,7 +47,7 @@ def tracked_files(*patterns):
 LINK = re.compile(r"\]\(([^)\s]+)\)|(?:src|srcset)=\"([^\"]+)\"")
 NAMED = re.compile(r"`(?:\w+::)*([A-Za-z]\w{3,})`")
 # Names of the toolchain and of Rust, which occur in no source of the repository.
-FOREIGN = {"dac8208d650f15bf", "VecDeque", "Cursor", "manylinux_2_17"}
+FOREIGN = {"dac8208d650f15bf", "VecDeque", "Cursor"}
 # Documents with names of other libraries and of earlier versions.
 ABOUT_OTHERS = {"CHANGELOG.md", "docs/MIGRATING.md"}
 
@@ -108,6 +114,82 @@ def other_helps():
     for told in re.findall("^\\| `(.*?)` \\|", table.split("\n\n")[0], re.M):
         if not any(line.endswith(f" ({told})") for line in lines):
             yield f"docs/GRAMMAR.md: no error in the vectors has the help `{told}`"
+
+
+# ---- Tables of texts
+
+# The columns that say what the reference parser answers, with the options that it has there
+ANSWERED = {
+    "here": [],
+    "means here": [],
+    "value or error": [],
+    "fault": [],
+    "with `no_calc`": ["no_calc"],
+    "if units are required": ["require_unit"],
+}
+
+
+def cells_of(line):
+    return [cell.strip() for cell in line.strip("|").split(" | ")]
+
+
+def rows_of_tables(name):
+    """The rows of all tables of a document, each as a mapping from a column's head to a cell."""
+    for table in re.findall(r"(?m)(?:^\|.*\n)+", prose(name)):
+        head, _, *rows = map(cells_of, table.splitlines())
+        yield from (dict(zip(head, row)) for row in rows)
+
+
+def is_answered(told, text, names):
+    """Whether the reference parser answers a text as a cell says: by a refusal, its cause and
+    place, its line, or a value."""
+    answer = reference_parser.Choice.named(names).answer(text)
+    if line := re.fullmatch(r"`(.* .*)`", told):
+        return answer.cause != "read" and reference_parser.one_line(text, answer) == line[1]
+    if told in ("refused", "read"):
+        return (answer.cause == "read") == (told == "read")
+    if place := re.fullmatch(r"a syntax fault at the (?:`(.*)`|end)", told):
+        return answer.cause == "syntax" and answer.found == (place[1] or "")
+    if cause := re.fullmatch(r"`(\w+)`", told):
+        return answer.cause == re.sub(r"(?<=.)([A-Z])", r" \1", cause[1]).lower()
+    meant = reference_parser.Choice().answer(re.sub(r"^an? ", "1 ", told).replace(",", ""))
+    return answer.cause == "read" and meant.cause == "read" and answer.value == meant.value
+
+
+def other_answers():
+    for name in ("README.md", "docs/GRAMMAR.md", "docs/MIGRATING.md"):
+        for row in rows_of_tables(name):
+            texts = re.findall(r"`([^`]+)`", row.get("text", ""))
+            for column in row.keys() & ANSWERED.keys():
+                told = [row[column]]
+                if not told[0].startswith("`") or " " not in told[0]:
+                    # What stands after a colon or in brackets says more than the answer.
+                    told = re.sub(r" \(.*|: .*|, as .*", "", told[0]).split(", ")
+                for text, each in zip(texts, told * (len(texts) if len(told) == 1 else 1)):
+                    if not is_answered(each, text, ANSWERED[column]):
+                        yield f"{name}: the reference parser answers otherwise: `{text}`: {each}"
+
+
+PRINTED_IN = "printed in these units"
+
+
+def other_printed():
+    """The rows of GRAMMAR.md about printing whose text the reference parser prints otherwise."""
+    printed = [unit.printed for unit in reference_parser.UNITS]
+    for row in rows_of_tables("docs/GRAMMAR.md"):
+        if PRINTED_IN not in row:
+            continue
+        (length,), names = [re.findall(r"`(.*?)`", row[key]) for key in ("duration", PRINTED_IN)]
+        if row[PRINTED_IN].startswith("all"):
+            names = [name for name in printed if name not in names]
+        elif " to " in row[PRINTED_IN]:
+            names = printed[printed.index(names[0]) : printed.index(names[1]) + 1]
+        units_chosen = [unit for unit in reference_parser.UNITS if unit.printed in names]
+        parts = len(printed) if row["parts"] == "all" else int(row["parts"])
+        nanos = reference_parser.Choice().answer(length).value
+        text = reference_parser.print_within(nanos, units_chosen, parts)
+        if f"`{text}`" != re.match("`.*?`", row["text"])[0]:
+            yield f"docs/GRAMMAR.md: {length} prints as `{text}`, and not as {row['text']}"
 
 
 # ---- What is proved
@@ -186,6 +268,18 @@ def other_sentences_on_proofs():
                 yield f"{name}: says something of its own about proofs: {sentence}"
 
 
+def other_quotes():
+    """The lines of contracts that CALLING.md quotes and no source has."""
+    names = tracked_files("crates/duration_str/src/*.rt", "crates/duration_str/specs/*.antt")
+    lines = "\n".join(map(read, names)).splitlines()
+    known = {" ".join(re.sub("pub |const ", "", line).split()) for line in lines}
+    quoted = section("crates/duration_str/CALLING.md", "## The main contracts")
+    for block in re.findall(r"^```text\n(.*?)^```$", quoted, re.M | re.S):
+        for line in filter(None, block.splitlines()):
+            if " ".join(line.replace("Fault::", "").split()) not in known:
+                yield f"crates/duration_str/CALLING.md: quotes what is in no source: {line}"
+
+
 def wrong_names():
     sources = (
         f"{name} {(ROOT / name).read_text(encoding='utf-8', errors='replace')}"
@@ -196,6 +290,24 @@ def wrong_names():
     for name in set(tracked_files("*.md")) - ABOUT_OTHERS:
         for word in sorted(set(NAMED.findall(prose(name))) - words - FOREIGN):
             yield f"{name}: names what stands in no source: {word}"
+
+
+# ---- What the packages need
+
+
+def other_requirements():
+    """The places that name another oldest version of a language than its package."""
+    oldest = {
+        "Rust": re.findall(r'^rust-version = "(.*)"', read("rust/Cargo.toml"), re.M),
+        "Python": re.findall(r'^requires-python = ">= (.*)"', read("python/pyproject.toml"), re.M),
+        "Node": re.findall(r'"node": ">=(.*)"', read("js/package.json")),
+    }
+    for name in tracked_files("*.md"):
+        # Debian's Rust has a library that JavaScript's package needs only from a later version on.
+        text = re.sub(r"Debian's Rust\s+\S+", "", read(name))
+        for language, version in re.findall(r"(Rust|Python|Node)\s+([\d.]+) or\s+later", text):
+            if [version] != oldest[language]:
+                yield f"{name}: says {language} {version} or later, and not {oldest[language]}"
 
 
 # ---- Spelling and pictures
@@ -238,7 +350,11 @@ def problems():
     for each in (
         wrong_promises,
         other_sentences_on_proofs,
+        other_quotes,
+        other_requirements,
         other_helps,
+        other_answers,
+        other_printed,
         wrong_names,
         misspelt,
         other_pictures,

@@ -4,8 +4,8 @@ tests/compare compares the program, the library and the packages with this parse
 from the documents, not from the Rattle code, and works in another way. It tries all ways to split a
 text into terminals, and keeps those that are sentences. To find out what can follow the beginning
 of a sentence, it tries each kind of terminal there. And its numbers are whole numbers without
-bound. If the documents say that there is only one of something, it looks for all of them, and fails
-if it finds another one.
+bound. If the documents say that there is only one answer, it looks for all answers, and fails if it
+finds more than one.
 """
 import functools
 import itertools
@@ -44,7 +44,6 @@ UNITS = (
     Unit(1, "ns", "ns nsec nanosecond nanoseconds", "纳秒"),
 )
 
-# The index of a unit in UNITS, by each of its names.
 PLACES = {name: place for place, unit in enumerate(UNITS) for name in unit.names.split()}
 
 # The line of a syntax fault where a unit could stand, and the most bytes that a printed duration
@@ -242,7 +241,7 @@ def terminals_at_each_place(text, options):
 
 
 def list_of(pairs):
-    """The list that is written as pairs of its first item and the rest."""
+    """The items of a list that is made of nested pairs, such as (1, (2, ()))."""
     items = []
     while pairs:
         item, pairs = pairs

@@ -11,7 +11,7 @@ room=$(mktemp -d)
 log=$room/log
 clears() { chmod -R u+w "$room" && rm -rf "$room"; }
 trap clears EXIT
-# Code that cargo builds only for tests is built once, so it needs no incremental builds.
+# Cargo builds each test once here, so incremental builds and debug symbols would only take time.
 export CARGO_INCREMENTAL=0 CARGO_PROFILE_DEV_DEBUG=0
 
 # runs WHAT WORDS..: runs the words as a step. Their whole output is in $log. If they fail, the end

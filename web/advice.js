@@ -112,7 +112,6 @@ function monthIn(sum) {
     return sum.find(({ unit }, place) => /^m$/i.test(unit) && isMonth(place));
 }
 
-/** A sum with this term in months. */
 function inMonths(sum, month) {
     const words = (term) => term === month ? `${term.number}mon` : term.words;
     return sum.map((term) => `${term.operator} ${words(term)}`.trim()).join(" ");

@@ -178,7 +178,6 @@ function lineRow(line) {
     ];
 }
 
-/** How many of the lines are read. */
 function howMany(lines) {
     const read = groupDigits(`${lines.filter(({ ok }) => ok).length}`);
     const all = groupDigits(`${lines.length}`);

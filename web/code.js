@@ -25,7 +25,6 @@ function rustChoice([name, value]) {
     return `.${name}(${rustUnit(value)})`;
 }
 
-/** Rust's call that reads the text. */
 function rustReading(text, { requireUnit, defaultUnit, ...options }) {
     const literal = JSON.stringify(text);
     const names = namesOf(options);
@@ -101,7 +100,6 @@ function javascript(text, options, format) {
     ].join("\n");
 }
 
-/** C's name of a unit. */
 const cUnit = (printed) => `DURATION_STR_UNIT_${wordOf(printed).toUpperCase()}`;
 
 /** C's set of the units that are printed. */
@@ -111,7 +109,6 @@ function cUnits({ units, largest = "y", smallest = "ns" }) {
     return `DURATION_STR_UNITS_BETWEEN(${cUnit(largest)}, ${cUnit(smallest)})`;
 }
 
-/** C's call that prints the answer. */
 function cPrintCall(format) {
     if (Object.keys(format).length === 0) {
         return [

@@ -21,7 +21,7 @@ export function say(strings, ...values) {
 /** The library's line as a sentence with the words that it quotes. */
 export function lineOf({ message }) {
     const line = `${message.replace(/^./, (letter) => letter.toUpperCase())}.`;
-    // Every other part stood between quotation marks.
+    // The second, fourth, .. part stood between quotation marks.
     const parts = line.split(/"((?:[^"\\]|\\.)*)"/);
     return parts.map((part, place) => place % 2 === 1 ? { quoted: part } : part);
 }

@@ -4,7 +4,7 @@
 //!
 //! - `bench expressions`: prints the 1,000 expressions of `texts.rs`, one on each line.
 //! - `bench times`: prints the nanoseconds of a call over the expressions, in a line with WHAT,
-//!   OURS and THEIRS for reading and for each way to print. In all such lines a tab is between the
+//!   OURS and THEIRS for reading and for each way to print. In all such lines tabs separate the
 //!   words.
 //! - `bench styles`: prints the nanoseconds that printing takes in formats, in a line with WHAT, the
 //!   figure for values below a day, and the figure for all values.

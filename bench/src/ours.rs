@@ -213,7 +213,7 @@ impl Library for Archive {
         length
     }
 
-    /// In C the answer is the only error.
+    /// C has no type for errors, so this is the number of the cause.
     type Error = u32;
 
     fn error(text: &str) -> u32 {

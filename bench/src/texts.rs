@@ -53,7 +53,6 @@ pub fn expressions() -> Vec<String> {
     (0..1000).map(&mut expression).collect()
 }
 
-/// The part of a duration below a day.
 pub fn below_day(length: Duration) -> Duration {
     Duration::new(length.as_secs() % 86_400, length.subsec_nanos())
 }

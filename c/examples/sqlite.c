@@ -13,8 +13,7 @@ static void parse(sqlite3_context *context, int count, sqlite3_value **values) {
     char line[DURATION_STR_ONE_LINE_BUFFER_SIZE];
     const int type = sqlite3_value_type(values[0]);
     if (type == SQLITE_INTEGER || type == SQLITE_FLOAT) {
-        /* A number could mean either: as a text it counts seconds, but format_duration takes
-         * nanoseconds. */
+        /* A number could mean seconds, as in a text, or nanoseconds, as in format_duration. */
         sqlite3_result_error(context, "a duration is a TEXT, such as '1h 30m'", -1);
         return;
     }

@@ -125,7 +125,7 @@ enum duration_str_option {
  * `enum duration_str_time_unit`, instead of seconds. For example, with
  * milliseconds `1500` and `1s 500` are 1.5 seconds.
  *
- * For the second the option is 0. For any other unit it includes
+ * For seconds the option is 0. For any other unit it includes
  * DURATION_STR_OPTION_NO_CALC (docs/GRAMMAR.md in the repository says why).
  * Then the option is unknown if you take the bit DURATION_STR_OPTION_NO_CALC
  * out, or if you add DURATION_STR_OPTION_REQUIRE_UNIT. It is also unknown if no
@@ -133,7 +133,7 @@ enum duration_str_option {
  * don't write `unit++` there.
  *
  * Bindings that can't call macros, such as those of Go and ctypes, compute it.
- * For the second it is 0. For any other unit the bits from bit 16 on are the
+ * For seconds it is 0. For any other unit the bits from bit 16 on are the
  * unit's number plus 1, and DURATION_STR_OPTION_NO_CALC is on. So with
  * milliseconds the option is 0x90001. (0x80001 is the second without `+` and
  * `*`, the same as DURATION_STR_OPTION_NO_CALC.) */

@@ -38,7 +38,7 @@ export function start() {
     WRITTEN = ANSWER + 32;
     TEXT = WRITTEN + WRITTEN_SIZE;
     memory = all;
-    // With one more page, there is at least a page for the text.
+    // The page that is added here is room for the text.
     memory.grow(1);
     makeViews();
     calls = others;
@@ -78,8 +78,8 @@ export function decode(bytes) {
     return decoder.decode(bytes);
 }
 
-/** An array that has all its elements from the start. To assign to an element that it lacks would
- * call a setter, if a page has given one to all arrays. */
+/** An array that has all its elements from the start. A page can give all arrays a setter for an
+ * element, which is called if the array itself lacks the element. */
 export const placesFor = (length) => " ".repeat(length).split("");
 
 /** Arrays for the codes of short texts, one for each length. */

@@ -39,7 +39,7 @@ impl<T, A> Deref for Vec<T, A> {
     }
 }
 
-/// A text whose memory can be refused.
+/// A text that grows only if the allocator gives memory.
 pub struct String<A>(Vec<u8, A>);
 
 impl<A: Allocator> String<A> {

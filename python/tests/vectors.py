@@ -34,7 +34,7 @@ def words_of(names):
     return words | dict(name.split("=") for name in names if "=" in name)
 
 
-# Every choice of the options, and each default unit, or requirement of units, that a row names.
+# Every choice of options, alone, with each default unit that a row names, and with units required
 NAMES = [name for group in VECTORS["values"] for name in group["on"]]
 UNITS = sorted({name for name in NAMES if name not in VECTORS["options"]})
 CHOICES = itertools.product((False, True), repeat=len(VECTORS["options"]))

@@ -1,4 +1,4 @@
-//! The calls for which a number without a unit counts another unit than the second, or is refused.
+//! The calls for which a number without a unit counts another unit than seconds, or is refused.
 use crate::error::DurationError;
 use crate::fault::Fault;
 use crate::parser::ADDITIONS;
@@ -9,7 +9,7 @@ use duration_str_core::{self as proved, Options, TimeUnit};
 /// default unit. If that is `None`, such a number is refused.
 ///
 /// If your program's numbers are milliseconds, turn on `no_calc`, or call [`parse_in`], which turns
-/// it on for each default unit except the second. `docs/GRAMMAR.md` in the repository says why.
+/// it on for each default unit except seconds. `docs/GRAMMAR.md` in the repository says why.
 ///
 /// # Errors
 ///
@@ -43,7 +43,7 @@ pub fn parse_with_default_unit(
 }
 
 /// Reads a text as [`parse_duration`](crate::parse_duration) does, except that a number without a
-/// unit counts this unit. If the unit is not the second, `+` and `*` are not read.
+/// unit counts this unit. If the unit is not seconds, `+` and `*` are not read.
 ///
 /// This is for texts that used to be plain numbers, such as milliseconds in a configuration file.
 /// For fields that serde reads, the module `human_or_millis` also reads numbers that are not texts.
@@ -70,7 +70,7 @@ pub fn parse_in(input: &str, default_unit: TimeUnit) -> Result<Duration, Duratio
 }
 
 /// The options under which texts are read in a default unit that is named. With any other unit than
-/// the second `+` and `*` are not read.
+/// seconds `+` and `*` are not read.
 pub(crate) fn naming(default_unit: TimeUnit) -> Options {
     Options {
         no_calc: default_unit != TimeUnit::Second,

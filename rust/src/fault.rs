@@ -9,8 +9,8 @@ use duration_str_core::{self as proved, Cause, Expected, Options};
 ///
 /// It displays as one line, for terminals and logs. The line says what is wrong. For a syntax fault
 /// it also says at which column, counted in characters from 1. It quotes at most 40 characters of
-/// the text, and escapes those that are not safe within one line. [`Fault::report`] also shows the
-/// text and a caret.
+/// the text, and escapes those that are not safe within one line. For most syntax faults
+/// [`Fault::report`] also shows the text and a caret.
 ///
 /// ```
 /// use duration_str::{Cause, Options, parse_with};

@@ -85,7 +85,6 @@ pub const fn format_duration(duration: Duration) -> FormattedDuration {
 }
 
 impl FormattedDuration {
-    /// The duration with this sign and this magnitude.
     pub(crate) const fn with_sign(is_negative: bool, magnitude: Duration) -> FormattedDuration {
         FormattedDuration {
             is_negative,
@@ -136,8 +135,8 @@ impl FormattedDuration {
     /// assert_eq!(parts.rest(), 29_000_000);
     /// ```
     ///
-    /// The README of this crate has recipes for lists, clocks, decimals, rounding and other
-    /// languages, in its section "Durations in your own words".
+    /// The file `tests/printers.rs` of this crate has functions for lists, clocks, decimals,
+    /// rounding and other languages.
     #[must_use]
     pub fn breakdown(&self) -> Breakdown {
         Breakdown::new(&self.magnitude, self.format)

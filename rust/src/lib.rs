@@ -87,8 +87,8 @@
 //!
 //! # Why and where a text is refused
 //!
-//! A [`Fault`] and a [`DurationError`] display as one line. For a syntax fault their `report` also
-//! gives the text, and a caret below the place.
+//! A [`Fault`] and a [`DurationError`] display as one line. For most syntax faults their `report`
+//! also gives the text, and a caret below the place.
 //!
 //! ```
 //! use duration_str::{Options, parse_with};
@@ -182,8 +182,8 @@ mod parser;
 #[cfg(feature = "serde")]
 mod serde;
 
-// The documentation has these only in their module, since otherwise the list of this crate's
-// functions would begin with them.
+// The documentation shows these only in their module. Otherwise the list of this crate's functions,
+// which is in alphabetical order, would begin with them.
 #[cfg(feature = "chrono")]
 #[doc(hidden)]
 pub use dates::{

@@ -58,7 +58,8 @@ fn run(words: impl Iterator<Item = OsString>) -> io::Result<c_int> {
     run.all().map(|()| run.has_refused.into())
 }
 
-/// A stream as a file. Unlike the stream, it doesn't hide the error if the stream is closed.
+/// A stream as a file. If the stream is closed, reading or writing the file is an error. The stream
+/// of Rust's library hides that error.
 fn file(stream: impl AsFd) -> io::Result<File> {
     Ok(stream.as_fd().try_clone_to_owned()?.into())
 }

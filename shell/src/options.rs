@@ -88,7 +88,7 @@ pub struct Choices {
     /// Read the Chinese names of units too
     #[arg(long)]
     pub cn_unit: bool,
-    /// Refuse a number without a unit, which otherwise counts seconds
+    /// Refuse a number without a unit
     #[arg(long, conflicts_with = "from")]
     pub require_unit: bool,
     /// Print the completions for a shell
@@ -222,7 +222,6 @@ fn list_of_units(words: &str) -> Result<UnitList, String> {
 // Made by tests/repository --write.
 const WORDS: [&str; 11] = ["y", "q", "mon", "w", "d", "h", "min", "s", "ms", "us", "ns"];
 
-/// The completions for a shell.
 pub fn completions(shell: Shell) -> String {
     let complete = |command: Command, name, words: &'static [&str]| {
         let words = PossibleValuesParser::new(words);

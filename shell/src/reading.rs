@@ -47,8 +47,8 @@ impl From<Fault<'_>> for Refusal {
     }
 }
 
-/// Reads a text. A number without a unit counts the unit of --from, or the second without --from.
-/// With --require-unit it is refused. With any other unit than the second `+` and `*` are not read.
+/// Reads a text. A number without a unit counts the unit of --from, or seconds without --from.
+/// With --require-unit it is refused. With any other unit than seconds `+` and `*` are not read.
 /// With --from, a text that is only a number may have a fraction and an exponent.
 pub fn read<'a>(bytes: &'a [u8], choices: &Choices) -> Result<(&'a str, u64), Refusal> {
     let text = std::str::from_utf8(bytes).map_err(|_| Refusal::new("not UTF-8"))?;

@@ -119,8 +119,8 @@ static bool are_equal(struct duration_str_answer one, struct duration_str_answer
 
 /* ---- What must hold of an answer */
 
-/* A value that is read prints in few bytes, and its text is read back under all choices of options.
- * */
+/* The text of a value that is read fits into its buffer, and is read back under all choices of
+ * options. */
 static void check_printed(uint64_t nanos) {
     uint8_t *buffer = buffer_at(output_end, 64);
     size_t length = duration_str_format(nanos, (char *)buffer);

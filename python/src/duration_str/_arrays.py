@@ -177,7 +177,7 @@ def to_timedelta(
     None, NaN, NaT, pandas' NA, and the masked values of an array become NaT. A
     single None stays None, as in pandas.
 
-    If you name a default unit, even the second, whole numbers are read too, as
+    If you name a default unit, even seconds, whole numbers are read too, as
     by `parse_ns`. So a column of integers is read, and a column of floats that
     pandas has made of integers with gaps.
 

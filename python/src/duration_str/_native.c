@@ -92,7 +92,6 @@ struct text {
     size_t length;
 };
 
-/* Returns the number, or None if there is none. */
 static PyObject *size_or_none(bool is_there, size_t size) {
     return is_there ? PyLong_FromSize_t(size) : Py_NewRef(Py_None);
 }
@@ -257,7 +256,7 @@ static void raise_name(PyObject *name, const char *keyword, const char *listed) 
 
 /* The number of the unit that has this name if all options are off. Returns -1 with an error. */
 static int unit_of(struct state *state, PyObject *name, const char *keyword) {
-    /* A name that stands in a program is almost always the same object as the kept one. */
+    /* Python keeps one object for equal names in a program, so most names are found here. */
     for (int unit = 0; unit <= DURATION_STR_UNIT_NANOSECOND; unit++)
         if (name == state->kept[UNIT_NAMES + unit])
             return unit;
@@ -309,7 +308,7 @@ static int take_options(struct state *state, const char *call, PyObject *const *
         PyErr_SetString(PyExc_ValueError, "default_unit can't be named if require_unit is on");
         return -1;
     }
-    /* A default unit other than the second turns no_calc on. */
+    /* A default unit other than seconds turns no_calc on. */
     const uint32_t unit = DURATION_STR_OPTION_DEFAULT_UNIT((uint32_t)said.default_unit);
     if (unit & said.off) {
         PyErr_SetString(PyExc_ValueError, "no_calc can't be False if default_unit is not the "
@@ -869,12 +868,15 @@ static int raise_first(struct state *state, const struct list *list, PyObject *r
     return is_raised || PyErr_Occurred() ? -1 : 0;
 }
 
-/* read_list(values, nanos, reading, raises, first, function): puts the values of a list's texts,
- * and of its numbers, if numbers are read, into a buffer of zeros. Returns a list of the positions
- * of those that are refused, and of all other values. If `raises` is true, it raises the error of
- * the first other value, or, if there is none, of the first text that is refused. The first value
- * has the index `first`. If the function is not None, the results are numbers of timedelta64, a
- * refused text is NaT, and the function returns the number for another value. */
+/* read_list(values, nanos, reading, raises, first, function): reads the texts in a list into a
+ * buffer of zeros, and also its numbers, if `reading` allows that. Returns a list of the positions
+ * of the values that it refuses. These are refused texts and numbers, and values of other types.
+ *
+ * If `raises` is true, it raises an error instead: that of the first value of another type, or, if
+ * there is none, that of the first refused text. The error counts positions from `first`.
+ *
+ * If `function` is not None, the buffer gets numbers of timedelta64. None, NaN and a refused text
+ * become NaT, and a timedelta is kept. For any other value the function returns the number. */
 static PyObject *read_list(PyObject *self, PyObject *arguments) {
     struct list list;
     Py_buffer nanos;
@@ -1043,9 +1045,9 @@ PyDoc_STRVAR(parse_ns_doc,
     "  cn_unit       the Chinese names of the units are read too\n"
     "  require_unit  a number without a unit is refused\n\n"
     "A number without a unit counts the `default_unit`. You can give the unit by any\n"
-    "of its names, except for the Chinese ones. With any unit except the second, `+`\n"
+    "of its names, except for the Chinese ones. With any unit except seconds, `+`\n"
     "and `*` are not read.\n\n"
-    "If you name a default unit, even the second, a whole number that is not a text\n"
+    "If you name a default unit, even seconds, a whole number that is not a text\n"
     "is read as its digits would be. It is an int (also NumPy's), or a float that is\n"
     "whole and below 2**53.\n\n"
     "Raises DurationError if the text or the number is refused, and\n"

@@ -58,7 +58,8 @@ class _Unnamed(str):
     """The type of `UNNAMED`."""
 
 
-#: The default unit of a call that names none. It is the second, but not the object "s".
+#: The default unit of a call that names none. It equals "s", but is another object, so that it can
+#: be told from an "s" that a caller gives.
 UNNAMED: Any = _Unnamed("s")
 
 
@@ -69,7 +70,7 @@ class _Unsaid(int):
         return "False"
 
 
-#: The option `no_calc` of a call that doesn't set it. It is off, but not the object False.
+#: The option `no_calc` of a call that doesn't set it. It equals False, but is another object.
 UNSAID: Any = _Unsaid(0)
 
 

@@ -126,7 +126,6 @@ fn compile_error(message: &str, span: Span) -> TokenStream {
     error.into_iter().map(at_span).collect()
 }
 
-/// The tokens of this code.
 fn code(code: &str) -> TokenStream {
     code.parse().expect("what is made here is code")
 }

@@ -37,7 +37,7 @@ where
     of_value
 }
 
-/// Checks for a type of durations what each row is read as. `length` makes a duration of this type
+/// Checks what each row is read as, for a type of durations. `length` makes a duration of this type
 /// from seconds.
 fn reads_settings<T>(length: impl Fn(u64) -> T)
 where

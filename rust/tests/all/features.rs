@@ -68,7 +68,6 @@ fn reads_whatever_another_crate_takes_away() {
     }
 }
 
-/// Whether each number of the text has its unit.
 fn has_units(text: &str) -> bool {
     text != "1m+1"
 }

@@ -5,7 +5,6 @@ use chrono::{TimeZone, Utc};
 use duration_str::{Fault, HumanFormat, Options, moment_after, parse_with};
 use std::process::ExitCode;
 
-/// The line that is printed for an expression.
 fn line_of(expression: &str) -> Result<String, Fault<'_>> {
     let off = Options::off();
     let start = Utc
