@@ -58,8 +58,8 @@ To get the counts of such a duration, for a text of your own, call `breakdown`
 with the same options except `style`. It returns a `Breakdown`.
 
 `format` is not in `__all__`, so `from duration_str import *` doesn't hide
-Python's own `format`. `Unit` and `Style` are types of options, and `PrintedUnit`
-is the type of a `Part`'s unit.
+Python's own `format`. `Unit` and `Style` are types of options, and
+`PrintedUnit` is the type of a `Part`'s unit.
 
 For a column:
 
