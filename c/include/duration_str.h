@@ -294,9 +294,9 @@ size_t duration_str_format_with(
  *
  * Returns true, and writes to `counts` how many there are of each unit. The
  * count of a unit is at the unit's number in `enum duration_str_time_unit`. It
- * is 0 if the unit has no part. Writes to `*rest` the nanoseconds that no part has.
- * So the counts, each times the length of its unit, and the rest are together
- * the duration. `rest` must not point into `counts`.
+ * is 0 if the unit has no part. Writes to `*rest` the nanoseconds that no part
+ * has. So the counts, each times the length of its unit, and the rest are
+ * together the duration. `rest` must not point into `counts`.
  *
  * For example, 193 seconds and 29,000,000 nanoseconds in two parts of all units
  * are 3 minutes and 13 seconds, and the rest is 29,000,000. If `parts` is 0, all
