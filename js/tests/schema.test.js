@@ -1,4 +1,5 @@
-// The patterns of docs/duration.schema.json match exactly the texts without a syntax fault.
+// The patterns of docs/duration.schema.json mean the same to JavaScript's engine as to
+// tests/patterns, which shows that they match exactly the texts without a syntax fault.
 import assert from "node:assert/strict";
 import { readFileSync } from "node:fs";
 import test from "node:test";
@@ -14,8 +15,6 @@ const OPTIONS = {
     duration_require_unit: { requireUnit: true },
     duration_no_calc_require_unit: { noCalc: true, requireUnit: true },
 };
-/** Of each kind of character that the grammar tells apart at least one. */
-const ALPHABET = "07 \n+*smMµSx-";
 const ASCII = Array.from({ length: 128 }, (_, code) => String.fromCharCode(code));
 const STRANGE = [...ASCII, ..."\x85\xa0\u2028\ufeff٣０μſK", "\ud800", "\u{1f600}"];
 
@@ -34,11 +33,6 @@ function isSentence(text, options) {
 }
 
 function* texts() {
-    let shorter = [""];
-    for (let length = 0; length < 4; length++) {
-        yield* shorter;
-        shorter = shorter.flatMap((text) => [...ALPHABET].map((character) => text + character));
-    }
     for (const { rows } of VECTORS.values) for (const [, , row] of rows) yield* row;
     for (const [text] of VECTORS.refused) {
         yield text;

@@ -1,18 +1,15 @@
-"""Tests that each regular expression matches exactly the texts without a syntax fault."""
+"""Tests that each regular expression means the same to Python's engine as to tests/patterns, which
+shows that it matches exactly the texts without a syntax fault.
+"""
 
-import itertools
 import re
-import typing
 import unittest
 
 import duration_str
 from tests.vectors import CHOICES, VECTORS, words_of
 
-# At least one character of each kind that the grammar tells apart, and one that it doesn't know.
-ALPHABET = "07 \n+*smMµS年秒毫x-"
 # ASCII, and characters that other programs take for a blank, a digit or a letter of a unit.
 STRANGE = [*map(chr, range(128)), *"\x85\xa0\u2028\ufeff٣０μſK"]
-NAMES = [*typing.get_args(duration_str.Unit), *"年 月 周 日 天 时 分 秒 毫秒 微秒 纳秒".split()]
 
 
 def is_sentence(text, words):
@@ -27,14 +24,6 @@ def is_sentence(text, words):
 
 
 class Patterns(unittest.TestCase):
-    def check(self, texts):
-        for names in CHOICES:
-            words = words_of(names)
-            matches = re.compile(duration_str.pattern(**words)).search
-            with self.subTest(names=names):
-                for text in texts:
-                    self.assertEqual(bool(matches(text)), is_sentence(text, words), text)
-
     def test_match_the_sentences_of_the_vectors(self):
         texts = [text for group in VECTORS["values"] for *_, row in group["rows"] for text in row]
         texts += [text for text, *_ in VECTORS["refused"]]
@@ -44,24 +33,12 @@ class Patterns(unittest.TestCase):
             for place in range(len(text) + 1)
             for character in STRANGE
         ]
-        self.check([*texts, *strange])
-
-    def test_match_the_names_of_units(self):
-        words = [*NAMES, *map(str.upper, NAMES), *map(str.title, NAMES)]
-        texts = [f"1{word}{after}" for word in words for after in ("", "s", "x", "1", " +1s")]
-        for word in NAMES:
-            for place in range(len(word)):
-                texts += [f"1{word[:place]}{other}{word[place + 1:]}" for other in ("", "?")]
-        self.check([*texts, *(f"1s {text}" for text in texts)])
-
-    def test_match_short_sentences(self):
-        self.check(
-            [
-                "".join(text)
-                for size in range(4)
-                for text in itertools.product(ALPHABET, repeat=size)
-            ]
-        )
+        for names in CHOICES:
+            words = words_of(names)
+            matches = re.compile(duration_str.pattern(**words)).search
+            with self.subTest(names=names):
+                for text in [*texts, *strange]:
+                    self.assertEqual(bool(matches(text)), is_sentence(text, words), text)
 
     def test_match_long_sentences_in_linear_time(self):
         for names in CHOICES:
