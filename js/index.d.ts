@@ -315,6 +315,24 @@ export function tryParseNs(
 ): Result<bigint>;
 
 /**
+ * Returns a regular expression for JSON Schema, HTML's `pattern` and other validators that check a
+ * text before your program reads it. It matches exactly the texts that have no wrong syntax under
+ * these options. `parse` reads such a text, unless a number or the duration is too large, or `+`
+ * and `*` are mixed.
+ *
+ * It needs no flags, begins with `^` and ends with `$`. `docs/GRAMMAR.md` in the repository says in
+ * which languages you can use it.
+ *
+ * ```js
+ * const strict = new RegExp(pattern({ requireUnit: true }));
+ * console.log(strict.test("1h 30m"), strict.test("90")); // true false
+ * ```
+ *
+ * @throws TypeError, RangeError for an option for which `parse` throws it
+ */
+export function pattern(options?: Options): string;
+
+/**
  * Prints a duration of this many milliseconds, and returns the text: `format(5_400_000)` is
  * `1h 30min`, and with `{ parts: 1 }` it is `1h`.
  *

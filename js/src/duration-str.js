@@ -12,6 +12,7 @@ import {
 } from "./options.js";
 import { DurationError, faultOf, loneSurrogateAt } from "./refusals.js";
 
+export { pattern } from "./pattern.js";
 export { DurationError } from "./refusals.js";
 
 /** A count of 64 bits is two halves of 32 bits, each below this. */

@@ -55,7 +55,7 @@ function isPlain(options) {
         && Object.getOwnPropertyDescriptor(prototype, "isPrototypeOf") !== undefined;
 }
 
-function checkPlain(options, hint = "") {
+export function checkPlain(options, hint = "") {
     if (isPlain(options)) return;
     const type = typeOf(options).replace("object", "one that inherits");
     throw new TypeError(`the options must be a plain object, not ${type}${hint}`);

@@ -57,6 +57,8 @@ const CALLS = [
     'tryParse("600y").fault.report',
     'parseNs("1m 3-5")',
     'parse("x".repeat(100))',
+    "pattern()",
+    'pattern({ defaultUnit: "ms", cnUnit: true })',
     "parts(5445001)",
     'parts(400n * 86400000000000n, { largest: "mon", parts: 2 })',
     "parts(0n)",

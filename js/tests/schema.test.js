@@ -1,11 +1,12 @@
-// The patterns of docs/duration.schema.json mean the same to JavaScript's engine as to
-// tests/patterns, which shows that they match exactly the texts without a syntax fault.
+// The function `pattern` returns the patterns of docs/duration.schema.json. They mean the same to
+// JavaScript's engine as to tests/patterns, which shows that they match exactly the texts without a
+// syntax fault.
 import assert from "node:assert/strict";
 import { readFileSync } from "node:fs";
 import test from "node:test";
 
-import { tryParse } from "duration-str";
-import { VECTORS } from "./vectors.js";
+import { pattern, tryParse } from "duration-str";
+import { CHOICES, optionsOf, VECTORS } from "./vectors.js";
 
 const FILE = new URL("../../docs/duration.schema.json", import.meta.url);
 const { $defs: SCHEMAS } = JSON.parse(readFileSync(FILE, "utf8"));
@@ -19,10 +20,10 @@ const ASCII = Array.from({ length: 128 }, (_, code) => String.fromCharCode(code)
 const STRANGE = [...ASCII, ..."\x85\xa0\u2028\ufeff٣０μſK", "\ud800", "\u{1f600}"];
 
 /** Without flags, as in a JSON schema, and with the flag of HTML's `pattern`, if Node has it. */
-function* expressions(pattern) {
-    yield new RegExp(pattern);
-    yield new RegExp(pattern, "u");
-    if (Object.hasOwn(RegExp.prototype, "unicodeSets")) yield new RegExp(`^(?:${pattern})$`, "v");
+function* expressions(source) {
+    yield new RegExp(source);
+    yield new RegExp(source, "u");
+    if (Object.hasOwn(RegExp.prototype, "unicodeSets")) yield new RegExp(`^(?:${source})$`, "v");
 }
 
 /** Whether the text has no syntax fault. With zeros for all digits, it has no fault for which a
@@ -40,9 +41,10 @@ function* texts() {
     }
 }
 
-for (const [name, options] of Object.entries(OPTIONS)) {
-    test(`${name} matches the sentences`, () => {
-        for (const expression of expressions(SCHEMAS[name].pattern)) {
+for (const names of CHOICES.flatMap((each) => [each, [...each, "require_unit"]])) {
+    const options = optionsOf(names);
+    test(`the pattern with ${names.join(" ") || "no option"} matches the sentences`, () => {
+        for (const expression of expressions(pattern(options))) {
             for (const text of texts()) {
                 const quoted = JSON.stringify(text);
                 assert.equal(expression.test(text), isSentence(text, options), quoted);
@@ -52,6 +54,33 @@ for (const [name, options] of Object.entries(OPTIONS)) {
     });
 }
 
-test("the schema has these patterns", () => {
+test("the schema has the patterns of these options", () => {
     assert.deepEqual(Object.keys(SCHEMAS), Object.keys(OPTIONS));
+    for (const [name, options] of Object.entries(OPTIONS)) {
+        assert.equal(pattern(options), SCHEMAS[name].pattern);
+    }
+});
+
+test("the pattern with another default unit is the one without operators", () => {
+    for (const defaultUnit of ["ms", "days", "MIN", "y"]) {
+        assert.equal(pattern({ defaultUnit }), pattern({ noCalc: true }));
+        assert.equal(
+            pattern({ defaultUnit, lowercase: true, cnUnit: true }),
+            pattern({ noCalc: true, lowercase: true, cnUnit: true }),
+        );
+    }
+    assert.equal(pattern({ defaultUnit: "seconds" }), pattern());
+});
+
+test("wrong options throw", () => {
+    const plain = "the options must be a plain object, not string";
+    assert.throws(() => pattern("1h"), { name: "TypeError", message: plain });
+    assert.throws(() => pattern({ other: true }), TypeError);
+    assert.throws(() => pattern({ lowercase: 1 }), TypeError);
+    for (const options of [
+        { defaultUnit: "ms", noCalc: false }, { defaultUnit: "ms", requireUnit: true },
+        { defaultUnit: "mins" },
+    ]) {
+        assert.throws(() => pattern(options), RangeError);
+    }
 });

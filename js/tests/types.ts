@@ -3,7 +3,7 @@
 import {
     type Breakdown, breakdown, DurationError, type Expected, type Fault, formatNs, format,
     type Format, type Options, parseNs, parse, type Part, type PartFormat, type Parts, parts,
-    type PrintedUnit, type Refusal, tryParseNs, tryParse, type Unit, version,
+    pattern, type PrintedUnit, type Refusal, tryParseNs, tryParse, type Unit, version,
 } from "duration-str";
 
 const options: Options = { noCalc: true, lowercase: false, cnUnit: undefined, requireUnit: true };
@@ -35,6 +35,9 @@ const texts: string[] = [
     format(milliseconds),
     formatNs(1n, asked),
     format(milliseconds, { units: ["y", "days"] as const }),
+    pattern(),
+    pattern(options),
+    pattern({ defaultUnit: "ms", cnUnit: true }),
 ];
 const counting: PartFormat = { largest: "y", units: ["years", "d"] };
 const counted: Parts = parts(nanoseconds, counting);
