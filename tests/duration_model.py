@@ -6,6 +6,7 @@ import collections
 import fractions
 import json
 import operator
+import pathlib
 import re
 import subprocess
 import sys
@@ -13,6 +14,8 @@ import threading
 import time
 
 sys.dont_write_bytecode = True
+sys.path.append(str(pathlib.Path(__file__).resolve().parent.parent / "tools"))
+import patterns  # noqa: E402
 import reference_parser as reference  # noqa: E402
 from texts import Texts  # noqa: E402
 
@@ -37,9 +40,12 @@ VALUES = (
         "parts": (1, 2, 3, 12, 255),
     }
     | dict.fromkeys(
-        ("json", "quiet", "zero-terminated", "lowercase", "cn-unit", "require-unit"), [""]
+        ("json", "quiet", "zero-terminated", "lowercase", "cn-unit", "require-unit", "pattern"),
+        [""],
     )
 )
+# The options that can stand beside `--pattern`
+READING = {"pattern", "lowercase", "cn-unit", "require-unit", "from", "zero-terminated"}
 WRONG_WORDS = """--to= --to=mins --to=年 --from=secs --largest=mo --smallest=5s --style=Long --round=half --decimals=10
 --units= --units=y, --units=y,mins --units=年 --parts=0 --parts=256 --parts=two --field=0
 --field=65536 --field=-1 -dab -dé --header= --header=x --none -x""".split()
@@ -191,10 +197,18 @@ def end_of(options):
     return b"\0" if "zero-terminated" in options else b"\n"
 
 
+def pattern_of(options):
+    no_calc = LENGTHS[options.get("from", "s")] != reference.SECOND
+    names = ("lowercase", "cn-unit", "require-unit")
+    return patterns.pattern(no_calc, *(name in options for name in names))
+
+
 def wanted(options, texts, data):
     """What the program must write for these texts, or, if there are none, for the lines of these
     bytes."""
     end = end_of(options)
+    if "pattern" in options:
+        return Said(pattern_of(options).encode() + end, b"", 0)
     lines = texts or (data.removesuffix(end).split(end) if data else [])
     header, kind = options.get("header", 0), "argument" if texts else "line"
     said = [Said(line + end, b"", 0) for line in lines[:header]]
@@ -226,7 +240,9 @@ def is_wrong(options, texts):
         and "field" not in names
     )
     units = {"from", "require-unit"} <= names
-    return bool(numbers or fields or units or not units_of(options) or "header" in names and texts)
+    pattern = "pattern" in names and (texts or names - READING)
+    header = "header" in names and texts
+    return bool(numbers or fields or units or pattern or header or not units_of(options))
 
 
 class Commands(Texts):
@@ -308,11 +324,14 @@ class Commands(Texts):
         """The options, texts and input of a command. In one command of ten the options may be
         wrong."""
         likely = {"to": 60, "from": 40, "round": 40, "decimals": 40, "quiet": 4, "json": 12}
+        likely["pattern"] = 2
         options = {
             name: self.value(name)
             for name in (*VALUES, "units")
             if self.chance(likely.get(name, 20))
         }
+        if "pattern" in options and self.chance(80):
+            options = {name: value for name, value in options.items() if name in READING}
         data = self.data(options)
         texts = (
             data.replace(b"\0", b"").split(b"\n") if len(data) < 99_999 and self.chance(30) else []
@@ -366,7 +385,7 @@ def main(program, seconds="20", seed=str(time.time_ns())):
         must = Said(b"", b"error: ", 2) if usage else wanted(options, texts, data)
         cuts = (
             []
-            if usage or texts or len(data) > 9999
+            if usage or texts or "pattern" in options or len(data) > 9999
             else sorted(commands.random.choices(range(len(data) + 1), k=3))
         )
         got = run(words, options, data, [0, *cuts])

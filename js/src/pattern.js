@@ -5,8 +5,8 @@ import { bitsOf, checkPlain } from "./options.js";
 /** The sentences: without options, with `noCalc`, with `requireUnit`, and with both. U stands for a
  * unit. */
 const SENTENCES = [
-    "^[ \\t\\n\\r]*[0-9]+[ \\t\\n\\r]*(?:U[ \\t\\n\\r]*(?:(?:[+*][ \\t\\n\\r]*)?[0-9]+[ \\"
-        + "t\\n\\r]*|$)|[+*][ \\t\\n\\r]*[0-9]+[ \\t\\n\\r]*)*$",
+    "^[ \\t\\n\\r]*[0-9]+[ \\t\\n\\r]*(?:U[ \\t\\n\\r]*(?:(?:[+*][ \\t\\n\\r]*)?[0-9]+[ "
+        + "\\t\\n\\r]*|$)|[+*][ \\t\\n\\r]*[0-9]+[ \\t\\n\\r]*)*$",
     "^[ \\t\\n\\r]*[0-9]+[ \\t\\n\\r]*(?:U[ \\t\\n\\r]*(?:[0-9]+[ \\t\\n\\r]*|$))*$",
     "^[ \\t\\n\\r]*[0-9]+[ \\t\\n\\r]*U[ \\t\\n\\r]*(?:(?:[+*][ \\t\\n\\r]*)?[0-9]+[ \\t\\n"
         + "\\r]*U[ \\t\\n\\r]*)*$",

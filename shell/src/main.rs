@@ -2,6 +2,7 @@
 //! numbers.
 #![no_main]
 mod options;
+mod patterns;
 mod reading;
 
 use duration_str::{STYLED_BUFFER_SIZE, TimeUnit};
@@ -84,6 +85,9 @@ impl Run<'_> {
         if let Some(shell) = self.choices.completions {
             self.output
                 .write_all(options::completions(shell).as_bytes())?;
+        } else if self.choices.pattern {
+            let pattern = patterns::pattern(self.choices.reading(), self.choices.require_unit);
+            self.put(&[pattern.as_bytes()])?;
         } else if self.choices.texts.is_empty() {
             let input = file(io::stdin()).map_err(of_input)?;
             self.lines(BufReader::with_capacity(1 << 16, input))?;

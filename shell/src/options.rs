@@ -4,8 +4,8 @@ use clap::error::ErrorKind;
 use clap::{Command, CommandFactory, Parser, ValueEnum, value_parser};
 use clap_complete::Shell;
 use duration_str::{
-    Breakdown, Format, STYLED_BUFFER_SIZE, Style, TimeUnit, Units, UnknownUnit, parse_duration,
-    write_format,
+    Breakdown, Format, Options, STYLED_BUFFER_SIZE, Style, TimeUnit, Units, UnknownUnit,
+    parse_duration, write_format,
 };
 use std::borrow::Cow;
 use std::ffi::{OsStr, OsString};
@@ -91,6 +91,10 @@ pub struct Choices {
     /// Refuse a number without a unit
     #[arg(long, conflicts_with = "from")]
     pub require_unit: bool,
+    /// Print the regular expression of the texts that have no wrong syntax, for validators
+    #[arg(long, conflicts_with_all = SHAPES, conflicts_with_all = ["texts", "to", "decimals",
+        "round", "field", "delimiter", "header", "json", "quiet"])]
+    pub pattern: bool,
     /// Print the completions for a shell
     #[arg(long, value_name = "SHELL", exclusive = true, value_parser =
         PossibleValuesParser::new(["bash", "fish", "zsh"]).try_map(|word| word.parse::<Shell>()))]
@@ -131,6 +135,15 @@ impl Choices {
             "--units has none from --largest to --smallest\n"
         };
         Err(clap::Error::raw(ErrorKind::ArgumentConflict, told))
+    }
+
+    /// The options of reading. With another default unit than seconds there are no operators.
+    pub fn reading(&self) -> Options {
+        Options {
+            no_calc: self.from.is_some_and(|unit| unit != TimeUnit::Second),
+            lowercase: self.lowercase,
+            cn_unit: self.cn_unit,
+        }
     }
 
     /// The format for printing to people.

@@ -1,6 +1,6 @@
 //! Reads a text by the library, and says why it is refused.
 use crate::options::{Choices, Round};
-use duration_str::{Fault, Options, TimeUnit, parse_with_default_unit};
+use duration_str::{Fault, TimeUnit, parse_with_default_unit};
 use serde_json::json;
 
 /// Why a text is refused. A syntax fault also has its place, the token there, and the text with a
@@ -65,13 +65,8 @@ pub fn read<'a>(bytes: &'a [u8], choices: &Choices) -> Result<(&'a str, u64), Re
         return Ok((text, u64::try_from(nanos).map_err(too_large)?));
     }
     let unit = choices.from.unwrap_or(TimeUnit::Second);
-    let options = Options {
-        no_calc: unit != TimeUnit::Second,
-        lowercase: choices.lowercase,
-        cn_unit: choices.cn_unit,
-    };
     let default_unit = (!choices.require_unit).then_some(unit);
-    let duration = parse_with_default_unit(text, options, default_unit)?;
+    let duration = parse_with_default_unit(text, choices.reading(), default_unit)?;
     Ok((text, duration.as_nanos() as u64))
 }
 

@@ -189,6 +189,38 @@ fn requires_units() {
     assert_eq!(answer(&["--require-unit", "--cn-unit", "1分"]), "1min\n");
 }
 
+/// The expressions are those of the schema, which tests/patterns compares with the grammar.
+#[test]
+fn prints_the_pattern() {
+    let schema: Value =
+        serde_json::from_str(include_str!("../../docs/duration.schema.json")).unwrap();
+    for (words, name) in [
+        (&[][..], "duration"),
+        (&["--from", "s"], "duration"),
+        (&["--from", "ms"], "duration_no_calc"),
+        (&["--from", "y"], "duration_no_calc"),
+        (&["--require-unit"], "duration_require_unit"),
+    ] {
+        let printed = answer(&[words, &["--pattern"]].concat());
+        let wanted = schema["$defs"][name]["pattern"].as_str().unwrap();
+        assert_eq!(printed.trim_end(), wanted, "{words:?}");
+        // Without capitals, and then without the Chinese names, the units are left.
+        let small = answer(&[words, &["--pattern", "--lowercase"]].concat());
+        let mut both = wanted.to_string();
+        for letter in 'a'..='z' {
+            let case = format!("[{}{letter}]", letter.to_ascii_uppercase());
+            both = both.replace(&case, &letter.to_string());
+        }
+        assert_eq!(small.trim_end(), both.replace("[µUu]", "[µu]"), "{words:?}");
+        let chinese = answer(&[words, &["--pattern", "--lowercase", "--cn-unit"]].concat());
+        let names = "|[年月周日天时分秒]|[毫微纳]秒)";
+        assert_eq!(chinese.replace(names, ")"), small, "{words:?}");
+        assert_ne!(chinese, small);
+    }
+    let ended = run(&["--pattern", "-z"], b"1h\n");
+    assert_eq!((ended.0, &ended.1[ended.1.len() - 2..]), (0, "$\0"));
+}
+
 /// `--from` names the default unit. Naming the second is the same as naming nothing. With any
 /// other unit `+` and `*` are not read.
 #[test]
@@ -449,7 +481,9 @@ fn refuses_wrong_usage() {
         --decimals 2 --parts 1 1h|--round up --style long 1h|--json -d, 1h|\
         --from ms --require-unit 1h|--require-unit --from s 90|\
         --units  1h|--units y, 1h|--units y;d 1h|--units y,年 1h|--units y,mon --largest w 1h|\
-        --to s --units y 1h";
+        --to s --units y 1h|--pattern 1h|--pattern --to s|--pattern --decimals 2|\
+        --pattern --parts 2|--pattern --json|--pattern --field 1|\
+        --pattern --from ms --require-unit|--pattern -q";
     for words in WRONG.split('|') {
         let words: Vec<&str> = words.split(' ').collect();
         let (status, output, errors) = run(&words, b"");
