@@ -186,6 +186,32 @@ static void check_null_texts(void) {
     expect(duration_str_unit(NULL, 0) == -1, "a null name");
 }
 
+/* Checks that a null pointer for a result that is not wanted changes no other result. */
+static void check_null_results(void) {
+    static const char *const texts[] = {"5 mins", "1h", "", "600y", "1h+2*3", "\xff"};
+    for (size_t at = 0; at < sizeof texts / sizeof *texts; at++) {
+        const char *text = texts[at];
+        struct duration_str_answer answer;
+        char line[2][DURATION_STR_ONE_LINE_BUFFER_SIZE];
+        char report[2][DURATION_STR_REPORT_BUFFER_SIZE];
+        size_t length = duration_str_one_line(text, strlen(text), 0, &answer, line[0]);
+        expect(duration_str_one_line(text, strlen(text), 0, NULL, line[1]) == length &&
+                   strcmp(line[0], line[1]) == 0,
+            "a line without an answer");
+        length = duration_str_report(text, strlen(text), 0, &answer, report[0]);
+        expect(duration_str_report(text, strlen(text), 0, NULL, report[1]) == length &&
+                   strcmp(report[0], report[1]) == 0,
+            "a report without an answer");
+    }
+    uint64_t counts[DURATION_STR_UNIT_COUNT];
+    expect(duration_str_breakdown(193, 29000000, DURATION_STR_UNITS_ALL, 2, counts, NULL) &&
+               counts[DURATION_STR_UNIT_MINUTE] == 3 && counts[DURATION_STR_UNIT_SECOND] == 13,
+        "counts without the rest");
+    counts[0] = 7;
+    expect(!duration_str_breakdown(1, 0, 0, 2, counts, NULL) && counts[0] == 7,
+        "no counts without the rest");
+}
+
 /* Whether a duration is printed as `wanted`, in these units, parts and style, to a buffer of marks.
  * */
 static bool is_printed(uint64_t secs, uint32_t nanos, uint32_t units, uint32_t parts,
@@ -361,5 +387,6 @@ int main(void) {
     check_unit_names();
     check_one_line();
     check_null_texts();
+    check_null_results();
     return wrong;
 }

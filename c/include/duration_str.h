@@ -296,7 +296,8 @@ size_t duration_str_format_with(
  * count of a unit is at the unit's number in `enum duration_str_time_unit`. It
  * is 0 if the unit has no part. Writes to `*rest` the nanoseconds that no part
  * has. So the counts, each times the length of its unit, and the rest are
- * together the duration. `rest` must not point into `counts`.
+ * together the duration. `rest` must not point into `counts`. It may be null if
+ * you don't want the rest.
  *
  * For example, 193 seconds and 29,000,000 nanoseconds in two parts of all units
  * are 3 minutes and 13 seconds, and the rest is 29,000,000. If `parts` is 0, all
@@ -305,8 +306,8 @@ size_t duration_str_format_with(
  *
  *     const uint32_t units = DURATION_STR_UNITS_BETWEEN(
  *         DURATION_STR_UNIT_HOUR, DURATION_STR_UNIT_SECOND);
- *     uint64_t counts[DURATION_STR_UNIT_COUNT], rest;
- *     if (duration_str_breakdown(3723, 0, units, 3, counts, &rest))
+ *     uint64_t counts[DURATION_STR_UNIT_COUNT];
+ *     if (duration_str_breakdown(3723, 0, units, 3, counts, NULL))
  *         printf("%" PRIu64 ":%02" PRIu64 ":%02" PRIu64 "\n",
  *                counts[DURATION_STR_UNIT_HOUR],
  *                counts[DURATION_STR_UNIT_MINUTE],
@@ -317,7 +318,7 @@ size_t duration_str_format_with(
  * DURATION_STR_UNITS_ALL, or if a count or the rest is 2^64 or more. A count
  * can be that large only if each unit in the set is shorter than a second, and
  * the rest only if `parts` is 0. */
-DURATION_STR_MUST_USE DURATION_STR_NONNULL(5, 6)
+DURATION_STR_MUST_USE DURATION_STR_NONNULL(5)
 bool duration_str_breakdown(
     uint64_t secs, uint32_t nanos, uint32_t units, uint32_t parts,
     uint64_t counts[DURATION_STR_AT_LEAST DURATION_STR_UNIT_COUNT],
@@ -330,8 +331,9 @@ bool duration_str_parse_with(const char *text, size_t length,
                              uint32_t options,
                              struct duration_str_answer *answer);
 
-/* Reads a text as duration_str_parse_with does. If the text is refused, writes
- * what is wrong with it to the start of `buffer`, in one line for people:
+/* Reads a text as duration_str_parse_with does, except that `answer` may be
+ * null if you want only the line. If the text is refused, writes what is wrong
+ * with it to the start of `buffer`, in one line for people:
  * `unknown unit "mins" at column 3 (did you mean "min"?)`. `buffer` has
  * DURATION_STR_ONE_LINE_BUFFER_SIZE bytes.
  *
@@ -342,22 +344,23 @@ bool duration_str_parse_with(const char *text, size_t length,
  * backslashes, control characters and characters that can't be seen are
  * escaped. For bytes that are not UTF-8 the line is `not UTF-8`, and for bits
  * that are not options it is `unknown option`. */
-DURATION_STR_NONNULL(4, 5)
+DURATION_STR_NONNULL(5)
 size_t duration_str_one_line(
     const char *text, size_t length, uint32_t options,
     struct duration_str_answer *answer,
     char buffer[DURATION_STR_AT_LEAST DURATION_STR_ONE_LINE_BUFFER_SIZE]);
 
-/* Reads a text as duration_str_one_line does. If the text is refused, writes a
- * report for a terminal to the start of `buffer`: the text, below it a caret
- * under the place, and below that the line of duration_str_one_line. `buffer`
- * has DURATION_STR_REPORT_BUFFER_SIZE bytes, in which each report and its zero
- * byte fit. Returns the length of the report, or 0 if the text is read.
+/* Reads a text as duration_str_one_line does, so `answer` may be null here too.
+ * If the text is refused, writes a report for a terminal to the start of
+ * `buffer`: the text, below it a caret under the place, and below that the line
+ * of duration_str_one_line. `buffer` has DURATION_STR_REPORT_BUFFER_SIZE bytes,
+ * in which each report and its zero byte fit. Returns the length of the report,
+ * or 0 if the text is read.
  *
  * For some texts the report is the line alone (docs/GRAMMAR.md in the
  * repository says for which). Before the caret there are as many spaces as the
  * text before the place takes columns. */
-DURATION_STR_NONNULL(4, 5)
+DURATION_STR_NONNULL(5)
 size_t duration_str_report(
     const char *text, size_t length, uint32_t options,
     struct duration_str_answer *answer,

@@ -1,5 +1,5 @@
 //! The functions of `duration_str.h`. Each makes slices of C's pointers and calls the proved
-//! function of the same name.
+//! function of the same name. A pointer that may be null, as the header says, is an `Option`.
 #![deny(clippy::no_mangle_with_rust_abi)]
 use crate::{answer::Answer, breakdown, format, message, unit};
 use core::mem::{MaybeUninit, offset_of, zeroed};
@@ -82,11 +82,11 @@ extern "C" fn duration_str_breakdown(
     units: u32,
     parts: u32,
     counts: &mut MaybeUninit<[u64; breakdown::UNIT_COUNT]>,
-    rest: &mut MaybeUninit<u64>,
+    rest: Option<&mut MaybeUninit<u64>>,
 ) -> bool {
     let (mut each, mut left) = ([0; breakdown::UNIT_COUNT], 0);
     breakdown::duration_str_breakdown(secs, nanos, units, parts, &mut each, &mut left)
-        .then(|| (counts.write(each), rest.write(left)))
+        .then(|| (counts.write(each), rest.map(|rest| rest.write(left))))
         .is_some()
 }
 
@@ -105,9 +105,11 @@ unsafe extern "C" fn duration_str_one_line(
     text: *const u8,
     len: usize,
     bits: u32,
-    answer: &mut MaybeUninit<Answer>,
+    answer: Option<&mut MaybeUninit<Answer>>,
     out: &mut MaybeUninit<[u8; 384]>,
 ) -> usize {
+    let mut unwanted = MaybeUninit::uninit();
+    let answer = answer.unwrap_or(&mut unwanted);
     let (text, answer) = unsafe { (bytes(text, len), answer.write(zeroed())) };
     written(out, |buffer| {
         message::duration_str_one_line(text, bits, answer, buffer)
@@ -119,9 +121,11 @@ unsafe extern "C" fn duration_str_report(
     text: *const u8,
     len: usize,
     bits: u32,
-    answer: &mut MaybeUninit<Answer>,
+    answer: Option<&mut MaybeUninit<Answer>>,
     out: &mut MaybeUninit<[u8; 867]>,
 ) -> usize {
+    let mut unwanted = MaybeUninit::uninit();
+    let answer = answer.unwrap_or(&mut unwanted);
     let (text, answer) = unsafe { (bytes(text, len), answer.write(zeroed())) };
     written(out, |buffer| {
         message::duration_str_report(text, bits, answer, buffer)
