@@ -337,7 +337,9 @@ export function pattern(options?: Options): string;
  * `1h 30min`, and with `{ parts: 1 }` it is `1h`.
  *
  * A number with a fraction, such as a difference of `performance.now()`, is rounded to the nearest
- * nanosecond: `format(1.005)` is `1ms 5µs`.
+ * nanosecond: `format(1.005)` is `1ms 5µs`. The middle of two is rounded up, and so is a number
+ * below it if their distance, which is then less than 1e-10 ns, is lost in the multiplication by
+ * 1,000,000.
  *
  * @throws RangeError if the number is negative, 2^64 nanoseconds or more, NaN or infinite. It is
  * also thrown if a unit or the style does not exist, if `parts` is neither a whole number from 1 on

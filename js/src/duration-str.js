@@ -63,7 +63,8 @@ const negative = (value) => new RangeError(`a duration is not negative: ${value}
 const tooLong = (longest) => new RangeError(`a duration is at most 584 years, ${longest}`);
 
 /** Puts a duration at ANSWER. It is a bigint of nanoseconds, or a number of milliseconds, which is
- * rounded to the nearest nanosecond. */
+ * rounded to the nearest nanosecond. (The product can be the middle of two if the exact product is
+ * less than 2^-34 below it. Then it is rounded up.) */
 function put(value) {
     if (typeof value === "bigint") {
         if (value < 0n) throw negative(value);

@@ -289,6 +289,9 @@ test("prints milliseconds", () => {
         [1, "1ms"],
         [193_029, "3min 13s 29ms"],
         [1.005, "1ms 5µs"],
+        // This number is 7e-12 ns below the middle, and the next smaller one is 4.5e-10 ns below.
+        [3.7672135, "3ms 767µs 214ns"],
+        [3.7672134999999995, "3ms 767µs 213ns"],
         [0.0000004, "0s"],
         [0.0000006, "1ns"],
         [2.9999999, "3ms"],
