@@ -42,9 +42,10 @@ export function writeLink() {
     return location.href;
 }
 
-/** Whether there is this choice in one of the lists. */
+/** Whether a word can name this choice in one of the lists. For the choice that no unit is the
+ * default, there is `require_unit`. */
 function isChoice(id, value) {
-    if (!Object.hasOwn(lists, id)) return false;
+    if (!Object.hasOwn(lists, id) || value === REFUSED) return false;
     return Array.from(lists[id].options, (one) => one.value).includes(value);
 }
 

@@ -576,12 +576,13 @@ def try_printing(page):
         page.text_of("link-note"),
     )
     page.same("the most parts", "all", page.words("#parts option")[-1])
-    page.open("#text=1h&style=wide")
-    page.same(
-        "what is told of a style that isn't",
-        "Not understood in the link: style=wide",
-        page.text_of("link-note"),
-    )
+    for what, word in [
+        ("what is told of a style that isn't", "style=wide"),
+        ("what is told of no unit as the default", "default_unit=refused"),
+    ]:
+        page.open(f"#text=90&{word}")
+        page.same(what, f"Not understood in the link: {word}", page.text_of("link-note"))
+        page.same(f"printed beside {word}", "1min 30s", page.text_of("printed"))
 
 
 def try_units_printed(page):
