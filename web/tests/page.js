@@ -12,16 +12,12 @@ function put(text) {
     all("#text")[0].dispatchEvent(new Event("input", { bubbles: true }));
 }
 
-/**
- * Puts the text into the input, as typing or as pasting does, and passes on the milliseconds until
- * the answer is drawn.
- */
-function timeAnswer(text, pasted, done) {
-    const start = performance.now();
+/** Puts the text into the input, as typing or as pasting does, until the answer is drawn. */
+function answer(text, pasted, done) {
     all("#text")[0].select();
     if (pasted) document.execCommand("insertText", false, text);
     else put(text);
-    requestAnimationFrame(() => requestAnimationFrame(() => done(performance.now() - start)));
+    requestAnimationFrame(() => requestAnimationFrame(() => done()));
 }
 
 /**
@@ -118,4 +114,4 @@ function brokenRules() {
     };
 }
 
-window.asked = { words, timeAnswer, pressedUnits, places, lowest, pale, brokenRules };
+window.asked = { words, answer, pressedUnits, places, lowest, pale, brokenRules };
