@@ -1,17 +1,18 @@
 //! Reading: the duration that a text means, or why it means none.
 ghost use Rattle.std.specs.Prelude.{◌≡◌, ◌≤◌, length, Some, None, IfErr, OnOk};
 ghost use Rattle.std.specs.Str.{chars};
-ghost use Rattle.duration_str.specs.Results.{ParsesText, ParsesWith};
-ghost use Rattle.duration_str.specs.OtherResults.{ReadsIn, ReadsWith, ReachesPlace};
-ghost use Rattle.duration_str.specs.Humantime.{humantime_row_of};
-ghost use Rattle.duration_str.specs.Internal.UnitTable.{rows_of};
+ghost use Rattle.duration_str.specs.Rules.{rules_of, rules_with};
+ghost use Rattle.duration_str.specs.Results.{Parses};
+ghost use Rattle.duration_str.specs.OtherResults.{Reads, ReachesPlace};
+ghost use Rattle.duration_str.specs.Humantime.{humantime_rules};
+ghost use Rattle.duration_str.specs.Internal.UnitTable.{meaning_of};
 ghost use Rattle.duration_str.specs.Options.{off};
-ghost use Rattle.duration_str.specs.declared.unit.TimeUnit.TheVariants.{Second};
 
 pub use crate::cause::{Cause, Expected};
 pub use crate::fault::Fault;
 use crate::options::Options;
 use crate::reader::read;
+use crate::rules::Rules;
 use crate::table::UnitTable;
 use crate::token::Tokens;
 use crate::unit::TimeUnit;
@@ -36,7 +37,7 @@ use std::time::Duration;
 /// ```
 #[inline]
 pub fn parse(input: &str) -> Result<Duration, Fault<'_>>
-    ensures { ParsesText off input.now result }
+    ensures { Parses (rules_of off) input.now result }
 {
     parse_with(input, Options::off())
 }
@@ -51,7 +52,7 @@ pub fn parse(input: &str) -> Result<Duration, Fault<'_>>
 /// assert_eq!(duration_str::parse_std("2h 37m").unwrap().as_secs(), 9_420);
 /// ```
 pub fn parse_std(input: &str) -> Result<Duration, Fault<'_>>
-    ensures { ParsesText off input.now result }
+    ensures { Parses (rules_of off) input.now result }
 {
     parse(input)
 }
@@ -86,7 +87,7 @@ pub fn parse_std(input: &str) -> Result<Duration, Fault<'_>>
 /// ```
 #[inline]
 pub fn parse_with(input: &str, o: Options) -> Result<Duration, Fault<'_>>
-    ensures { ParsesText o input.now result }
+    ensures { Parses (rules_of o) input.now result }
 {
     parse_with_default_unit(input, o, Some(TimeUnit::Second))
 }
@@ -117,7 +118,7 @@ pub fn parse_with_default_unit(
     o: Options,
     default_unit: Option<TimeUnit>,
 ) -> Result<Duration, Fault<'_>>
-    ensures { ParsesWith default_unit o input.now result }
+    ensures { Parses (rules_with o default_unit) input.now result }
 {
     parse_nanos(input, o, default_unit).map(Duration::from_nanos)
 }
@@ -140,7 +141,7 @@ pub fn parse_nanos(
     o: Options,
     default_unit: Option<TimeUnit>,
 ) -> Result<u64, Fault<'_>>
-    ensures { ReadsWith default_unit o input.now result }
+    ensures { Reads (rules_with o default_unit) input.now result }
 {
     if o.are_off() && default_unit == Some(TimeUnit::Second) {
         return nanos_off(input);
@@ -150,14 +151,14 @@ pub fn parse_nanos(
 
 #[inline(never)]
 fn nanos_off(input: &str) -> Result<u64, Fault<'_>>
-    ensures { ReadsWith (Some Second) off input.now result }
+    ensures { Reads (rules_of off) input.now result }
 {
     parse_nanos_specialized(input, Options::off(), Some(TimeUnit::Second))
 }
 
 #[inline(never)]
 fn nanos_chosen(input: &str, o: Options, default_unit: Option<TimeUnit>) -> Result<u64, Fault<'_>>
-    ensures { ReadsWith default_unit o input.now result }
+    ensures { Reads (rules_with o default_unit) input.now result }
 {
     parse_nanos_specialized(input, o, default_unit)
 }
@@ -180,9 +181,9 @@ pub fn parse_nanos_specialized(
     o: Options,
     default_unit: Option<TimeUnit>,
 ) -> Result<u64, Fault<'_>>
-    ensures { ReadsWith default_unit o input.now result }
+    ensures { Reads (rules_with o default_unit) input.now result }
 {
-    read_text(input, UnitTable::Own, o, default_unit).0
+    read_text(input, Rules::with(o, default_unit)).0
 }
 
 /// Reads a text by the names and the lengths of the units of the crate humantime, and returns the duration in
@@ -203,9 +204,14 @@ pub fn parse_nanos_specialized(
 /// ```
 #[inline(always)]
 pub fn parse_humantime_specialized(input: &str, o: Options) -> Result<u64, Fault<'_>>
-    ensures { ReadsIn humantime_row_of None o input.now result }
+    ensures { Reads (humantime_rules o) input.now result }
 {
-    read_text(input, UnitTable::Humantime, o, None).0
+    let rules = Rules {
+        table: UnitTable::Humantime,
+        default_unit: None,
+        options: o,
+    };
+    read_text(input, rules).0
 }
 
 /// Returns what `parse_with` returns, and how many times a character of the text was looked at.
@@ -218,23 +224,18 @@ pub fn parse_humantime_specialized(input: &str, o: Options) -> Result<u64, Fault
 /// parse_looked("3m 13s", Options::off()) // (Ok(Duration::from_secs(193)), 6)
 /// ```
 pub fn parse_looked(input: &str, o: Options) -> (Result<Duration, Fault<'_>>, u64)
-    ensures parsed { ParsesText o input.now result.0 }
+    ensures parsed { Parses (rules_of o) input.now result.0 }
     ensures once { result.1 ≤ length (chars input.now) }
     ensures whole { OnOk result.0 (result.1 ≡ length (chars input.now)) }
     ensures reaches { IfErr result.0 (λ f. ReachesPlace input.now f.cause result.1) }
 {
-    let (answer, looks) = read_text(input, UnitTable::Own, o, Some(TimeUnit::Second));
+    let (answer, looks) = read_text(input, Rules::of(o));
     (answer.map(Duration::from_nanos), looks)
 }
 
 #[inline(always)]
-fn read_text(
-    input: &str,
-    table: UnitTable,
-    o: Options,
-    default_unit: Option<TimeUnit>,
-) -> (Result<u64, Fault<'_>>, u64)
-    ensures reads { ReadsIn (rows_of table) default_unit o input.now result.0 }
+fn read_text(input: &str, rules: Rules) -> (Result<u64, Fault<'_>>, u64)
+    ensures reads { Reads (meaning_of rules) input.now result.0 }
     ensures once { result.1 ≤ length (chars input.now) }
     ensures whole { OnOk result.0 (result.1 ≡ length (chars input.now)) }
     ensures reaches { IfErr result.0 (λ f. ReachesPlace input.now f.cause result.1) }
@@ -246,8 +247,8 @@ fn read_text(
         };
         return (Err(fault), 0);
     }
-    let mut tokens = Tokens::new(input, o);
-    match read(&mut tokens, table, o.no_calc, default_unit) {
+    let mut tokens = Tokens::new(input, rules.options);
+    match read(&mut tokens, rules) {
         Ok(nanos) => (Ok(nanos), tokens.looked()),
         Err(cause) => (Err(Fault { text: input, cause }), tokens.looked()),
     }

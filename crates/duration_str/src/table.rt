@@ -1,7 +1,6 @@
 //! The tables of units by which a text can be read: the names of the units, their lengths, and the values of terms.
 ghost use Rattle.std.specs.Prelude.{◌≡◌};
 ghost use Rattle.duration_str.specs.Internal.Numbers.{checked_term};
-ghost use Rattle.duration_str.specs.Units.{nanos_in};
 ghost use Rattle.duration_str.specs.Internal.UnitTable.{rows_of, unit_of_packed};
 
 use crate::cause::Cause;
@@ -33,7 +32,7 @@ impl UnitTable {
     /// The unit's length in nanoseconds.
     #[inline(always)]
     pub(crate) fn nanos(self, unit: TimeUnit) -> u64
-        ensures { result ≡ nanos_in (rows_of self) unit }
+        ensures { result ≡ (rows_of self unit).nanos }
     {
         match self {
             UnitTable::Own => unit.nanos(),
@@ -50,7 +49,7 @@ impl UnitTable {
         number: Option<u64>,
         place: Option<usize>,
     ) -> Result<u64, Cause>
-        ensures { result ≡ checked_term place number (nanos_in (rows_of self) unit) }
+        ensures { result ≡ checked_term place number (rows_of self unit).nanos }
     {
         let Some(n) = number else {
             return Err(Cause::NumberTooLarge { place });

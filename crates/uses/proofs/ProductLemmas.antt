@@ -1,11 +1,10 @@
 -- Lemmas about texts that multiply two parts, in either order.
-use Rattle.std.proofs.Common.{arith, inl, inr, List, mul_comm, refl, rules, ℕ, ◌*◌, ◌/◌, ◌<◌, ◌^◌, ◌↔◌, ◌≡◌, Some}
-use Rattle.duration_str.proofs.Common.{IsRead, nanos_of, second, TwoFactors}
+use Rattle.std.proofs.Common.{arith, inl, inr, List, mul_comm, refl, rules, ℕ, ◌*◌, ◌/◌, ◌<◌, ◌^◌, ◌↔◌, ◌≡◌}
+use Rattle.duration_str.proofs.Common.{IsRead, nanos_of, second, TwoFactors, rules_of}
 use Rattle.uses.proofs.Common.{MultipliesInEitherOrder, nanos_in, Options, Part, Plus, Star, term_of_part}
 use Rattle.duration_str.specs.declared.unit.TimeUnit.{TimeUnit}
 use Rattle.duration_str.specs.declared.unit.TimeUnit.TheVariants.{Year}
 use Rattle.uses.specs.Product.{Multiplies}
-use Rattle.duration_str.specs.declared.unit.TimeUnit.TheVariants.{Second}
 
 -- If a part's length is below 2^64, so is its number.
 number_below : (n : ℕ) (u : TimeUnit) → n * nanos_of u < 2 ^ 64 → n < 2 ^ 64
@@ -23,9 +22,9 @@ exchanged : (a b nanos : ℕ) → IsProduct a b nanos → IsProduct b a nanos
 exchanged a b nanos p = search (rules, mul_comm)
 
 in_order : TwoFactors → (o : Options) (text : List ℕ) (a b : Part) (nanos : ℕ) → Multiplies o a b text
-    → (IsRead o text nanos ↔ IsProduct (nanos_in a) (nanos_in b) nanos)
+    → (IsRead (rules_of o) text nanos ↔ IsProduct (nanos_in a) (nanos_in b) nanos)
 in_order law o text a b nanos m =
-    let read = law.product (Some Second) o text m.lexemes (term_of_part Plus a) (term_of_part Star b) nanos m.spells m.terms refl in (
+    let read = law.product (rules_of o) text m.lexemes (term_of_part Plus a) (term_of_part Star b) nanos m.spells m.terms refl in (
       λ r. let h = read.0 r in record { length = h.1; other_length = h.3; product = h.4; is = h.5 },
       λ p. read.1 (
         number_below _ a.unit p.length,
@@ -39,7 +38,7 @@ in_order law o text a b nanos m =
 
 -- The text is read as a value exactly if that value is the product.
 pub read_as_product : TwoFactors → (o : Options) (text : List ℕ) (a b : Part) (nanos : ℕ)
-    → MultipliesInEitherOrder o a b text → (IsRead o text nanos ↔ IsProduct (nanos_in a) (nanos_in b) nanos)
+    → MultipliesInEitherOrder o a b text → (IsRead (rules_of o) text nanos ↔ IsProduct (nanos_in a) (nanos_in b) nanos)
 read_as_product law o text a b nanos (inl m) = in_order law o text a b nanos m
 read_as_product law o text a b nanos (inr m) =
     let read = in_order law o text b a nanos m in (λ r. exchanged _ _ _ (read.0 r), λ p. read.1 (exchanged _ _ _ p))

@@ -1,7 +1,7 @@
 -- Lemmas about sums whose parts are exchanged.
 use Rattle.std.proofs.Common.{if◌then◌else◌, List, map, refl, rules, [], ℕ, ◌==◌, ◌∷◌, ◌≡◌}
 use Rattle.std.specs.List.{sum_by}
-use Rattle.duration_str.proofs.Common.{IsRead, Reorder, times_in, value_of_term}
+use Rattle.duration_str.proofs.Common.{IsRead, Reorder, times_in, value_of_term, rules_of}
 use Rattle.uses.proofs.Common.{IsPermutation, nanos_in, Options, Part, Plus, sum_by-IsPermutation, term_of_part}
 use Rattle.std.proofs.lemmas.List.Sums.{sum_by-cons}
 use Rattle.uses.specs.Sum.{Adds}
@@ -17,5 +17,5 @@ times_in_parts n (part ∷ parts) = rw (sum_by-cons, ← times_in_parts n parts)
 
 -- A sum of the same parts in another order is read as the same value.
 pub permuted_read : Reorder → (o : Options) (xs ys : List Part) (a b : List ℕ) (nanos : ℕ) → IsPermutation xs ys
-    → Adds o xs a → Adds o ys b → IsRead o a nanos → IsRead o b nanos
+    → Adds o xs a → Adds o ys b → IsRead (rules_of o) a nanos → IsRead (rules_of o) b nanos
 permuted_read law o xs ys a b nanos p s t = search (rules, times_in_parts, sum_by-IsPermutation)

@@ -1,6 +1,6 @@
 -- Texts with and without a line feed at their end.
 use Rattle.std.specs.Prelude.{◌≡◌, ◌≢◌, ℕ, List, ◌++◌, ◌⊎◌, codes}
-use Rattle.uses.specs.Common.{Options, Cause, IsSentenceOf, IsRead, IsRefused}
+use Rattle.uses.specs.Common.{Options, Cause, IsSentenceOf, IsRead, IsRefused, rules_of}
 
 -- the text and a line feed
 abbrev pub with_line_feed : List ℕ → List ℕ
@@ -14,6 +14,6 @@ IsWithoutLineFeed line text =
 -- Under every choice of options, the new text is read as the same value as the old one. If the old text is an
 -- expression and is refused, the new one is refused for the same cause.
 pub record IsReadAsBefore (old new : List ℕ) : Type 0 where
-  pub value : (o : Options) (nanos : ℕ) → IsRead o old nanos → IsRead o new nanos
-  pub cause : (o : Options) (lexemes : List (List ℕ)) (cause : Cause) → IsSentenceOf o lexemes old
-      → IsRefused o old cause → IsRefused o new cause
+  pub value : (o : Options) (nanos : ℕ) → IsRead (rules_of o) old nanos → IsRead (rules_of o) new nanos
+  pub cause : (o : Options) (lexemes : List (List ℕ)) (cause : Cause) → IsSentenceOf (rules_of o) lexemes old
+      → IsRefused (rules_of o) old cause → IsRefused (rules_of o) new cause

@@ -1,6 +1,6 @@
 -- A number of units, and the texts that multiply two of them.
 use Rattle.std.specs.Prelude.{◌≡◌, ℕ, ◌*◌, List, [], ◌∷◌, ◌⊎◌}
-use Rattle.uses.specs.Common.{Options, Plus, Star, nanos_of, IsSentenceOf, Term, written_terms}
+use Rattle.uses.specs.Common.{Options, Plus, Star, nanos_of, IsSentenceOf, Term, written_terms, rules_of}
 use Rattle.duration_str.specs.declared.operator.CondUnit.{CondUnit}
 use Rattle.uses.specs.declared.product.Part.{Part}
 
@@ -15,8 +15,8 @@ term_of_part op part = record { operator = op; number = part.number; length = na
 -- The text is an expression whose terms are these two parts, joined by `*`.
 pub record Multiplies (o : Options) (first later : Part) (text : List ℕ) : Type 0 where
   pub lexemes : List (List ℕ)
-  pub spells : IsSentenceOf o lexemes text
-  pub terms : written_terms o lexemes ≡ term_of_part Plus first ∷ term_of_part Star later ∷ []
+  pub spells : IsSentenceOf (rules_of o) lexemes text
+  pub terms : written_terms (rules_of o) lexemes ≡ term_of_part Plus first ∷ term_of_part Star later ∷ []
 
 -- The text multiplies the two parts in one order or the other.
 abbrev pub MultipliesInEitherOrder : Options → Part → Part → List ℕ → Type 0

@@ -1,6 +1,6 @@
 //! Multiplies a rate by a length.
 ghost use Rattle.std.specs.Prelude.{◌≡◌, ℕ, ◌^◌, ◌≤◌, List, IfSome, IfNone};
-ghost use Rattle.uses.specs.Common.{as_nanos, Options as Choice, IsRead};
+ghost use Rattle.uses.specs.Common.{as_nanos, Options as Choice, IsRead, rules_of};
 
 use duration_str::TimeUnit;
 use duration_str::laws::two_factors;
@@ -49,9 +49,9 @@ ghost use Rattle.uses.specs.Product.{MultipliesInEitherOrder};
 /// ```
 pub fn scaled(rate: Part, length: Part) -> Option<Duration>
     ensures read { IfSome result (λ d. (o : Choice) (text : List ℕ)
-        → MultipliesInEitherOrder o rate length text → IsRead o text (as_nanos d)) }
+        → MultipliesInEitherOrder o rate length text → IsRead (rules_of o) text (as_nanos d)) }
     ensures refused { IfNone result ((o : Choice) (text : List ℕ) (nanos : ℕ)
-        → MultipliesInEitherOrder o rate length text → IsRead o text nanos → ⊥) }
+        → MultipliesInEitherOrder o rate length text → IsRead (rules_of o) text nanos → ⊥) }
 {
     two_factors();
     let nanos = rate.nanos()?;

@@ -1,6 +1,6 @@
 //! Sums of durations: their value without writing them, and their terms in another order.
 ghost use Rattle.std.specs.Prelude.{◌≡◌, ◌↔◌, ℕ, false, ◌==◌, ◌++◌, None, List, not, codes, reverse, IfSome, IfNone, chars};
-ghost use Rattle.uses.specs.Common.{as_nanos, list_all, Options as Choice, HasNoStar, IsRead, IsRefused, Overflow};
+ghost use Rattle.uses.specs.Common.{as_nanos, list_all, Options as Choice, HasNoStar, IsRead, IsRefused, Overflow, rules_of};
 ghost use Rattle.std.specs.List.Sorted.{IsPermutation, IsNonDecreasingBy};
 ghost use Rattle.uses.specs.Product.{nanos_in};
 ghost use Rattle.uses.specs.Sum.{Adds};
@@ -20,7 +20,7 @@ pub fn longest_first(parts: &mut [Part])
     ensures permuted { IsPermutation parts.old parts.new }
     ensures order { IsNonDecreasingBy nanos_in (reverse parts.new) }
     ensures same { (o : Choice) (a b : List ℕ) (nanos : ℕ) → Adds o parts.old a
-        → Adds o parts.new b → (IsRead o a nanos ↔ IsRead o b nanos) }
+        → Adds o parts.new b → (IsRead (rules_of o) a nanos ↔ IsRead (rules_of o) b nanos) }
 {
     reorder();
     parts.sort_unstable_by_key(|part| part.wide_nanos());
@@ -35,12 +35,12 @@ pub fn longest_first(parts: &mut [Part])
 /// total_of("1m 2s", "3", Options::off()) // Some(Duration::from_secs(65))
 /// ```
 pub fn total_of(text: &str, other: &str, o: Options) -> Option<Duration>
-    ensures read { IfSome result (λ d. IsRead o
+    ensures read { IfSome result (λ d. IsRead (rules_of o)
         (chars text.now ++ codes "+" ++ chars other.now) (as_nanos d)) }
     ensures refused { IfNone result ((m n : ℕ) → o.no_calc ≡ false
         → HasNoStar (chars text.now) → HasNoStar (chars other.now)
-        → IsRead o (chars text.now) m → IsRead o (chars other.now) n
-        → IsRefused o (chars text.now ++ codes "+" ++ chars other.now) (Overflow None)) }
+        → IsRead (rules_of o) (chars text.now) m → IsRead (rules_of o) (chars other.now) n
+        → IsRefused (rules_of o) (chars text.now ++ codes "+" ++ chars other.now) (Overflow None)) }
 {
     sum_of_texts();
     one_sentence();

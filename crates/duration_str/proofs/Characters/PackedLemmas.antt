@@ -1,6 +1,7 @@
 -- Lemmas about packed names and their slots in the table.
-use Rattle.duration_str.proofs.Common.{all_names_in, and_from, and_parts, ap, arith, Bool, byte_len, bytes_eq, cases_Bool, chinese_letters, UnitTable, comparison_form, eq-eqb, eqb, eqb-true, false, false_from_ne_true, get_or, if◌then◌else◌, inl, inr, Humantime, is_chinese, is_named, is_named_in, is_unit_letter, leb, leb-true, length, length-reverse, letter_number, List, list_all, list_any, list_any-append, lit<, map, nat_tests, None, number_in, off, Options, or_cases, Own, packed_number, packed_number_after, packs_to, pow-le-pow_right, pow-succ', refl, reverse-reverse, row_of, rows_of, rules, Some, suc, sym, Table, TimeUnit, to_ascii_lowercase, true, unit_in, unit_of_word, units, width, [], ℕ, ◌%◌, ◌&&◌, ◌*◌, ◌+◌, ◌-◌, ◌/◌, ◌<◌, ◌==◌, ◌^◌, ◌||◌, ◌∙◌, ◌∷◌, ◌≡◌, ◌≤◌, ◌⊎◌}
+use Rattle.duration_str.proofs.Common.{[], all_names_in, and_from, and_parts, ap, arith, Bool, byte_len, bytes_eq, cases_Bool, chinese_letters, comparison_form, eq-eqb, eqb, eqb-true, false, false_from_ne_true, get_or, Humantime, if◌then◌else◌, inl, inr, is_chinese, is_in_row, is_named, is_unit_letter, leb, leb-true, length, length-reverse, letter_number, List, list_all, list_any, list_any-append, lit<, map, meaning_of, nat_tests, None, number_in, off, Options, or_cases, Own, packed_number, packed_number_after, packs_to, pow-le-pow_right, pow-succ', refl, reverse-reverse, row_of, rows_of, Rules, rules, rules_of, Second, Some, suc, sym, Table, TimeUnit, to_ascii_lowercase, true, unit_of_word, units, UnitTable, width, ℕ, ◌%◌, ◌&&◌, ◌*◌, ◌+◌, ◌-◌, ◌/◌, ◌<◌, ◌==◌, ◌^◌, ◌||◌, ◌∙◌, ◌∷◌, ◌≡◌, ◌≤◌, ◌⊎◌}
 use mathlib.Core.List.{reverse, reverse_aux}
+use Rattle.duration_str.specs.declared.rules.Rules.{Rules as CodeRules}
 use Rattle.duration_str.specs.Internal.UnitTable.{unit_of_packed}
 use Rattle.std.proofs.lemmas.List.{get_or-map, length-map}
 use Rattle.std.proofs.lemmas.List.Folds.{list_all_at}
@@ -267,7 +268,7 @@ no_chinese_name table o w u off e = false_from_ne_true _ (λ named. cc (
 ))
 
 named_by_number : (table : UnitTable) (o : Options) (w : List ℕ) (u : TimeUnit) → list_all (is_unit_letter o) w ≡ true
-    → is_named_in (rows_of table) o w u ≡ list_any (packs_to (packed_number o w)) (all_names_in (rows_of table) u)
+    → is_in_row o w (rows_of table u) ≡ list_any (packs_to (packed_number o w)) (all_names_in (rows_of table) u)
 named_by_number table o w u letters =
     let form = comparison_form o w in
     let all = names_test form (all_names_in (rows_of table) u) (form_letters o w letters) (letters_in_table table u) in
@@ -280,14 +281,14 @@ named_by_number table o w u letters =
 -- ---- words that name no unit
 
 -- A word names no unit if all names pass a test that the word fails.
-pub no_name : (rows : Table) (o : Options) (w : List ℕ) (test : List ℕ → Bool)
-    → list_all (λ u. list_all test (all_names_in rows u)) units ≡ true
-    → test (comparison_form o w) ≡ false → None ≡ unit_in rows o w
-no_name rows o w test all fails =
-    let unnamed = λ (u : TimeUnit). false_from_ne_true (is_named_in rows o w u) (λ t. cc (
+pub no_name : (r : Rules) (w : List ℕ) (test : List ℕ → Bool)
+    → list_all (λ u. list_all test (all_names_in r.table u)) units ≡ true
+    → test (comparison_form r.options w) ≡ false → None ≡ unit_of_word r w
+no_name r w test all fails =
+    let unnamed = λ (u : TimeUnit). false_from_ne_true (is_named r w u) (λ t. cc (
       fails,
-      named_passes test (comparison_form o w) (all_names_in rows u)
-          (all_units (λ v. list_all test (all_names_in rows v)) all u) (among_all rows o w u t),
+      named_passes test (comparison_form r.options w) (all_names_in r.table u)
+          (all_units (λ v. list_all test (all_names_in r.table v)) all u) (among_all r.table r.options w u t),
     )) in
     simp unnamed
 
@@ -308,7 +309,7 @@ letters_of_chinese : (o : Options) (u : TimeUnit) → o.cn_unit ≡ true
     → list_all (list_all (is_unit_letter o)) (row_of u).chinese ≡ true
 letters_of_chinese o u on = search rules
 
-named_letters : (o : Options) (w : List ℕ) (u : TimeUnit) → is_named o w u ≡ true → list_all (is_unit_letter o) w ≡ true
+named_letters : (o : Options) (w : List ℕ) (u : TimeUnit) → is_named (rules_of o) w u ≡ true → list_all (is_unit_letter o) w ≡ true
 named_letters o w u h =
     let form = comparison_form o w in
     let letters : list_all (is_unit_letter o) form ≡ true =
@@ -320,9 +321,9 @@ named_letters o w u h =
     sym (letters_form o w) ∙ letters
 
 -- A word with a character that is no unit letter names no unit.
-pub no_letter_name : (o : Options) (w : List ℕ) → list_all (is_unit_letter o) w ≡ false → None ≡ unit_of_word o w
+pub no_letter_name : (o : Options) (w : List ℕ) → list_all (is_unit_letter o) w ≡ false → None ≡ unit_of_word (rules_of o) w
 no_letter_name o w other =
-    let unnamed = λ (u : TimeUnit). false_from_ne_true (is_named o w u) (λ t. cc (other, named_letters o w u t)) in
+    let unnamed = λ (u : TimeUnit). false_from_ne_true (is_named (rules_of o) w u) (λ t. cc (other, named_letters o w u t)) in
     simp unnamed
 
 byte_len-form : (o : Options) (w : List ℕ) → byte_len (comparison_form o w) ≡ byte_len w
@@ -338,9 +339,9 @@ short_names : (table : UnitTable)
 short_names Own = refl
 short_names Humantime = refl
 
-pub no_long_name : (table : UnitTable) (o : Options) (w : List ℕ) → 12 < byte_len w → None ≡ unit_in (rows_of table) o w
-no_long_name table o w long = no_name (rows_of table) o w (λ name. leb (byte_len name) 12) (short_names table)
-    (false_from_ne_true _ (λ t. absurd (omega (arith, leb-true _ _ t, byte_len-form o w))))
+pub no_long_name : (rules : CodeRules) (w : List ℕ) → 12 < byte_len w → None ≡ unit_of_word (meaning_of rules) w
+no_long_name rules w long = no_name (meaning_of rules) w (λ name. leb (byte_len name) 12) (short_names rules.table)
+    (false_from_ne_true _ (λ t. absurd (omega (arith, leb-true _ _ t, byte_len-form rules.options w))))
 
 -- if the packed numbers of all names pass a test, a number that fails the test is not that of a name
 absent : (test : ℕ → Bool) (n : ℕ) → test n ≡ false → (ns : List (List ℕ))
@@ -362,10 +363,15 @@ no_packed_name rows test n fails all =
     simp none
 
 -- a word of unit letters names the unit of its packed number
-pub unit_by_number : (table : UnitTable) (o : Options) (w : List ℕ) → list_all (is_unit_letter o) w ≡ true
-    → unit_in (rows_of table) o w ≡ unit_of_packed (rows_of table) (packed_number o w)
+-- the code's rules with the library's own table, and with the second as the default unit
+abbrev pub own_rules : Options → CodeRules
+own_rules o = record { table = Own; default_unit = Some Second; options = o }
+
+pub unit_by_number : (rules : CodeRules) (w : List ℕ) → list_all (is_unit_letter rules.options) w ≡ true
+    → unit_of_word (meaning_of rules) w ≡ unit_of_packed (rows_of rules.table) (packed_number rules.options w)
 unfolding unit_of_packed
-unit_by_number table o w letters = simp (λ (u : TimeUnit). named_by_number table o w u letters)
+unit_by_number rules w letters =
+    simp (λ (u : TimeUnit). named_by_number rules.table rules.options w u letters)
 
 -- ---- slots
 

@@ -7,7 +7,9 @@ use Rattle.duration_str.specs.declared.unit.TimeUnit.{TimeUnit}
 use Rattle.duration_str.specs.Text.{Bytes, Characters}
 use Rattle.duration_str.specs.Format.{chosen}
 use Rattle.duration_str.specs.Humantime.{humantime_row_of}
-use Rattle.duration_str.specs.Units.{nanos_of, row_of, Table, units}
+use Rattle.duration_str.specs.Units.{nanos_of, row_of, UnitRow, units}
+use Rattle.duration_str.specs.Rules.{Rules}
+use Rattle.duration_str.specs.declared.rules.Rules.{Rules as CodeRules}
 use Rattle.duration_str.specs.declared.table.UnitTable.{UnitTable}
 use Rattle.duration_str.specs.declared.table.UnitTable.TheVariants.{Own, Humantime}
 use Rattle.duration_str.specs.Options.{off}
@@ -28,10 +30,18 @@ printed_row u = record {
 abbrev pub units_of : ℕ → List TimeUnit
 units_of bits = chosen (record { bits = bits }) units
 
+-- a table of units
+abbrev pub Table : Type 0
+Table = TimeUnit → UnitRow
+
 -- the table that the code names so
 abbrev pub rows_of : UnitTable → Table
 rows_of Own = row_of
 rows_of Humantime = humantime_row_of
+
+-- what the code's rules mean
+abbrev pub meaning_of : CodeRules → Rules
+meaning_of rules = record { table = rows_of rules.table; default_unit = rules.default_unit; options = rules.options }
 
 -- all names of a unit in a table
 abbrev pub all_names_in : Table → TimeUnit → List Characters
