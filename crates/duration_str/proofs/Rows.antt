@@ -279,6 +279,9 @@ pub record HumantimeUnits : Type 0 where
   pub printed-365_days : as_humantime (codes "11months 30days 3h 50m 24s") ≡ Ok 31_536_000_000_000_000
   pub year-greatest : as_humantime (codes "584y") ≡ Ok 18_429_638_400_000_000_000
   pub year-overflow : as_humantime (codes "585y") ≡ Err (Overflow (Some 0))
+  -- by the library's own lengths these are read
+  pub month-overflow : as_humantime (codes "7100mon") ≡ Err (Overflow (Some 0))
+  pub months-overflow : as_humantime (codes "7000mon 100mon") ≡ Err (Overflow None)
   pub other_capital-refused : as_humantime (codes "1H") ≡ Err (Syntax 1 unit_alone)
   pub capitals-refused : as_humantime (codes "1MM") ≡ Err (Syntax 1 unit_alone)
   pub number_alone-refused : as_humantime (codes "5mins 30") ≡ Err (Syntax 8 unit_alone)
