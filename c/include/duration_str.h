@@ -2,10 +2,10 @@
  * header is for C99 and C++11, and later versions.
  *
  * Texts are UTF-8; other bytes are refused. A text is passed as a pointer and
- * a length in bytes. It need not end with a zero byte, and may be null only if
- * its length is 0. It must not overlap what a function writes. It must not
- * change during a call: if another thread may change it, or another process
- * in a mapped file, copy the text first.
+ * a length in bytes, which must be at most PTRDIFF_MAX. It need not end with a
+ * zero byte, and may be null only if its length is 0. It must not overlap what
+ * a function writes. It must not change during a call: if another thread may
+ * change it, or another process in a mapped file, copy the text first.
  *
  * A text that a function writes ends with a zero byte, which the returned
  * length doesn't count. The rest of a buffer is unchanged.
