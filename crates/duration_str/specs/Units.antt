@@ -5,7 +5,7 @@ use Rattle.duration_str.specs.declared.unit.TimeUnit.TheVariants.{Year, Quarter,
 use Rattle.duration_str.specs.Text.{Characters}
 
 -- a unit's length in nanoseconds, the name that is printed, the names that are read, and the names that are read only
--- with `cn_unit`
+-- with `cn_unit`. Of the names that are read, the last two are the long name, which is also printed, and its plural
 pub record UnitRow : Type 0 where
   pub nanos : ℕ
   pub printed : Characters
