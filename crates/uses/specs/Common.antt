@@ -6,7 +6,7 @@ pub use Rattle.duration_str.specs.Laws.{HasNoStar, is_operator, counts_of, IsLex
 pub use Rattle.duration_str.specs.Printing.{IsGreatestBreakdown, IsPrintedIn, printed_counts}
 pub use Rattle.duration_str.specs.Options.{off}
 pub use Rattle.duration_str.specs.Reading.{IsRead, IsRefused}
-pub use Rattle.duration_str.specs.Rules.{rules_of, rules_with}
+pub use Rattle.duration_str.specs.Rules.{Rules, rules_of, rules_with}
 pub use Rattle.duration_str.specs.Text.{byte_len, is_chinese}
 pub use Rattle.duration_str.specs.Iteration.{what_of}
 pub use Rattle.duration_str.specs.Units.{nanos_of, unit_lengths}
@@ -17,6 +17,7 @@ pub use Rattle.duration_str.specs.declared.cause.Expected.{Expected}
 pub use Rattle.duration_str.specs.declared.fault.Fault.{Fault}
 pub use Rattle.duration_str.specs.declared.operator.CondUnit.TheVariants.{Plus, Star}
 pub use Rattle.duration_str.specs.declared.options.Options.{Options}
+pub use Rattle.duration_str.specs.declared.unit.TimeUnit.{TimeUnit}
 pub use Rattle.std.specs.Duration.{as_nanos}
 pub use Rattle.std.specs.List.{AllByRecursion, list_all}
 pub use Rattle.std.specs.Str.{chars}

@@ -1,17 +1,17 @@
 //! Sums of durations: their value without writing them, and their terms in another order.
-ghost use Rattle.std.specs.Prelude.{◌≡◌, ◌↔◌, ℕ, false, ◌==◌, ◌++◌, None, List, not, codes, reverse, IfSome, IfNone, chars};
-ghost use Rattle.uses.specs.Common.{as_nanos, list_all, Options as Choice, HasNoStar, IsRead, IsRefused, Overflow, rules_of};
+ghost use Rattle.std.specs.Prelude.{◌≡◌, ◌↔◌, ℕ, false, ◌==◌, ◌++◌, None, List, Option, not, codes, reverse, IfSome, IfNone, chars};
+ghost use Rattle.uses.specs.Common.{as_nanos, list_all, Options as Choice, TimeUnit as Unit, HasNoStar, IsRead, IsRefused, Overflow, rules_with};
 ghost use Rattle.std.specs.List.Sorted.{IsPermutation, IsNonDecreasingBy};
 ghost use Rattle.uses.specs.Product.{nanos_in};
 ghost use Rattle.uses.specs.Sum.{Adds};
 
 use crate::product::Part;
 use duration_str::laws::{one_sentence, reorder, sum_of_texts};
-use duration_str::{Options, parse_with};
+use duration_str::{Options, TimeUnit, parse_with_default_unit};
 use std::time::Duration;
 
 /// Sorts the terms of a sum in place, the longest first, as a list of laps is often shown. The sorted sum is accepted
-/// exactly if the old one is, and has the same value.
+/// exactly if the old one is, and has the same value, with whatever default unit.
 ///
 /// ```text
 /// // 29ms + 3min + 13s is written as 3min + 13s + 29ms
@@ -19,38 +19,46 @@ use std::time::Duration;
 pub fn longest_first(parts: &mut [Part])
     ensures permuted { IsPermutation parts.old parts.new }
     ensures order { IsNonDecreasingBy nanos_in (reverse parts.new) }
-    ensures same { (o : Choice) (a b : List ℕ) (nanos : ℕ) → Adds o parts.old a
-        → Adds o parts.new b → (IsRead (rules_of o) a nanos ↔ IsRead (rules_of o) b nanos) }
+    ensures same { (default_unit : Option Unit) (o : Choice) (a b : List ℕ) (nanos : ℕ)
+        → let r = rules_with o default_unit in Adds r parts.old a → Adds r parts.new b
+        → (IsRead r a nanos ↔ IsRead r b nanos) }
 {
     reorder();
     parts.sort_unstable_by_key(|part| part.wide_nanos());
     parts.reverse();
 }
 
-/// Returns the duration that two texts, joined by a plus, are read as under these options. It is `None` if one of them
-/// is refused or has a `*`, if operators are not read, or if the joined text is refused because the sum is 2^64
-/// nanoseconds or more.
+/// Returns the duration that two texts, joined by a plus, are read as under these options and with this default unit.
+/// It is `None` if one of them is refused or has a `*`, if operators are not read, or if the joined text is refused
+/// because the sum is 2^64 nanoseconds or more.
 ///
 /// ```text
-/// total_of("1m 2s", "3", Options::off()) // Some(Duration::from_secs(65))
+/// total_of("1m 2s", "3", Options::off(), Some(TimeUnit::Second)) // Some(Duration::from_secs(65))
 /// ```
-pub fn total_of(text: &str, other: &str, o: Options) -> Option<Duration>
-    ensures read { IfSome result (λ d. IsRead (rules_of o)
+pub fn total_of(
+    text: &str,
+    other: &str,
+    o: Options,
+    default_unit: Option<TimeUnit>,
+) -> Option<Duration>
+    ensures read { IfSome result (λ d. IsRead (rules_with o default_unit)
         (chars text.now ++ codes "+" ++ chars other.now) (as_nanos d)) }
     ensures refused { IfNone result ((m n : ℕ) → o.no_calc ≡ false
         → HasNoStar (chars text.now) → HasNoStar (chars other.now)
-        → IsRead (rules_of o) (chars text.now) m → IsRead (rules_of o) (chars other.now) n
-        → IsRefused (rules_of o) (chars text.now ++ codes "+" ++ chars other.now) (Overflow None)) }
+        → IsRead (rules_with o default_unit) (chars text.now) m
+        → IsRead (rules_with o default_unit) (chars other.now) n
+        → IsRefused (rules_with o default_unit)
+        (chars text.now ++ codes "+" ++ chars other.now) (Overflow None)) }
 {
     sum_of_texts();
     one_sentence();
     if o.no_calc || !has_no_star(text) || !has_no_star(other) {
         return None;
     }
-    let Ok(length) = parse_with(text, o) else {
+    let Ok(length) = parse_with_default_unit(text, o, default_unit) else {
         return None;
     };
-    let Ok(other_length) = parse_with(other, o) else {
+    let Ok(other_length) = parse_with_default_unit(other, o, default_unit) else {
         return None;
     };
     match u64::try_from(length.as_nanos() + other_length.as_nanos()) {

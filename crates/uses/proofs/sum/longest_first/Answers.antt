@@ -16,4 +16,4 @@ returns-clause-order c =
     subst (IsNonDecreasingBy nanos_in) (sym (ap reverse h ∙ reverse-reverse c.sort_unstable_by_key.new.self)) sorted
 
 pub returns-clause-same : goal.returns-clause-same
-returns-clause-same c o a b nanos s t = search (rules, IsPermutation-trans, permuted_read, IsPermutation-sym)
+returns-clause-same c default_unit o a b nanos s t = search (rules, IsPermutation-trans, permuted_read, IsPermutation-sym)
