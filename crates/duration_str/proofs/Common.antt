@@ -50,7 +50,7 @@ pub use Rattle.duration_str.specs.Internal.Positions.{ahead, Between, letter_num
 pub use Rattle.duration_str.specs.Options.{off}
 pub use Rattle.duration_str.specs.Reading.{complete_terminals, complete_terms, early, early_fault, first_fault, IsRead, IsRefused, IsRefusedAt, late, late_fault, place_after, running_fault, syntax_fault, without_last_number}
 pub use Rattle.duration_str.specs.Results.{Parses}
-pub use Rattle.duration_str.specs.Value.{combination, Evaluates, evaluation_fault, fault_of_terms, fits, is_same_operator, later_total, or_else, second, sum_of, Term, term_fault, terms_after, terms_of, unless, value_of, value_of_term, written_terms}
+pub use Rattle.duration_str.specs.Value.{combination, Evaluates, evaluation_fault, fault_of_terms, fits, is_same_operator, later_total, or_else, one_second, sum_of, Term, term_fault, terms_after, terms_of, unless, value_of, value_of_term, written_terms}
 pub use Rattle.duration_str.specs.Text.{byte_len, chinese_letters, is_blank, is_chinese, is_digit, is_unit_letter, IsBlank, number_after, number_of, operator_of, width}
 pub use Rattle.duration_str.specs.Iteration.{cut_place, KeepsInput, options_of, source, tokens_left, what_of, YieldsNextToken}
 pub use Rattle.duration_str.specs.Tokens.{are_of_one_run, goes_on, lexemes_of, Token, tokens_from, tokens_of, with_first_character}

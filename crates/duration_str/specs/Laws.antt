@@ -19,7 +19,7 @@ use Rattle.duration_str.specs.OneLine.{is_among, near_name, near_words}
 use Rattle.duration_str.specs.Grammar.{Terminal, operator, IsSentence, IsSentenceOf, Spells, terminal_of}
 use Rattle.duration_str.specs.Tokens.{Token, tokens_of, lexemes_of, are_of_one_run, goes_on}
 use Rattle.duration_str.specs.Place.{BeginsSentence, CanFollow, IsFront}
-use Rattle.duration_str.specs.Value.{Term, value_of_term, written_terms, second}
+use Rattle.duration_str.specs.Value.{Term, value_of_term, written_terms, one_second}
 use Rattle.duration_str.specs.Reading.{IsRead, IsRefused}
 use Rattle.duration_str.specs.Messages.{EndsInsideLine, message_of, line_of}
 use Rattle.duration_str.specs.Answer.{answer, expected_after, last_of, front_of}
@@ -188,7 +188,7 @@ pub record TwoFactors : Type 0 where
       → IsSentenceOf r lexemes text → written_terms r lexemes ≡ t ∷ u ∷ [] → u.operator ≡ Star
       → (IsRead r text nanos ↔ ((t.number < 2 ^ 64) × (value_of_term t < 2 ^ 64)
       × (u.number < 2 ^ 64) × (value_of_term u < 2 ^ 64)
-      × (nanos < 2 ^ 64) × (nanos ≡ value_of_term t * value_of_term u / second)))
+      × (nanos < 2 ^ 64) × (nanos ≡ value_of_term t * value_of_term u / one_second)))
   pub exchanged : (r : Rules) (a b : Characters) (lexemes others : List Characters) (t u v w : Term) (nanos : ℕ)
       → IsSentenceOf r lexemes a → IsSentenceOf r others b
       → written_terms r lexemes ≡ t ∷ u ∷ [] → u.operator ≡ Star

@@ -21,9 +21,9 @@ pub record Term : Type 0 where
 abbrev pub value_of_term : Term → ℕ
 value_of_term t = t.number * t.length
 
--- the length of a second
-abbrev pub second : ℕ
-second = nanos_of Second
+-- the length of the unit `Second`
+abbrev pub one_second : ℕ
+one_second = nanos_of Second
 
 -- the terms that these terminals write after the operator `op`. If an operator is left out, it is plus. If a unit is
 -- left out, it is the default unit. Without a default unit no sentence leaves a unit out, so the second is never used
@@ -58,7 +58,7 @@ sum_of (t ∷ terms) = value_of_term t + sum_of terms
 -- the product of the terms' values in seconds, in nanoseconds. It is computed from left to right, and each step is
 -- rounded down
 abbrev pub product_of : List Term → ℕ
-product_of terms = fold (λ p t. p * value_of_term t / second) second terms
+product_of terms = fold (λ p t. p * value_of_term t / one_second) one_second terms
 
 -- the total of the later terms: their sum or their product
 abbrev pub later_total : CondUnit → List Term → ℕ
@@ -68,7 +68,7 @@ later_total Star later = product_of later
 -- `x` and `rest` combined: their sum, or their product in seconds, rounded down to nanoseconds
 abbrev pub combination : CondUnit → ℕ → ℕ → ℕ
 combination Plus x rest = x + rest
-combination Star x rest = x * rest / second
+combination Star x rest = x * rest / one_second
 
 -- the value of a sentence in nanoseconds, given its terms. It is `None` if there are no terms, or if the operators are
 -- mixed. The first term is combined last: in `a*b*c` it is multiplied by the product of `b` and `c`, which is rounded

@@ -1,6 +1,6 @@
 -- Lemmas about texts that multiply two parts, in either order.
 use Rattle.std.proofs.Common.{arith, inl, inr, List, mul_comm, refl, rules, ℕ, ◌*◌, ◌/◌, ◌<◌, ◌^◌, ◌↔◌, ◌≡◌}
-use Rattle.duration_str.proofs.Common.{IsRead, nanos_of, Rules, second, TwoFactors}
+use Rattle.duration_str.proofs.Common.{IsRead, nanos_of, one_second, Rules, TwoFactors}
 use Rattle.uses.proofs.Common.{MultipliesInEitherOrder, nanos_in, Part, Plus, Star, term_of_part}
 use Rattle.duration_str.specs.declared.unit.TimeUnit.{TimeUnit}
 use Rattle.duration_str.specs.declared.unit.TimeUnit.TheVariants.{Year}
@@ -16,7 +16,7 @@ pub record IsProduct (a b nanos : ℕ) : Type 0 where
   pub length : a < 2 ^ 64
   pub other_length : b < 2 ^ 64
   pub product : nanos < 2 ^ 64
-  pub is : nanos ≡ a * b / second
+  pub is : nanos ≡ a * b / one_second
 
 exchanged : (a b nanos : ℕ) → IsProduct a b nanos → IsProduct b a nanos
 exchanged a b nanos p = search (rules, mul_comm)

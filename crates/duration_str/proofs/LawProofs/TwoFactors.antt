@@ -1,6 +1,6 @@
 -- A product of two terms is accepted exactly if both terms and their product are below 2^64, also with the terms
 -- exchanged.
-use Rattle.duration_str.proofs.Common.{[], arith, IsRead, IsSentenceOf, List, mul-div_cancel, mul_comm, refl, Rules, second, Some, Star, Term, TwoFactors, value_of, value_of_term, written_terms, ℕ, ◌*◌, ◌/◌, ◌<◌, ◌^◌, ◌↔◌, ◌∷◌, ◌≡◌}
+use Rattle.duration_str.proofs.Common.{[], arith, IsRead, IsSentenceOf, List, mul-div_cancel, mul_comm, refl, Rules, one_second, Some, Star, Term, TwoFactors, value_of, value_of_term, written_terms, ℕ, ◌*◌, ◌/◌, ◌<◌, ◌^◌, ◌↔◌, ◌∷◌, ◌≡◌}
 use Rattle.duration_str.proofs.Sentences.SumLemmas.{no_fault}
 use Rattle.duration_str.proofs.Sentences.AnswerLemmas.{read_sentence}
 
@@ -8,14 +8,14 @@ use Rattle.duration_str.proofs.Sentences.AnswerLemmas.{read_sentence}
 abbrev Fit : Term → Term → ℕ → Type 0
 Fit t u nanos =
     (t.number < 2 ^ 64) × (value_of_term t < 2 ^ 64) × (u.number < 2 ^ 64) × (value_of_term u < 2 ^ 64)
-    × (nanos < 2 ^ 64) × (nanos ≡ value_of_term t * value_of_term u / second)
+    × (nanos < 2 ^ 64) × (nanos ≡ value_of_term t * value_of_term u / one_second)
 
 -- The first step of a product is the value of the later term.
-one_step : (x : ℕ) → second * x / second ≡ x
+one_step : (x : ℕ) → one_second * x / one_second ≡ x
 one_step x = rw mul_comm (mul-div_cancel x (omega arith))
 
 product_value : (t u : Term) → u.operator ≡ Star
-    → value_of (t ∷ u ∷ []) ≡ Some (value_of_term t * value_of_term u / second)
+    → value_of (t ∷ u ∷ []) ≡ Some (value_of_term t * value_of_term u / one_second)
 product_value t u e = rw (e, one_step (value_of_term u))
 
 product : (r : Rules) (text : List ℕ) (lexemes : List (List ℕ)) (t u : Term)
@@ -27,7 +27,7 @@ product r text lexemes t u nanos s terms e = (
   λ is_read. let read = read_sentence lexemes s is_read in
       let first = simp no_fault at (rw terms at read.evaluates).0 in
       let later = simp (no_fault, one_step) at (rw (terms, e) at read.evaluates).1 in
-      let value : nanos ≡ value_of_term t * value_of_term u / second =
+      let value : nanos ≡ value_of_term t * value_of_term u / one_second =
       cc (rw terms at read.value, product_value t u e) in
       (first.0, first.1, later.0.0.0, later.0.0.1, rw value later.1, value),
   λ f. record {
