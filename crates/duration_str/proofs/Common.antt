@@ -57,7 +57,7 @@ pub use Rattle.duration_str.specs.Tokens.{are_of_one_run, goes_on, lexemes_of, T
 pub use Rattle.duration_str.specs.Units.{nanos_of, rank_of, row_of, unit_lengths, UnitRow, units}
 pub use Rattle.duration_str.specs.Rules.{comparison_form, is_in_row, is_named, Rules, rules_of, rules_with, unit_of_word}
 pub use Rattle.duration_str.specs.Internal.Numbers.{checked_term, u64_from}
-pub use Rattle.duration_str.specs.Internal.UnitTable.{all_names, all_names_in, meaning_of, packs_to, rows_of, Table, unit_of_packed, printed_row, units_of}
+pub use Rattle.duration_str.specs.Internal.UnitTable.{all_names, all_names_in, meaning_of, packs_to, table_of, Table, unit_of_packed, printed_row, units_of}
 pub use Rattle.duration_str.specs.declared.table.UnitTable.{UnitTable}
 pub use Rattle.duration_str.specs.declared.table.UnitTable.TheVariants.{Humantime, Own}
 pub use Rattle.duration_str.specs.Internal.PrintedBytes.{name_part, part_bytes, with_counts, with_gap, with_part, with_parts}

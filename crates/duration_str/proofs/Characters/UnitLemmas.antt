@@ -74,9 +74,9 @@ named_passes test w [] all h = cc
 named_passes test w (name ∷ names) all h =
     search (rules, and_parts, or_cases, bytes_eq-Decides, named_passes test w names)
 
-pub among_all : (rows : Table) (o : Options) (w : List ℕ) (u : TimeUnit) → is_in_row o w (rows u) ≡ true
-    → list_any (bytes_eq (comparison_form o w)) (all_names_in rows u) ≡ true
-among_all rows o w u h = rw (list_any-append (bytes_eq (comparison_form o w)) (rows u).names) (grind arith)
+pub among_all : (table : Table) (o : Options) (w : List ℕ) (u : TimeUnit) → is_in_row o w (table u) ≡ true
+    → list_any (bytes_eq (comparison_form o w)) (all_names_in table u) ≡ true
+among_all table o w u h = rw (list_any-append (bytes_eq (comparison_form o w)) (table u).names) (grind arith)
 
 module _ (o : Options) where
   one_unit : (w : List ℕ) (u v : TimeUnit) → is_named (rules_of o) w u ≡ true → is_named (rules_of o) w v ≡ true → u ≡ v

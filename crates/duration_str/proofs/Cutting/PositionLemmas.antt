@@ -1,5 +1,5 @@
 -- Lemmas about the steps of cutting, in terms of a text, the byte up to which it is cut, and the number of looks.
-use Rattle.duration_str.proofs.Common.{[], add-zero, ahead, and_from, ap, append-nil, append_assoc, append_cancel_right, arith, Between, Bool, byte_len, chars, chars-append, drop, drop-drop, encodes-chars, EndsRun, false, ForSome, if◌then◌else◌, is_blank, is_digit, is_some, is_unit_letter, IsCharBoundary, IsLexeme, IsTrue, IsUtf8, IsUtf8-drop, IsUtf8-take, length, length-append, length-drop, length-le-encodes, letter_number, List, list_all, list_all-append, meaning_of, None, number_after, number_of, Option, Options, packed_number, packed_number_after, Passes, refl, row_of, rows_of, Rules, rules_of, slice_range, Some, Stands, StandsAt, sym, take, take-append-drop, TakesDigits, TakesLetters, TimeUnit, tokens_from, true, u64_from, unit_of_packed, unit_of_word, width, ℕ, ◌%◌, ◌*◌, ◌++◌, ◌+◌, ◌-◌, ◌<◌, ◌^◌, ◌∙◌, ◌∷◌, ◌≡◌, ◌≤◌}
+use Rattle.duration_str.proofs.Common.{[], add-zero, ahead, and_from, ap, append-nil, append_assoc, append_cancel_right, arith, Between, Bool, byte_len, chars, chars-append, drop, drop-drop, encodes-chars, EndsRun, false, ForSome, if◌then◌else◌, is_blank, is_digit, is_some, is_unit_letter, IsCharBoundary, IsLexeme, IsTrue, IsUtf8, IsUtf8-drop, IsUtf8-take, length, length-append, length-drop, length-le-encodes, letter_number, List, list_all, list_all-append, meaning_of, None, number_after, number_of, Option, Options, packed_number, packed_number_after, Passes, refl, row_of, table_of, Rules, rules_of, slice_range, Some, Stands, StandsAt, sym, take, take-append-drop, TakesDigits, TakesLetters, TimeUnit, tokens_from, true, u64_from, unit_of_packed, unit_of_word, width, ℕ, ◌%◌, ◌*◌, ◌++◌, ◌+◌, ◌-◌, ◌<◌, ◌^◌, ◌∙◌, ◌∷◌, ◌≡◌, ◌≤◌}
 pub use Rattle.duration_str.proofs.Cutting.TokenLemmas.{blanks_no_token, tokens_step}
 use Rattle.duration_str.specs.declared.rules.Rules.{Rules as CodeRules}
 use Rattle.duration_str.proofs.Characters.CharacterLemmas.{byte_len-append, width_some}
@@ -139,7 +139,7 @@ pub record TakesWord (r : Rules) (text : List ℕ) (place next : ℕ) (unit : Op
 module _ (rules : CodeRules) {text : List ℕ} {place next value : ℕ}
     (taken : TakesLetters rules.options text place next value) where
   -- a word of at most 12 bytes names the unit of its packed number
-  pub short_word : {unit : Option TimeUnit} → next - place ≤ 12 → unit ≡ unit_of_packed (rows_of rules.table) value
+  pub short_word : {unit : Option TimeUnit} → next - place ≤ 12 → unit ≡ unit_of_packed (table_of rules.table) value
       → TakesWord (meaning_of rules) text place next unit
   short_word short found =
       let cs = taken.run.characters in

@@ -35,17 +35,17 @@ abbrev pub Table : Type 0
 Table = TimeUnit → UnitRow
 
 -- the table that the code names so
-abbrev pub rows_of : UnitTable → Table
-rows_of Own = row_of
-rows_of Humantime = humantime_row_of
+abbrev pub table_of : UnitTable → Table
+table_of Own = row_of
+table_of Humantime = humantime_row_of
 
 -- what the code's rules mean
 abbrev pub meaning_of : CodeRules → Rules
-meaning_of rules = record { table = rows_of rules.table; default_unit = rules.default_unit; options = rules.options }
+meaning_of rules = record { table = table_of rules.table; default_unit = rules.default_unit; options = rules.options }
 
 -- all names of a unit in a table
 abbrev pub all_names_in : Table → TimeUnit → List Characters
-all_names_in rows u = (rows u).names ++ (rows u).chinese
+all_names_in table u = (table u).names ++ (table u).chinese
 
 -- all names of a unit
 abbrev pub all_names : TimeUnit → List Characters
@@ -57,7 +57,7 @@ packs_to n name = packed_number (record off { lowercase = true }) name == n
 
 -- the unit with a name in this table whose packed number is n
 unfoldable pub unit_of_packed : Table → ℕ → Option TimeUnit
-unit_of_packed rows n = find (λ u. list_any (packs_to n) (all_names_in rows u)) units
+unit_of_packed table n = find (λ u. list_any (packs_to n) (all_names_in table u)) units
 
 -- the bytes without the spaces at their end
 abbrev pub trimmed : Bytes → Bytes
