@@ -7,7 +7,7 @@ ghost use Rattle.duration_str.specs.Messages.{line_of};
 ghost use Rattle.duration_str.specs.Internal.UnitTable.{meaning_of};
 
 use crate::operator::CondUnit;
-use crate::rules::Rules;
+use crate::settings::Settings;
 
 /// What could stand at the place of a syntax fault. Each field says whether one kind of item could stand there.
 ///
@@ -44,25 +44,25 @@ impl Expected {
     }
 
     #[inline(always)]
-    pub(crate) fn after_number(rules: Rules) -> Expected
-        ensures { result ≡ expected_after_number (meaning_of rules) }
+    pub(crate) fn after_number(settings: Settings) -> Expected
+        ensures { result ≡ expected_after_number (meaning_of settings) }
     {
         Expected {
             number: false,
             unit_word: true,
-            operator: rules.default_unit.is_some() && !rules.options.no_calc,
-            text_end: rules.default_unit.is_some(),
+            operator: settings.default_unit.is_some() && !settings.options.no_calc,
+            text_end: settings.default_unit.is_some(),
         }
     }
 
     #[inline(always)]
-    pub(crate) fn after_unit(rules: Rules) -> Expected
-        ensures { result ≡ expected_after_unit (meaning_of rules) }
+    pub(crate) fn after_unit(settings: Settings) -> Expected
+        ensures { result ≡ expected_after_unit (meaning_of settings) }
     {
         Expected {
             number: true,
             unit_word: false,
-            operator: !rules.options.no_calc,
+            operator: !settings.options.no_calc,
             text_end: true,
         }
     }

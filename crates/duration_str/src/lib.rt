@@ -21,7 +21,7 @@ pub mod parser;
 pub mod printing;
 mod reader;
 mod report;
-mod rules;
+mod settings;
 mod signed;
 mod table;
 mod term;

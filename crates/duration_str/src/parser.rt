@@ -12,7 +12,7 @@ pub use crate::cause::{Cause, Expected};
 pub use crate::fault::Fault;
 use crate::options::Options;
 use crate::reader::read;
-use crate::rules::Rules;
+use crate::settings::Settings;
 use crate::table::UnitTable;
 use crate::token::Tokens;
 use crate::unit::TimeUnit;
@@ -183,7 +183,7 @@ pub fn parse_nanos_specialized(
 ) -> Result<u64, Fault<'_>>
     ensures { Reads (rules_with o default_unit) input.now result }
 {
-    read_text(input, Rules::with(o, default_unit)).0
+    read_text(input, Settings::with(o, default_unit)).0
 }
 
 /// Reads a text by the names and the lengths of the units of the crate humantime, and returns the duration in
@@ -206,12 +206,12 @@ pub fn parse_nanos_specialized(
 pub fn parse_humantime_specialized(input: &str, o: Options) -> Result<u64, Fault<'_>>
     ensures { Reads (humantime_rules o) input.now result }
 {
-    let rules = Rules {
+    let settings = Settings {
         table: UnitTable::Humantime,
         default_unit: None,
         options: o,
     };
-    read_text(input, rules).0
+    read_text(input, settings).0
 }
 
 /// Returns what `parse_with` returns, and how many times a character of the text was looked at.
@@ -229,13 +229,13 @@ pub fn parse_looked(input: &str, o: Options) -> (Result<Duration, Fault<'_>>, u6
     ensures whole { OnOk result.0 (result.1 ≡ length (chars input.now)) }
     ensures reaches { IfErr result.0 (λ f. ReachesPlace input.now f.cause result.1) }
 {
-    let (answer, looks) = read_text(input, Rules::of(o));
+    let (answer, looks) = read_text(input, Settings::of(o));
     (answer.map(Duration::from_nanos), looks)
 }
 
 #[inline(always)]
-fn read_text(input: &str, rules: Rules) -> (Result<u64, Fault<'_>>, u64)
-    ensures reads { Reads (meaning_of rules) input.now result.0 }
+fn read_text(input: &str, settings: Settings) -> (Result<u64, Fault<'_>>, u64)
+    ensures reads { Reads (meaning_of settings) input.now result.0 }
     ensures once { result.1 ≤ length (chars input.now) }
     ensures whole { OnOk result.0 (result.1 ≡ length (chars input.now)) }
     ensures reaches { IfErr result.0 (λ f. ReachesPlace input.now f.cause result.1) }
@@ -247,8 +247,8 @@ fn read_text(input: &str, rules: Rules) -> (Result<u64, Fault<'_>>, u64)
         };
         return (Err(fault), 0);
     }
-    let mut tokens = Tokens::new(input, rules.options);
-    match read(&mut tokens, rules) {
+    let mut tokens = Tokens::new(input, settings.options);
+    match read(&mut tokens, settings) {
         Ok(nanos) => (Ok(nanos), tokens.looked()),
         Err(cause) => (Err(Fault { text: input, cause }), tokens.looked()),
     }

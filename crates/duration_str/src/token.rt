@@ -19,7 +19,7 @@ use crate::options::Options;
 use crate::packed::{
     MODULUS, MOST_BYTES, first_number, is_unit_letter, letter_number, with_letter,
 };
-use crate::rules::Rules;
+use crate::settings::Settings;
 use crate::unit::TimeUnit;
 
 /// What a token is: a number, a word with the unit that it names, an operator, or another character.
@@ -258,18 +258,18 @@ impl<'a> Tokens<'a> {
         packed
     }
 
-    /// Takes the word ahead. Returns the unit that it names by these rules, if any.
+    /// Takes the word ahead. Returns the unit that it names by these settings, if any.
     #[inline(always)]
-    pub(crate) fn take_word(&mut self, rules: Rules) -> Option<TimeUnit>
+    pub(crate) fn take_word(&mut self, settings: Settings) -> Option<TimeUnit>
         requires { IsAhead self.old (Some a_word) }
-        ensures { TakesToken (meaning_of rules) self.old self.new (word result) }
+        ensures { TakesToken (meaning_of settings) self.old self.new (word result) }
     {
         let start = self.eye.place();
         let packed = self.take_letters();
         if self.eye.place() - start > MOST_BYTES {
             return None;
         }
-        rules.table.unit_of_packed(packed)
+        settings.table.unit_of_packed(packed)
     }
 
     #[inline(always)]
@@ -283,7 +283,7 @@ impl<'a> Tokens<'a> {
                 let _ = self.take_number();
                 What::Number
             }
-            TokenStart::Word => What::Word(self.take_word(Rules::of(self.options))),
+            TokenStart::Word => What::Word(self.take_word(Settings::of(self.options))),
             TokenStart::Operator(operator) => {
                 self.advance();
                 What::Operator(operator)

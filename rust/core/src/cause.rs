@@ -3,7 +3,7 @@
 //! syntax fault.
 
 use crate::operator::CondUnit;
-use crate::rules::Rules;
+use crate::settings::Settings;
 
 /// What could stand at the place of a syntax fault. Each field says whether one kind of item could stand there.
 ///
@@ -39,21 +39,21 @@ impl Expected {
     }
 
     #[inline(always)]
-    pub(crate) fn after_number(rules: Rules) -> Expected {
+    pub(crate) fn after_number(settings: Settings) -> Expected {
         Expected {
             number: false,
             unit_word: true,
-            operator: rules.default_unit.is_some() && !rules.options.no_calc,
-            text_end: rules.default_unit.is_some(),
+            operator: settings.default_unit.is_some() && !settings.options.no_calc,
+            text_end: settings.default_unit.is_some(),
         }
     }
 
     #[inline(always)]
-    pub(crate) fn after_unit(rules: Rules) -> Expected {
+    pub(crate) fn after_unit(settings: Settings) -> Expected {
         Expected {
             number: true,
             unit_word: false,
-            operator: !rules.options.no_calc,
+            operator: !settings.options.no_calc,
             text_end: true,
         }
     }

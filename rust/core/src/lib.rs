@@ -38,7 +38,7 @@ mod reader;
 #[forbid(unsafe_code)]
 mod report;
 #[forbid(unsafe_code)]
-mod rules;
+mod settings;
 #[forbid(unsafe_code)]
 mod table;
 #[forbid(unsafe_code)]

@@ -5,7 +5,7 @@ pub use crate::cause::{Cause, Expected};
 pub use crate::fault::Fault;
 use crate::options::Options;
 use crate::reader::read;
-use crate::rules::Rules;
+use crate::settings::Settings;
 use crate::table::UnitTable;
 use crate::token::Tokens;
 use crate::unit::TimeUnit;
@@ -160,7 +160,7 @@ pub fn parse_nanos_specialized(
     o: Options,
     default_unit: Option<TimeUnit>,
 ) -> Result<u64, Fault<'_>> {
-    read_text(input, Rules::with(o, default_unit)).0
+    read_text(input, Settings::with(o, default_unit)).0
 }
 
 /// Reads a text by the names and the lengths of the units of the crate humantime, and returns the duration in
@@ -181,12 +181,12 @@ pub fn parse_nanos_specialized(
 /// ```
 #[inline(always)]
 pub fn parse_humantime_specialized(input: &str, o: Options) -> Result<u64, Fault<'_>> {
-    let rules = Rules {
+    let settings = Settings {
         table: UnitTable::Humantime,
         default_unit: None,
         options: o,
     };
-    read_text(input, rules).0
+    read_text(input, settings).0
 }
 
 /// Returns what `parse_with` returns, and how many times a character of the text was looked at.
@@ -199,12 +199,12 @@ pub fn parse_humantime_specialized(input: &str, o: Options) -> Result<u64, Fault
 /// parse_looked("3m 13s", Options::off()) // (Ok(Duration::from_secs(193)), 6)
 /// ```
 pub fn parse_looked(input: &str, o: Options) -> (Result<Duration, Fault<'_>>, u64) {
-    let (answer, looks) = read_text(input, Rules::of(o));
+    let (answer, looks) = read_text(input, Settings::of(o));
     (answer.map(Duration::from_nanos), looks)
 }
 
 #[inline(always)]
-fn read_text(input: &str, rules: Rules) -> (Result<u64, Fault<'_>>, u64) {
+fn read_text(input: &str, settings: Settings) -> (Result<u64, Fault<'_>>, u64) {
     if input.is_empty() {
         let fault = Fault {
             text: input,
@@ -212,8 +212,8 @@ fn read_text(input: &str, rules: Rules) -> (Result<u64, Fault<'_>>, u64) {
         };
         return (Err(fault), 0);
     }
-    let mut tokens = Tokens::new(input, rules.options);
-    match read(&mut tokens, rules) {
+    let mut tokens = Tokens::new(input, settings.options);
+    match read(&mut tokens, settings) {
         Ok(nanos) => (Ok(nanos), tokens.looked()),
         Err(cause) => (Err(Fault { text: input, cause }), tokens.looked()),
     }

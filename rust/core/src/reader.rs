@@ -3,7 +3,7 @@
 
 use crate::cause::{Cause, Expected};
 use crate::operator::CondUnit;
-use crate::rules::Rules;
+use crate::settings::Settings;
 use crate::token::{TokenStart, Tokens};
 use crate::unit::TimeUnit;
 
@@ -18,22 +18,22 @@ type Later = Result<Option<(CondUnit, u64)>, Cause>;
 /// term is returned at once. Otherwise that fault is kept in place of the total while the rest is read, since a syntax
 /// fault in the rest comes first.
 #[inline(always)]
-pub(crate) fn read(tokens: &mut Tokens<'_>, rules: Rules) -> Result<u64, Cause> {
+pub(crate) fn read(tokens: &mut Tokens<'_>, settings: Settings) -> Result<u64, Cause> {
     expect_number(tokens)?;
     let number = tokens.take_number();
-    let value = rules
+    let value = settings
         .table
-        .times(read_unit(tokens, rules)?, number, Some(0))?;
-    let (first, mut later) = if rules.options.no_calc {
+        .times(read_unit(tokens, settings)?, number, Some(0))?;
+    let (first, mut later) = if settings.options.no_calc {
         (0, Ok(Some((CondUnit::Plus, value))))
     } else {
         (value, Ok(None))
     };
-    while let Some(next) = read_operator(tokens, rules)? {
+    while let Some(next) = read_operator(tokens, settings)? {
         let number = tokens.take_number();
-        let unit = read_unit(tokens, rules)?;
-        later = with_term(later, next, number, rules, unit);
-        if rules.options.no_calc {
+        let unit = read_unit(tokens, settings)?;
+        later = with_term(later, next, number, settings, unit);
+        if settings.options.no_calc {
             later?;
         }
     }
@@ -55,62 +55,62 @@ fn expect_number(tokens: &mut Tokens<'_>) -> Result<(), Cause> {
 /// Reads the unit after a number. If an operator or the end follows, the unit is the default unit, and no token is
 /// taken.
 #[inline(always)]
-fn read_unit(tokens: &mut Tokens<'_>, rules: Rules) -> Result<TimeUnit, Cause> {
+fn read_unit(tokens: &mut Tokens<'_>, settings: Settings) -> Result<TimeUnit, Cause> {
     let Some(sort) = tokens.sort_after_number() else {
-        return unit_left_out(tokens.place(), rules);
+        return unit_left_out(tokens.place(), settings);
     };
     let place = tokens.place();
     match sort {
-        TokenStart::Word => match tokens.take_word(rules) {
+        TokenStart::Word => match tokens.take_word(settings) {
             Some(unit) => Ok(unit),
-            None => Err(no_unit(place, rules)),
+            None => Err(no_unit(place, settings)),
         },
-        TokenStart::Operator(_) if !rules.options.no_calc => unit_left_out(place, rules),
+        TokenStart::Operator(_) if !settings.options.no_calc => unit_left_out(place, settings),
         // This is an arm of its own, since in one with two patterns the prover would not know which
         // one matched.
-        TokenStart::Operator(_) => Err(no_unit(place, rules)),
-        TokenStart::Number | TokenStart::Other => Err(no_unit(place, rules)),
+        TokenStart::Operator(_) => Err(no_unit(place, settings)),
+        TokenStart::Number | TokenStart::Other => Err(no_unit(place, settings)),
     }
 }
 
 /// Returns the default unit, which a number without a unit has. If there is no default unit, returns a syntax fault at
 /// `place`, where only a unit could stand.
 #[inline(always)]
-fn unit_left_out(place: usize, rules: Rules) -> Result<TimeUnit, Cause> {
-    rules.default_unit.ok_or(no_unit(place, rules))
+fn unit_left_out(place: usize, settings: Settings) -> Result<TimeUnit, Cause> {
+    settings.default_unit.ok_or(no_unit(place, settings))
 }
 
 /// The syntax fault of a token that can't follow a number.
 #[inline(always)]
-fn no_unit(place: usize, rules: Rules) -> Cause {
-    Cause::syntax(place, Expected::after_number(rules))
+fn no_unit(place: usize, settings: Settings) -> Cause {
+    Cause::syntax(place, Expected::after_number(settings))
 }
 
 /// Reads the operator after a unit, and moves to the number that must follow. If the operator is left out, it is a
 /// plus. At the end of the text the result is `None`.
 #[inline(always)]
-fn read_operator(tokens: &mut Tokens<'_>, rules: Rules) -> Result<Option<CondUnit>, Cause> {
+fn read_operator(tokens: &mut Tokens<'_>, settings: Settings) -> Result<Option<CondUnit>, Cause> {
     let Some(sort) = tokens.sort_ahead() else {
         return Ok(None);
     };
     let place = tokens.place();
     match sort {
         TokenStart::Number => Ok(Some(CondUnit::Plus)),
-        TokenStart::Operator(operator) if !rules.options.no_calc => {
+        TokenStart::Operator(operator) if !settings.options.no_calc => {
             tokens.advance();
             expect_number(tokens)?;
             Ok(Some(operator))
         }
         // This is an arm of its own, as in `read_unit`.
-        TokenStart::Operator(_) => Err(no_operator(place, rules)),
-        TokenStart::Word | TokenStart::Other => Err(no_operator(place, rules)),
+        TokenStart::Operator(_) => Err(no_operator(place, settings)),
+        TokenStart::Word | TokenStart::Other => Err(no_operator(place, settings)),
     }
 }
 
 /// The syntax fault of a token that can't follow a unit.
 #[inline(always)]
-fn no_operator(place: usize, rules: Rules) -> Cause {
-    Cause::syntax(place, Expected::after_unit(rules))
+fn no_operator(place: usize, settings: Settings) -> Cause {
+    Cause::syntax(place, Expected::after_unit(settings))
 }
 
 /// Adds one more term to the later terms. `next` is the operator before it.
@@ -119,11 +119,11 @@ fn with_term(
     later: Later,
     next: CondUnit,
     number: Option<u64>,
-    rules: Rules,
+    settings: Settings,
     unit: TimeUnit,
 ) -> Later {
     let Some((operator, total)) = later? else {
-        return Ok(Some((next, rules.table.times(unit, number, None)?)));
+        return Ok(Some((next, settings.table.times(unit, number, None)?)));
     };
     if next != operator {
         return Err(Cause::Mixed {
@@ -131,7 +131,7 @@ fn with_term(
             later: next,
         });
     }
-    let value = rules.table.times(unit, number, None)?;
+    let value = settings.table.times(unit, number, None)?;
     Ok(Some((next, within(combination(next, total, value))?)))
 }
 

@@ -1,7 +1,7 @@
 -- Lemmas about packed names and their slots in the table.
 use Rattle.duration_str.proofs.Common.{[], all_names_in, and_from, and_parts, ap, arith, Bool, byte_len, bytes_eq, cases_Bool, chinese_letters, comparison_form, eq-eqb, eqb, eqb-true, false, false_from_ne_true, get_or, Humantime, if◌then◌else◌, inl, inr, is_chinese, is_in_row, is_named, is_unit_letter, leb, leb-true, length, length-reverse, letter_number, List, list_all, list_any, list_any-append, lit<, map, meaning_of, nat_tests, None, number_in, off, Options, or_cases, Own, packed_number, packed_number_after, packs_to, pow-le-pow_right, pow-succ', refl, reverse-reverse, row_of, table_of, Rules, rules, rules_of, Second, Some, suc, sym, Table, TimeUnit, to_ascii_lowercase, true, unit_of_word, units, UnitTable, width, ℕ, ◌%◌, ◌&&◌, ◌*◌, ◌+◌, ◌-◌, ◌/◌, ◌<◌, ◌==◌, ◌^◌, ◌||◌, ◌∙◌, ◌∷◌, ◌≡◌, ◌≤◌, ◌⊎◌}
 use mathlib.Core.List.{reverse, reverse_aux}
-use Rattle.duration_str.specs.declared.rules.Rules.{Rules as CodeRules}
+use Rattle.duration_str.specs.declared.settings.Settings.{Settings}
 use Rattle.duration_str.specs.Internal.UnitTable.{unit_of_packed}
 use Rattle.std.proofs.lemmas.List.{get_or-map, length-map}
 use Rattle.std.proofs.lemmas.List.Folds.{list_all_at}
@@ -339,9 +339,9 @@ short_names : (table : UnitTable)
 short_names Own = refl
 short_names Humantime = refl
 
-pub no_long_name : (rules : CodeRules) (w : List ℕ) → 12 < byte_len w → None ≡ unit_of_word (meaning_of rules) w
-no_long_name rules w long = no_name (meaning_of rules) w (λ name. leb (byte_len name) 12) (short_names rules.table)
-    (false_from_ne_true _ (λ t. absurd (omega (arith, leb-true _ _ t, byte_len-form rules.options w))))
+pub no_long_name : (settings : Settings) (w : List ℕ) → 12 < byte_len w → None ≡ unit_of_word (meaning_of settings) w
+no_long_name settings w long = no_name (meaning_of settings) w (λ name. leb (byte_len name) 12) (short_names settings.table)
+    (false_from_ne_true _ (λ t. absurd (omega (arith, leb-true _ _ t, byte_len-form settings.options w))))
 
 -- if the packed numbers of all names pass a test, a number that fails the test is not that of a name
 absent : (test : ℕ → Bool) (n : ℕ) → test n ≡ false → (ns : List (List ℕ))
@@ -362,16 +362,16 @@ no_packed_name table test n fails all =
     (all_units (λ v. list_all (λ name. test (packed_number kept_capitals name)) (all_names_in table v)) all u) in
     simp none
 
--- a word of unit letters names the unit of its packed number
--- the code's rules with the library's own table, and with the second as the default unit
-abbrev pub own_rules : Options → CodeRules
-own_rules o = record { table = Own; default_unit = Some Second; options = o }
+-- the settings with the library's own table, and with the second as the default unit
+abbrev pub own_settings : Options → Settings
+own_settings o = record { table = Own; default_unit = Some Second; options = o }
 
-pub unit_by_number : (rules : CodeRules) (w : List ℕ) → list_all (is_unit_letter rules.options) w ≡ true
-    → unit_of_word (meaning_of rules) w ≡ unit_of_packed (table_of rules.table) (packed_number rules.options w)
+-- a word of unit letters names the unit of its packed number
+pub unit_by_number : (settings : Settings) (w : List ℕ) → list_all (is_unit_letter settings.options) w ≡ true
+    → unit_of_word (meaning_of settings) w ≡ unit_of_packed (table_of settings.table) (packed_number settings.options w)
 unfolding unit_of_packed
-unit_by_number rules w letters =
-    simp (λ (u : TimeUnit). named_by_number rules.table rules.options w u letters)
+unit_by_number settings w letters =
+    simp (λ (u : TimeUnit). named_by_number settings.table settings.options w u letters)
 
 -- ---- slots
 

@@ -9,7 +9,7 @@ use Rattle.duration_str.specs.Format.{chosen}
 use Rattle.duration_str.specs.Humantime.{humantime_row_of}
 use Rattle.duration_str.specs.Units.{nanos_of, row_of, UnitRow, units}
 use Rattle.duration_str.specs.Rules.{Rules}
-use Rattle.duration_str.specs.declared.rules.Rules.{Rules as CodeRules}
+use Rattle.duration_str.specs.declared.settings.Settings.{Settings}
 use Rattle.duration_str.specs.declared.table.UnitTable.{UnitTable}
 use Rattle.duration_str.specs.declared.table.UnitTable.TheVariants.{Own, Humantime}
 use Rattle.duration_str.specs.Options.{off}
@@ -39,9 +39,9 @@ abbrev pub table_of : UnitTable → Table
 table_of Own = row_of
 table_of Humantime = humantime_row_of
 
--- what the code's rules mean
-abbrev pub meaning_of : CodeRules → Rules
-meaning_of rules = record { table = table_of rules.table; default_unit = rules.default_unit; options = rules.options }
+-- the rules that the reader's settings mean
+abbrev pub meaning_of : Settings → Rules
+meaning_of s = record { table = table_of s.table; default_unit = s.default_unit; options = s.options }
 
 -- all names of a unit in a table
 abbrev pub all_names_in : Table → TimeUnit → List Characters
