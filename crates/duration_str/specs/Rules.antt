@@ -27,7 +27,7 @@ rules_of o = rules_with o (Some Second)
 abbrev pub comparison_form : Options → Characters → Characters
 comparison_form o word = if o.lowercase then word else map to_ascii_lowercase word
 
--- whether the word is a name in the row
+-- whether the word is a name in the row. (`bytes_eq` compares lists of numbers: here of characters)
 abbrev pub is_in_row : Options → Characters → UnitRow → Bool
 is_in_row o word row =
     list_any (bytes_eq (comparison_form o word)) row.names

@@ -125,8 +125,8 @@ pub fn parse_with_default_unit(
 
 /// Reads a text as `parse_with_default_unit` does, and returns the duration in nanoseconds.
 ///
-/// If all options are off and the default unit is the second, it calls a copy of the reader that is compiled for this
-/// case, and is faster.
+/// The reader is compiled twice: once for the case that all options are off and the default unit is the second, which
+/// is faster, and once for all other cases.
 ///
 /// # Errors
 ///
@@ -163,10 +163,8 @@ fn nanos_chosen(input: &str, o: Options, default_unit: Option<TimeUnit>) -> Resu
     parse_nanos_specialized(input, o, default_unit)
 }
 
-/// Returns what `parse_nanos` returns. For each call in the source, the compiler makes a copy of the reader.
-///
-/// If the compiler knows the options of a call, it makes that copy for these options alone, which is faster. Each copy
-/// adds 3 to 6 kB to the program.
+/// Returns what `parse_nanos` returns. The whole reader is compiled into each place in the source that calls this, and
+/// adds 3 to 6 kB to the program there. It is faster if the compiler knows the options of the call.
 ///
 /// # Errors
 ///
@@ -191,7 +189,7 @@ pub fn parse_nanos_specialized(
 ///
 /// A month has 30.44 days and a year 365.25. Each number needs a unit. The library's own names are read too, and `+` and
 /// `*`. For humantime's texts turn on `lowercase`, so that `1M` is a month and `1m` a minute. As with
-/// `parse_nanos_specialized`, the compiler makes a copy of the reader for each call in the source.
+/// `parse_nanos_specialized`, the whole reader is compiled into each place in the source that calls this.
 ///
 /// # Errors
 ///
