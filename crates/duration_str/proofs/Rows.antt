@@ -1,11 +1,11 @@
 -- Examples that were worked out by hand, and are computed here: the values of texts, the causes for which others are
 -- refused, and the texts of durations.
-use Rattle.duration_str.proofs.Common.{ALL, answer, answer_in, answer_with, Bool, Cause, codes, Compact, counts_of, Empty, encode_utf8_all, Err, Expected, false, flat_map, if◌then◌else◌, length, List, Long, map, MAX_LONG_LEN, MAX_PRINTED_LEN, message_of, Mixed, nanos_of, nat_lt, None, nonzero, NumberTooLarge, off, Ok, older_row_of, older_unit_of_word, Options, OutOfRange, Overflow, Plus, printed_counts, Quarter, refl, replicate, Result, row_of, Short, Some, Star, Style, Syntax, TimeUnit, true, unit_lengths, unit_of_word, units, units_within, [], ℕ, ◌++◌, ◌∷◌, ◌≡◌}
+use Rattle.duration_str.proofs.Common.{[], ALL, answer, Bool, Cause, codes, Compact, counts_of, Empty, encode_utf8_all, Err, Expected, false, flat_map, if◌then◌else◌, length, List, Long, map, MAX_LONG_LEN, MAX_PRINTED_LEN, message_of, Mixed, nanos_of, nat_lt, None, nonzero, NumberTooLarge, off, Ok, older_row_of, older_rules, Options, OutOfRange, Overflow, Plus, printed_counts, Quarter, refl, replicate, Result, row_of, rules_of, rules_with, Short, Some, Star, Style, Syntax, TimeUnit, true, unit_lengths, unit_of_word, units, units_within, ℕ, ◌++◌, ◌∷◌, ◌≡◌}
 use Rattle.duration_str.specs.declared.format.Format.{Format}
 use Rattle.duration_str.specs.declared.unit.TimeUnit.TheVariants.{Day, Hour, MicroSecond, MilliSecond, Minute, Month, NanoSecond, Second, Week, Year}
 use Rattle.duration_str.specs.Breakdown.{sum_of_parts}
 use Rattle.duration_str.specs.Format.{chosen, intersection, counts_within, down_to, is_in, lengths_within, set_of, shorter_units, text_within, up_to, whole_format, without_unit}
-use Rattle.duration_str.specs.Humantime.{humantime_row_of}
+use Rattle.duration_str.specs.Humantime.{humantime_row_of, humantime_rules}
 use Rattle.duration_str.specs.OneLine.{is_letter, is_plain, one_line_of}
 use Rattle.duration_str.specs.Report.{report_of}
 use Rattle.duration_str.proofs.Characters.UnitLemmas.{Each, each_unit}
@@ -50,88 +50,88 @@ unit_alone = record { number = false; unit_word = true; operator = false; text_e
 
 pub record Answers : Type 0 where
   -- ---- Terms and sums
-  pub sum_with_plus : answer off (codes "3m + 13s + 29ms") ≡ Ok 193_029_000_000
-  pub sum_without_plus : answer off (codes "1d2h3min4s") ≡ Ok 93_784_000_000_000
-  pub sum_of_many_units : answer off (codes "751d 1mon 3week 5d 2ns") ≡ Ok 69_724_800_000_000_002
-  pub all_blanks : answer off (9 ∷ codes "1m" ++ 13 ∷ 10 ∷ []) ≡ Ok 60_000_000_000
-  pub number_alone-seconds : answer off (codes "1") ≡ Ok 1_000_000_000
-  pub last_number-seconds : answer off (codes "1m 2") ≡ Ok 62_000_000_000
-  pub sum-overflow : answer off (codes "580y 580y") ≡ Err (Overflow None)
+  pub sum_with_plus : answer (rules_of off) (codes "3m + 13s + 29ms") ≡ Ok 193_029_000_000
+  pub sum_without_plus : answer (rules_of off) (codes "1d2h3min4s") ≡ Ok 93_784_000_000_000
+  pub sum_of_many_units : answer (rules_of off) (codes "751d 1mon 3week 5d 2ns") ≡ Ok 69_724_800_000_000_002
+  pub all_blanks : answer (rules_of off) (9 ∷ codes "1m" ++ 13 ∷ 10 ∷ []) ≡ Ok 60_000_000_000
+  pub number_alone-seconds : answer (rules_of off) (codes "1") ≡ Ok 1_000_000_000
+  pub last_number-seconds : answer (rules_of off) (codes "1m 2") ≡ Ok 62_000_000_000
+  pub sum-overflow : answer (rules_of off) (codes "580y 580y") ≡ Err (Overflow None)
   -- ---- Products
-  pub product_by_one : answer off (codes "580y*1") ≡ Ok 18_290_880_000_000_000_000
-  pub product-overflow : answer off (codes "580y*2") ≡ Err (Overflow None)
-  pub product-zero_last : answer off (codes "580y*2*0") ≡ Ok 0
-  pub product-zero_first : answer off (codes "0*580y*2") ≡ Err (Overflow None)
-  pub product-first_last : answer off (codes "1ns*1ns*1000000000") ≡ Ok 1
-  pub product-steps_rounded : answer off (codes "1000000000*1ns*1ns") ≡ Ok 0
+  pub product_by_one : answer (rules_of off) (codes "580y*1") ≡ Ok 18_290_880_000_000_000_000
+  pub product-overflow : answer (rules_of off) (codes "580y*2") ≡ Err (Overflow None)
+  pub product-zero_last : answer (rules_of off) (codes "580y*2*0") ≡ Ok 0
+  pub product-zero_first : answer (rules_of off) (codes "0*580y*2") ≡ Err (Overflow None)
+  pub product-first_last : answer (rules_of off) (codes "1ns*1ns*1000000000") ≡ Ok 1
+  pub product-steps_rounded : answer (rules_of off) (codes "1000000000*1ns*1ns") ≡ Ok 0
   -- each step is rounded down, not just the last one
-  pub product-middle_step_rounded : answer off (codes "1*1ns*1ns*1000000000") ≡ Ok 0
-  pub plus_then_star : answer off (codes "1m 2s*3") ≡ Err (Mixed Plus Star)
-  pub star_then_plus : answer off (codes "1m*2*3+4") ≡ Err (Mixed Star Plus)
+  pub product-middle_step_rounded : answer (rules_of off) (codes "1*1ns*1ns*1000000000") ≡ Ok 0
+  pub plus_then_star : answer (rules_of off) (codes "1m 2s*3") ≡ Err (Mixed Plus Star)
+  pub star_then_plus : answer (rules_of off) (codes "1m*2*3+4") ≡ Err (Mixed Star Plus)
   -- the first term is added last, so that the second term, with which the sum is 585 years, has no fault
-  pub first_added_last : answer off (codes "580y 5y 1s*2") ≡ Err (Mixed Plus Star)
+  pub first_added_last : answer (rules_of off) (codes "580y 5y 1s*2") ≡ Err (Mixed Plus Star)
   -- ---- The limits of numbers
-  pub leading_zeros : answer off (codes "00000000000000000000000001") ≡ Ok 1_000_000_000
-  pub greatest_number : answer off (codes "18446744073709551615ns") ≡ Ok 18_446_744_073_709_551_615
-  pub number_above_limit : answer off (codes "18446744073709551616ns") ≡ Err (NumberTooLarge (Some 0))
-  pub first_term-overflow : answer off (codes "10000000000000000y+60") ≡ Err (Overflow (Some 0))
-  pub later_number-no_place : answer off (codes "1s + 99999999999999999999") ≡ Err (NumberTooLarge None)
+  pub leading_zeros : answer (rules_of off) (codes "00000000000000000000000001") ≡ Ok 1_000_000_000
+  pub greatest_number : answer (rules_of off) (codes "18446744073709551615ns") ≡ Ok 18_446_744_073_709_551_615
+  pub number_above_limit : answer (rules_of off) (codes "18446744073709551616ns") ≡ Err (NumberTooLarge (Some 0))
+  pub first_term-overflow : answer (rules_of off) (codes "10000000000000000y+60") ≡ Err (Overflow (Some 0))
+  pub later_number-no_place : answer (rules_of off) (codes "1s + 99999999999999999999") ≡ Err (NumberTooLarge None)
   -- ---- Syntax faults, their places, and what is expected there
-  pub empty-refused : answer off [] ≡ Err Empty
-  pub blanks-refused : answer off (codes "   ") ≡ Err (Syntax 3 number_alone)
-  pub two_numbers-refused : answer off (codes "1 2") ≡ Err (Syntax 2 after_number)
-  pub unknown_word-refused : answer off (codes "0mxyz") ≡ Err (Syntax 1 after_number)
-  pub longer_word-refused : answer off (codes "1mx") ≡ Err (Syntax 1 after_number)
-  pub minus_after_number-refused : answer off (codes "0m+3-5") ≡ Err (Syntax 4 after_number)
-  pub minus_after_unit-refused : answer off (codes "3ms-2ms") ≡ Err (Syntax 3 after_unit)
-  pub minus_after_later_number-refused : answer off (codes "1m 3-5") ≡ Err (Syntax 4 after_number)
-  pub last_operator-refused : answer off (codes "1m+") ≡ Err (Syntax 3 number_alone)
-  pub first_operator-refused : answer off (codes "+1m") ≡ Err (Syntax 0 number_alone)
-  pub two_operators-refused : answer off (codes "1m++2") ≡ Err (Syntax 3 number_alone)
-  pub place_after_line_feeds : answer off (codes "1m" ++ 10 ∷ codes "+" ++ 10 ∷ codes "x") ≡ Err (Syntax 5 number_alone)
-  pub place_in_bytes : answer off (codes "1µs 分") ≡ Err (Syntax 5 after_unit)
-  pub vertical_tab-refused : answer off (codes "1m" ++ 11 ∷ codes "2") ≡ Err (Syntax 2 after_unit)
-  pub form_feed-refused : answer off (codes "1m" ++ 12 ∷ codes "2") ≡ Err (Syntax 2 after_unit)
-  pub no_break_space-refused : answer off (codes "1m" ++ 0xA0 ∷ codes "2") ≡ Err (Syntax 2 after_unit)
-  pub wide_space-refused : answer off (codes "1m" ++ 0x3000 ∷ codes "2") ≡ Err (Syntax 2 after_unit)
+  pub empty-refused : answer (rules_of off) [] ≡ Err Empty
+  pub blanks-refused : answer (rules_of off) (codes "   ") ≡ Err (Syntax 3 number_alone)
+  pub two_numbers-refused : answer (rules_of off) (codes "1 2") ≡ Err (Syntax 2 after_number)
+  pub unknown_word-refused : answer (rules_of off) (codes "0mxyz") ≡ Err (Syntax 1 after_number)
+  pub longer_word-refused : answer (rules_of off) (codes "1mx") ≡ Err (Syntax 1 after_number)
+  pub minus_after_number-refused : answer (rules_of off) (codes "0m+3-5") ≡ Err (Syntax 4 after_number)
+  pub minus_after_unit-refused : answer (rules_of off) (codes "3ms-2ms") ≡ Err (Syntax 3 after_unit)
+  pub minus_after_later_number-refused : answer (rules_of off) (codes "1m 3-5") ≡ Err (Syntax 4 after_number)
+  pub last_operator-refused : answer (rules_of off) (codes "1m+") ≡ Err (Syntax 3 number_alone)
+  pub first_operator-refused : answer (rules_of off) (codes "+1m") ≡ Err (Syntax 0 number_alone)
+  pub two_operators-refused : answer (rules_of off) (codes "1m++2") ≡ Err (Syntax 3 number_alone)
+  pub place_after_line_feeds : answer (rules_of off) (codes "1m" ++ 10 ∷ codes "+" ++ 10 ∷ codes "x") ≡ Err (Syntax 5 number_alone)
+  pub place_in_bytes : answer (rules_of off) (codes "1µs 分") ≡ Err (Syntax 5 after_unit)
+  pub vertical_tab-refused : answer (rules_of off) (codes "1m" ++ 11 ∷ codes "2") ≡ Err (Syntax 2 after_unit)
+  pub form_feed-refused : answer (rules_of off) (codes "1m" ++ 12 ∷ codes "2") ≡ Err (Syntax 2 after_unit)
+  pub no_break_space-refused : answer (rules_of off) (codes "1m" ++ 0xA0 ∷ codes "2") ≡ Err (Syntax 2 after_unit)
+  pub wide_space-refused : answer (rules_of off) (codes "1m" ++ 0x3000 ∷ codes "2") ≡ Err (Syntax 2 after_unit)
   -- ---- The order of refusals
-  pub syntax-before_standing_number : answer off (codes "99999999999999999999 2") ≡ Err (Syntax 21 after_number)
-  pub first_term-before_syntax : answer off (codes "99999999999999999999y-") ≡ Err (NumberTooLarge (Some 0))
-  pub syntax-before_sum : answer off (codes "580y 580y x") ≡ Err (Syntax 10 after_unit)
-  pub syntax-before_sum-at_sign : answer off (codes "580y 580y-") ≡ Err (Syntax 9 after_unit)
-  pub number-before_later_operator : answer off (codes "1m+99999999999999999999*2") ≡ Err (NumberTooLarge None)
-  pub operator-before_later_number : answer off (codes "1m+2*99999999999999999999") ≡ Err (Mixed Plus Star)
+  pub syntax-before_standing_number : answer (rules_of off) (codes "99999999999999999999 2") ≡ Err (Syntax 21 after_number)
+  pub first_term-before_syntax : answer (rules_of off) (codes "99999999999999999999y-") ≡ Err (NumberTooLarge (Some 0))
+  pub syntax-before_sum : answer (rules_of off) (codes "580y 580y x") ≡ Err (Syntax 10 after_unit)
+  pub syntax-before_sum-at_sign : answer (rules_of off) (codes "580y 580y-") ≡ Err (Syntax 9 after_unit)
+  pub number-before_later_operator : answer (rules_of off) (codes "1m+99999999999999999999*2") ≡ Err (NumberTooLarge None)
+  pub operator-before_later_number : answer (rules_of off) (codes "1m+2*99999999999999999999") ≡ Err (Mixed Plus Star)
   -- ---- The option `no_calc`
-  pub no_calc-sum : answer with_no_calc (codes "2h 37m") ≡ Ok 9_420_000_000_000
-  pub no_calc-plus_after_number : answer with_no_calc (codes "1+2") ≡ Err (Syntax 1 after_number-no_calc)
-  pub no_calc-plus_after_unit : answer with_no_calc (codes "1m+2") ≡ Err (Syntax 2 after_unit-no_calc)
-  pub no_calc-minus_after_number : answer with_no_calc (codes "0m3-5") ≡ Err (Syntax 3 after_number-no_calc)
-  pub no_calc-number_stands_not : answer with_no_calc (codes "99999999999999999999+1")
+  pub no_calc-sum : answer (rules_of with_no_calc) (codes "2h 37m") ≡ Ok 9_420_000_000_000
+  pub no_calc-plus_after_number : answer (rules_of with_no_calc) (codes "1+2") ≡ Err (Syntax 1 after_number-no_calc)
+  pub no_calc-plus_after_unit : answer (rules_of with_no_calc) (codes "1m+2") ≡ Err (Syntax 2 after_unit-no_calc)
+  pub no_calc-minus_after_number : answer (rules_of with_no_calc) (codes "0m3-5") ≡ Err (Syntax 3 after_number-no_calc)
+  pub no_calc-number_stands_not : answer (rules_of with_no_calc) (codes "99999999999999999999+1")
       ≡ Err (Syntax 20 after_number-no_calc)
-  pub no_calc-first_term_before_syntax : answer with_no_calc (codes "99999999999999999999m+1")
+  pub no_calc-first_term_before_syntax : answer (rules_of with_no_calc) (codes "99999999999999999999m+1")
       ≡ Err (NumberTooLarge (Some 0))
-  pub no_calc-sum_before_word : answer with_no_calc (codes "580y 580y x") ≡ Err (Overflow None)
-  pub no_calc-sum_before_plus : answer with_no_calc (codes "580y 580y+1") ≡ Err (Overflow None)
-  pub no_calc-sum_before_minus : answer with_no_calc (codes "580y 580y-") ≡ Err (Overflow None)
-  pub no_calc-later_number_no_place : answer with_no_calc (codes "1m 99999999999999999999") ≡ Err (NumberTooLarge None)
+  pub no_calc-sum_before_word : answer (rules_of with_no_calc) (codes "580y 580y x") ≡ Err (Overflow None)
+  pub no_calc-sum_before_plus : answer (rules_of with_no_calc) (codes "580y 580y+1") ≡ Err (Overflow None)
+  pub no_calc-sum_before_minus : answer (rules_of with_no_calc) (codes "580y 580y-") ≡ Err (Overflow None)
+  pub no_calc-later_number_no_place : answer (rules_of with_no_calc) (codes "1m 99999999999999999999") ≡ Err (NumberTooLarge None)
   -- ---- The options `lowercase` and `cn_unit`
-  pub capitals_folded : answer off (codes "1MS") ≡ Ok 1_000_000
-  pub capital_minute : answer off (codes "1M") ≡ Ok 60_000_000_000
-  pub capital_after_micro : answer off (codes "1µS") ≡ Ok 1_000
-  pub lowercase-capital_refused : answer with_lowercase (codes "1M") ≡ Err (Syntax 1 after_number)
+  pub capitals_folded : answer (rules_of off) (codes "1MS") ≡ Ok 1_000_000
+  pub capital_minute : answer (rules_of off) (codes "1M") ≡ Ok 60_000_000_000
+  pub capital_after_micro : answer (rules_of off) (codes "1µS") ≡ Ok 1_000
+  pub lowercase-capital_refused : answer (rules_of with_lowercase) (codes "1M") ≡ Err (Syntax 1 after_number)
   -- the Greek letter U+03BC, which is not the micro sign U+00B5
-  pub greek_mu-refused : answer off (49 ∷ 0x3BC ∷ 115 ∷ []) ≡ Err (Syntax 1 after_number)
-  pub micro_alone-refused : answer off (codes "1µ s") ≡ Err (Syntax 1 after_number)
-  pub cn_unit-chinese_read : answer with_cn_unit (codes " 1分+   31秒 + 2毫秒+  3纳秒  ") ≡ Ok 91_002_000_003
-  pub cn_unit-all_read : answer with_cn_unit (codes "1年1月1周1日1天1时1分1秒1毫秒1微秒1纳秒") ≡ Ok 34_909_261_001_001_001
-  pub chinese-refused : answer off (codes " 1分+   31秒 + 2毫秒+  3纳秒  ") ≡ Err (Syntax 2 after_number)
+  pub greek_mu-refused : answer (rules_of off) (49 ∷ 0x3BC ∷ 115 ∷ []) ≡ Err (Syntax 1 after_number)
+  pub micro_alone-refused : answer (rules_of off) (codes "1µ s") ≡ Err (Syntax 1 after_number)
+  pub cn_unit-chinese_read : answer (rules_of with_cn_unit) (codes " 1分+   31秒 + 2毫秒+  3纳秒  ") ≡ Ok 91_002_000_003
+  pub cn_unit-all_read : answer (rules_of with_cn_unit) (codes "1年1月1周1日1天1时1分1秒1毫秒1微秒1纳秒") ≡ Ok 34_909_261_001_001_001
+  pub chinese-refused : answer (rules_of off) (codes " 1分+   31秒 + 2毫秒+  3纳秒  ") ≡ Err (Syntax 2 after_number)
   -- ---- The quarter
-  pub quarter-read : answer off (codes "1q") ≡ Ok 7_862_400_000_000_000
-  pub capital_quarters-read : answer off (codes "2 Quarters") ≡ Ok 15_724_800_000_000_000
-  pub capital_quarter-lowercase_refused : answer with_lowercase (codes "1Q") ≡ Err (Syntax 1 after_number)
-  pub longer_word_than_quarter-refused : answer off (codes "1qs") ≡ Err (Syntax 1 after_number)
+  pub quarter-read : answer (rules_of off) (codes "1q") ≡ Ok 7_862_400_000_000_000
+  pub capital_quarters-read : answer (rules_of off) (codes "2 Quarters") ≡ Ok 15_724_800_000_000_000
+  pub capital_quarter-lowercase_refused : answer (rules_of with_lowercase) (codes "1Q") ≡ Err (Syntax 1 after_number)
+  pub longer_word_than_quarter-refused : answer (rules_of off) (codes "1qs") ≡ Err (Syntax 1 after_number)
   -- Before the quarter was added, its names named no unit, and units had 40 other names.
-  pub quarter_was_no_unit : map (older_unit_of_word off) (row_of Quarter).names ≡ None ∷ None ∷ None ∷ []
+  pub quarter_was_no_unit : map (unit_of_word (older_rules off)) (row_of Quarter).names ≡ None ∷ None ∷ None ∷ []
 
 pub answers : Answers
 answers = assumption
@@ -143,7 +143,7 @@ abbrev first_that_overflows : List ℕ
 first_that_overflows = codes "584y 3q 2mon 1w 3d 23h 34min 33s 709ms 551µs 616ns"
 
 pub overflows-first : (o : Options) (no_calc lowercase cn_unit : Bool)
-    → answer (record o { no_calc = no_calc; lowercase = lowercase; cn_unit = cn_unit }) first_that_overflows
+    → answer (rules_of (record o { no_calc = no_calc; lowercase = lowercase; cn_unit = cn_unit })) first_that_overflows
     ≡ Err (Overflow None)
 overflows-first o true true true = refl
 overflows-first o true false true = refl
@@ -198,13 +198,13 @@ pub record PrintedTexts : Type 0 where
   pub compact-zero : styled Compact 0 ≡ codes "0s"
   -- ---- Printed texts around 2^64 nanoseconds
   pub printed-last_that_reads_back : printed 18_446_744_073_709_551_615 ≡ last_that_reads_back
-  pub reads_back-last : answer off last_that_reads_back ≡ Ok 18_446_744_073_709_551_615
+  pub reads_back-last : answer (rules_of off) last_that_reads_back ≡ Ok 18_446_744_073_709_551_615
   pub printed-first_that_overflows : printed 18_446_744_073_709_551_616 ≡ first_that_overflows
   pub printed-greatest_duration : printed 18_446_744_073_709_551_615_999_999_999 ≡ greatest_duration
   pub printed-longest : printed 3_153_600_000_031_190_399_999_999_999 ≡ longest
   -- A printed text reaches the bound on the number of bytes.
   pub longest-bytes : length (encode_utf8_all longest) ≡ MAX_PRINTED_LEN
-  pub overflows-greatest_duration : answer off greatest_duration ≡ Err (Overflow (Some 0))
+  pub overflows-greatest_duration : answer (rules_of off) greatest_duration ≡ Err (Overflow (Some 0))
 
 pub printed_texts : PrintedTexts
 unfolding chars digits encode
@@ -213,10 +213,10 @@ printed_texts = assumption
 -- ---- The default unit
 
 abbrev in_milliseconds : List ℕ → Result ℕ Cause
-in_milliseconds = answer_with (Some MilliSecond) off
+in_milliseconds = answer (rules_with off (Some MilliSecond))
 
 abbrev requiring_units : List ℕ → Result ℕ Cause
-requiring_units = answer_with None off
+requiring_units = answer (rules_with off None)
 
 pub record DefaultUnits : Type 0 where
   -- ---- Another default unit
@@ -231,7 +231,7 @@ pub record DefaultUnits : Type 0 where
   pub milliseconds-later_overflow : in_milliseconds (codes "1+18446744073710") ≡ Err (Overflow None)
   -- in seconds this would overflow
   pub milliseconds-later_fits : in_milliseconds (codes "1+18446744074") ≡ Ok 18_446_744_075_000_000
-  pub years : answer_with (Some Year) off (codes "2") ≡ Ok 63_072_000_000_000_000
+  pub years : answer (rules_with off (Some Year)) (codes "2") ≡ Ok 63_072_000_000_000_000
   -- ---- No default unit: each number must have its unit
   pub required-each : requiring_units (codes "1h30m 2 s") ≡ Ok 5_402_000_000_000
   pub required-end : requiring_units (codes "1h 30") ≡ Err (Syntax 5 unit_alone)
@@ -247,8 +247,8 @@ pub record DefaultUnits : Type 0 where
       ≡ Err (NumberTooLarge (Some 0))
   pub required-overflow_before_end : requiring_units (codes "600y 30") ≡ Err (Overflow (Some 0))
   pub required-sum_after_end : requiring_units (codes "580y 580y 5") ≡ Err (Syntax 11 unit_alone)
-  pub required-no_calc : answer_with None with_no_calc (codes "580y 580y 5") ≡ Err (Overflow None)
-  pub required-no_calc_plus : answer_with None with_no_calc (codes "1+2s") ≡ Err (Syntax 1 unit_alone)
+  pub required-no_calc : answer (rules_with with_no_calc None) (codes "580y 580y 5") ≡ Err (Overflow None)
+  pub required-no_calc_plus : answer (rules_with with_no_calc None) (codes "1+2s") ≡ Err (Syntax 1 unit_alone)
 
 pub default_units : DefaultUnits
 default_units = assumption
@@ -256,7 +256,7 @@ default_units = assumption
 -- ---- humantime's units
 
 abbrev as_humantime : List ℕ → Result ℕ Cause
-as_humantime = answer_in humantime_row_of None with_lowercase
+as_humantime = answer (humantime_rules with_lowercase)
 
 pub record HumantimeUnits : Type 0 where
   -- how many names each unit has
@@ -285,12 +285,12 @@ pub record HumantimeUnits : Type 0 where
   pub other_capital-refused : as_humantime (codes "1H") ≡ Err (Syntax 1 unit_alone)
   pub capitals-refused : as_humantime (codes "1MM") ≡ Err (Syntax 1 unit_alone)
   pub number_alone-refused : as_humantime (codes "5mins 30") ≡ Err (Syntax 8 unit_alone)
-  pub chinese : answer_in humantime_row_of None (record with_lowercase { cn_unit = true }) (codes "1年1月")
+  pub chinese : answer (humantime_rules (record with_lowercase { cn_unit = true })) (codes "1年1月")
       ≡ Ok 34_187_616_000_000_000
   -- if capitals are read as small letters, `M` is a minute
-  pub folded : answer_in humantime_row_of None off (codes "1M 1MINS") ≡ Ok 120_000_000_000
+  pub folded : answer (humantime_rules off) (codes "1M 1MINS") ≡ Ok 120_000_000_000
   -- humantime's names are no names elsewhere
-  pub elsewhere-refused : map (answer with_lowercase) (codes "1mins" ∷ codes "1M" ∷ codes "1yr" ∷ [])
+  pub elsewhere-refused : map (answer (rules_of with_lowercase)) (codes "1mins" ∷ codes "1M" ∷ codes "1yr" ∷ [])
       ≡ Err (Syntax 1 after_number) ∷ Err (Syntax 1 after_number) ∷ Err (Syntax 1 after_number) ∷ []
 
 pub humantime_units : HumantimeUnits
@@ -596,7 +596,7 @@ reports = assumption
 
 -- Each of the names is read as the unit.
 abbrev AreNamesOf : Options → TimeUnit → List (List ℕ) → Type 0
-AreNamesOf o u names = map (unit_of_word o) names ≡ map (λ name. Some u) names
+AreNamesOf o u names = map (unit_of_word (rules_of o)) names ≡ map (λ name. Some u) names
 
 -- Each name of each unit is read as the unit, with and without `lowercase`, and each Chinese name with `cn_unit`. So no
 -- two units share a name.
@@ -618,6 +618,6 @@ fifty_one_older_names = refl
 
 -- Each name from before the quarter named its unit, each Chinese name with `cn_unit`.
 pub older_names_of_one_unit : Each (λ u.
-    map (older_unit_of_word with_cn_unit) (option_map_or (λ row. row.names ++ row.chinese) (older_row_of u) [])
+    map (unit_of_word (older_rules with_cn_unit)) (option_map_or (λ row. row.names ++ row.chinese) (older_row_of u) [])
     ≡ option_map_or (λ row. map (λ name. Some u) (row.names ++ row.chinese)) (older_row_of u) []) units
 older_names_of_one_unit = assumption

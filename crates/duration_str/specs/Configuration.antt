@@ -5,6 +5,7 @@ use Rattle.duration_str.specs.declared.cause.Cause.TheVariants.{NotText}
 use Rattle.duration_str.specs.declared.fault.Fault.{Fault}
 use Rattle.duration_str.specs.Text.{Bytes}
 use Rattle.duration_str.specs.Options.{off}
+use Rattle.duration_str.specs.Rules.{rules_of}
 use Rattle.duration_str.specs.OtherResults.{IsValueOrFault}
 use Rattle.duration_str.specs.Reading.{IsRead, IsRefused}
 
@@ -12,8 +13,8 @@ use Rattle.duration_str.specs.Reading.{IsRead, IsRefused}
 -- refused for the cause in `Err`.
 abbrev pub ParsesBy : {T : Type 0} → (T → ℕ → Type 0) → Bytes → Result T Fault → Type 0
 ParsesBy shows bytes result =
-    IsValueOrFault (λ v. (nanos : ℕ) × IsRead off (chars bytes) nanos × shows v nanos)
-    (IsRefused off (chars bytes)) bytes result
+    IsValueOrFault (λ v. (nanos : ℕ) × IsRead (rules_of off) (chars bytes) nanos × shows v nanos)
+    (IsRefused (rules_of off) (chars bytes)) bytes result
 
 -- The bytes are read, and `nanos_of` gives the nanoseconds of the value in `Ok`. Or they are refused for the cause in
 -- `Err`.

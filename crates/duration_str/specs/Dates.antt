@@ -9,6 +9,7 @@ use Rattle.duration_str.specs.Text.{Bytes}
 use Rattle.duration_str.specs.Options.{off}
 use Rattle.duration_str.specs.OtherResults.{IsValueOrFault}
 use Rattle.duration_str.specs.Reading.{IsRead, IsRefused}
+use Rattle.duration_str.specs.Rules.{rules_of}
 
 -- the length of a day in nanoseconds
 abbrev pub day_nanos : ℕ
@@ -46,13 +47,13 @@ IsOutOfRange instant = (instant <ℤ first_instant) ⊎ (last_instant <ℤ insta
 -- is `OutOfRange`.
 abbrev pub IsDateFault : (ℕ → ℤ) → Bytes → Cause → Type 0
 IsDateFault reached bytes cause =
-    IsRefused off (chars bytes) cause
-    ⊎ ((nanos : ℕ) × IsRead off (chars bytes) nanos × IsOutOfRange (reached nanos) × (cause ≡ OutOfRange))
+    IsRefused (rules_of off) (chars bytes) cause
+    ⊎ ((nanos : ℕ) × IsRead (rules_of off) (chars bytes) nanos × IsOutOfRange (reached nanos) × (cause ≡ OutOfRange))
 
 -- The text is read, the instant that its value reaches is in range, and `shows` holds for it and the value in `Ok`.
 -- Otherwise the result is a fault with this text, and `IsDateFault` holds for its cause.
 abbrev pub IsDated : {T : Type 0} → (ℤ → T → Type 0) → (ℕ → ℤ) → Bytes → Result T Fault → Type 0
 IsDated shows reached bytes result =
     IsValueOrFault (λ v. (nanos : ℕ)
-    × IsRead off (chars bytes) nanos × IsInRange (reached nanos) × shows (reached nanos) v)
+    × IsRead (rules_of off) (chars bytes) nanos × IsInRange (reached nanos) × shows (reached nanos) v)
     (IsDateFault reached bytes) bytes result

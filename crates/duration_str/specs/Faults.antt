@@ -4,8 +4,8 @@ use Rattle.std.specs.Prelude.{◌≡◌, ℕ, ◌+◌, ◌==◌, ◌↔◌, List
 use Rattle.duration_str.specs.declared.options.Options.{Options}
 use Rattle.duration_str.specs.Text.{Bytes, Characters}
 use Rattle.duration_str.specs.Tokens.{Token, tokens_of}
-use Rattle.duration_str.specs.Reading.{IsRefusedWith}
-use Rattle.duration_str.specs.declared.unit.TimeUnit.{TimeUnit}
+use Rattle.duration_str.specs.Rules.{Rules}
+use Rattle.duration_str.specs.Reading.{IsRefused}
 use Rattle.duration_str.specs.declared.cause.Expected.{Expected}
 use Rattle.duration_str.specs.declared.cause.Cause.{Cause}
 use Rattle.duration_str.specs.declared.cause.Cause.TheVariants.{NumberTooLarge, Overflow, Syntax}
@@ -33,9 +33,9 @@ IsSliceOf bytes token (Some slice) =
     (p : Token) × (token ≡ Some p) × (chars slice.now ≡ p.characters)
     × (slice.now ≡ slice_range bytes p.start (p.start + length slice.now))
 
--- If the bytes are refused for a syntax fault under these options, with whatever default unit or none, `token` is `None`
--- exactly if the fault's place is the end of the bytes.
+-- If the bytes are refused for a syntax fault by any rules with these options, `token` is `None` exactly if the fault's
+-- place is the end of the bytes.
 abbrev pub IsMissingAtEnd : Options → Bytes → Cause → Option (Bor Bytes) → Type 0
 IsMissingAtEnd o bytes cause token =
-    (default_unit : Option TimeUnit) (place : ℕ) (expected : Expected) → cause ≡ Syntax place expected
-    → IsRefusedWith default_unit o (chars bytes) cause → (IsNone token ↔ (place ≡ length bytes))
+    (r : Rules) (place : ℕ) (expected : Expected) → cause ≡ Syntax place expected
+    → IsRefused (record r { options = o }) (chars bytes) cause → (IsNone token ↔ (place ≡ length bytes))

@@ -1,9 +1,11 @@
 -- The table of units of the crate humantime, with the library's own names added.
-use Rattle.std.specs.Prelude.{List, [], ◌∷◌, ◌++◌, codes}
+use Rattle.std.specs.Prelude.{List, [], ◌∷◌, ◌++◌, None, codes}
+use Rattle.duration_str.specs.declared.options.Options.{Options}
 use Rattle.duration_str.specs.declared.unit.TimeUnit.{TimeUnit}
 use Rattle.duration_str.specs.declared.unit.TimeUnit.TheVariants.{Year, Month, Week, Hour, Minute, Second, MilliSecond, NanoSecond}
 use Rattle.duration_str.specs.Text.{Characters}
 use Rattle.duration_str.specs.Units.{UnitRow, row_of}
+use Rattle.duration_str.specs.Rules.{Rules}
 
 -- a row with further names, which stand before the others, since the last two are the long name and its plural
 abbrev pub with_names : List Characters → UnitRow → UnitRow
@@ -21,3 +23,7 @@ humantime_row_of Second = with_names (codes "secs" ∷ []) (row_of Second)
 humantime_row_of MilliSecond = with_names (codes "millis" ∷ []) (row_of MilliSecond)
 humantime_row_of NanoSecond = with_names (codes "nanos" ∷ []) (row_of NanoSecond)
 humantime_row_of u = row_of u
+
+-- the rules with this table and these options. Each number needs its unit
+abbrev pub humantime_rules : Options → Rules
+humantime_rules o = record { table = humantime_row_of; default_unit = None; options = o }

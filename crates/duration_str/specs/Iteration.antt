@@ -7,6 +7,7 @@ use Rattle.duration_str.specs.declared.token.What.TheVariants as whats
 use Rattle.duration_str.specs.declared.token.Token.{Token as RustToken}
 use Rattle.duration_str.specs.declared.token.Tokens.{Tokens}
 use Rattle.duration_str.specs.Text.{Bytes}
+use Rattle.duration_str.specs.Rules.{rules_of}
 use Rattle.duration_str.specs.Grammar.{Terminal, number, word, operator, other, terminal_of}
 use Rattle.duration_str.specs.Tokens.{Token, tokens_from}
 
@@ -50,7 +51,7 @@ pub record KeepsInput (old new : Tokens) : Type 0 where
 pub record IsCutAt (o : Options) (text : Bytes) (place : ℕ) (token : RustToken) : Type 0 where
   pub end : place ≡ token.start + length token.text.now
   pub slice : token.text.now ≡ slice_range text token.start place
-  pub sort : token.what ≡ what_of (terminal_of o (chars token.text.now))
+  pub sort : token.what ≡ what_of (terminal_of (rules_of o) (chars token.text.now))
 
 -- The call returns the first token that is left. If none is left, the whole text is cut.
 pub record YieldsNextToken (old : Tokens) (result : Option RustToken) (new : Tokens) : Type 0 where

@@ -13,16 +13,17 @@ use Rattle.duration_str.specs.declared.cause.Cause.{Cause}
 use Rattle.duration_str.specs.declared.cause.Cause.TheVariants.{Overflow}
 use Rattle.duration_str.specs.declared.cause.Expected.{Expected}
 use Rattle.duration_str.specs.Text.{Bytes, Characters, operator_of, is_chinese, IsBlank, is_blank, byte_len}
-use Rattle.duration_str.specs.Units.{Table, UnitRow, row_of, unit_lengths, nanos_of, units, unit_of_word}
+use Rattle.duration_str.specs.Units.{UnitRow, row_of, unit_lengths, nanos_of, units}
+use Rattle.duration_str.specs.Rules.{Rules, rules_of, rules_with, unit_of_word}
 use Rattle.duration_str.specs.OneLine.{is_among, near_name, near_words}
-use Rattle.duration_str.specs.Grammar.{Terminal, operator, IsSentence, IsSentenceOf, IsSentenceWith, Spells, terminal_of}
+use Rattle.duration_str.specs.Grammar.{Terminal, operator, IsSentence, IsSentenceOf, Spells, terminal_of}
 use Rattle.duration_str.specs.Tokens.{Token, tokens_of, lexemes_of, are_of_one_run, goes_on}
 use Rattle.duration_str.specs.Place.{BeginsSentence, CanFollow, IsFront}
-use Rattle.duration_str.specs.Value.{Term, value_of_term, terms_with, second}
-use Rattle.duration_str.specs.Reading.{IsRead, IsReadIn, IsReadWith, IsRefused, IsRefusedIn, IsRefusedWith}
+use Rattle.duration_str.specs.Value.{Term, value_of_term, written_terms, one_second}
+use Rattle.duration_str.specs.Reading.{IsRead, IsRefused}
 use Rattle.duration_str.specs.Messages.{EndsInsideLine, message_of, line_of}
-use Rattle.duration_str.specs.Answer.{answer_with, expected_after, last_of, front_of}
-use Rattle.duration_str.specs.Older.{older_row_of, older_terminals, older_unit_of_word, WasSentenceOf, WasRead, WasRefused}
+use Rattle.duration_str.specs.Answer.{answer, expected_after, last_of, front_of}
+use Rattle.duration_str.specs.Older.{older_row_of, older_rules, WasRefused}
 use Rattle.duration_str.specs.Printing.{IsPrintedIn, IsGreatestBreakdown, long_name, weighted_sum}
 use Rattle.duration_str.specs.Breakdown.{YieldsPart, nanos_left, parts_left, sum_of_parts}
 use Rattle.duration_str.specs.declared.breakdown.Breakdown.{Breakdown}
@@ -53,11 +54,10 @@ HasNoChinese text = IsTrue (list_all (λ c. not (is_chinese c)) text)
 -- Two sentences that spell a text are equal. A sentence spells a text exactly if the sentence's lexemes are those of
 -- the text's tokens.
 pub record OneSentence : Type 0 where
-  pub equal : (default_unit : Option TimeUnit) (o : Options) (text : Characters) (lexemes others : List Characters)
-      → IsSentenceWith default_unit o lexemes text → IsSentenceWith default_unit o others text → lexemes ≡ others
-  pub tokens : (default_unit : Option TimeUnit) (o : Options) (text : Characters) (lexemes : List Characters)
-      → IsSentence default_unit o.no_calc (map (terminal_of o) lexemes)
-      → (Spells lexemes text ↔ (lexemes ≡ lexemes_of (tokens_of o text)))
+  pub equal : (r : Rules) (text : Characters) (lexemes others : List Characters)
+      → IsSentenceOf r lexemes text → IsSentenceOf r others text → lexemes ≡ others
+  pub tokens : (r : Rules) (text : Characters) (lexemes : List Characters) → IsSentence r (map (terminal_of r) lexemes)
+      → (Spells lexemes text ↔ (lexemes ≡ lexemes_of (tokens_of r.options text)))
 
 -- These characters are a run of digits or of unit letters, or a single character that is not a blank.
 abbrev pub IsLexeme : Options → Characters → Type 0
@@ -91,88 +91,71 @@ pub record OneCut : Type 0 where
   pub only : (o : Options) (text : Characters) (tokens : List Token) → AreTokens o 0 text tokens
       → tokens ≡ tokens_of o text
 
--- By this table of units a text is either read as one value or refused for one cause.
-pub record OneReadingIn (rows : Table) : Type 0 where
-  pub some : (default_unit : Option TimeUnit) (o : Options) (text : Characters)
-      → ((nanos : ℕ) × IsReadIn rows default_unit o text nanos)
-      ⊎ ((cause : Cause) × IsRefusedIn rows default_unit o text cause)
-  pub one_value : (default_unit : Option TimeUnit) (o : Options) (text : Characters) (m n : ℕ)
-      → IsReadIn rows default_unit o text m → IsReadIn rows default_unit o text n → m ≡ n
-  pub one_cause : (default_unit : Option TimeUnit) (o : Options) (text : Characters) (c d : Cause)
-      → IsRefusedIn rows default_unit o text c → IsRefusedIn rows default_unit o text d → c ≡ d
-  pub not_both : (default_unit : Option TimeUnit) (o : Options) (text : Characters) (nanos : ℕ) (cause : Cause)
-      → IsReadIn rows default_unit o text nanos → IsRefusedIn rows default_unit o text cause → ⊥
-
--- `OneReadingIn`, with the library's own table of units.
-abbrev pub OneReading : Type 0
-OneReading = OneReadingIn row_of
+-- A text is either read as one value or refused for one cause.
+pub record OneReading : Type 0 where
+  pub some : (r : Rules) (text : Characters)
+      → ((nanos : ℕ) × IsRead r text nanos) ⊎ ((cause : Cause) × IsRefused r text cause)
+  pub one_value : (r : Rules) (text : Characters) (m n : ℕ) → IsRead r text m → IsRead r text n → m ≡ n
+  pub one_cause : (r : Rules) (text : Characters) (c d : Cause) → IsRefused r text c → IsRefused r text d → c ≡ d
+  pub not_both : (r : Rules) (text : Characters) (nanos : ℕ) (cause : Cause)
+      → IsRead r text nanos → IsRefused r text cause → ⊥
 
 -- The computed answer is the value of the text, or the cause of its refusal.
 pub record AnswerIsReading : Type 0 where
-  pub read : (default_unit : Option TimeUnit) (o : Options) (text : Characters) (nanos : ℕ)
-      → (answer_with default_unit o text ≡ Ok nanos ↔ IsReadWith default_unit o text nanos)
-  pub refused : (default_unit : Option TimeUnit) (o : Options) (text : Characters) (cause : Cause)
-      → (answer_with default_unit o text ≡ Err cause ↔ IsRefusedWith default_unit o text cause)
+  pub read : (r : Rules) (text : Characters) (nanos : ℕ) → (answer r text ≡ Ok nanos ↔ IsRead r text nanos)
+  pub refused : (r : Rules) (text : Characters) (cause : Cause) → (answer r text ≡ Err cause ↔ IsRefused r text cause)
 
 -- The table `expected_after` says, for each terminal that can end the beginning of a sentence, what can follow it. The
 -- longest prefix of the terminals that begins a sentence is the one that the table allows (`front_of`).
 pub record PlaceAndKinds : Type 0 where
-  pub kinds : (default_unit : Option TimeUnit) (no_calc : Bool) (front : List Terminal) (expected : Expected)
-      → BeginsSentence default_unit no_calc front
-      → (CanFollow default_unit no_calc front expected
-      ↔ (expected ≡ expected_after default_unit no_calc (last_of None front)))
-  pub no_operator : (default_unit : Option TimeUnit) (no_calc : Bool) (front : List Terminal) (op : CondUnit)
-      → no_calc ≡ true → BeginsSentence default_unit no_calc front → last_of None front ≢ Some (operator op)
-  pub front : (default_unit : Option TimeUnit) (no_calc : Bool) (terminals : List Terminal)
-      → IsFront default_unit no_calc terminals (take (front_of default_unit no_calc terminals) terminals)
-      (drop (front_of default_unit no_calc terminals) terminals)
-  pub only : (default_unit : Option TimeUnit) (no_calc : Bool) (terminals front rest : List Terminal)
-      → IsFront default_unit no_calc terminals front rest
-      → (front ≡ take (front_of default_unit no_calc terminals) terminals)
-      × (rest ≡ drop (front_of default_unit no_calc terminals) terminals)
+  pub kinds : (r : Rules) (front : List Terminal) (expected : Expected) → BeginsSentence r front
+      → (CanFollow r front expected ↔ (expected ≡ expected_after r (last_of None front)))
+  pub no_operator : (r : Rules) (front : List Terminal) (op : CondUnit) → r.options.no_calc ≡ true
+      → BeginsSentence r front → last_of None front ≢ Some (operator op)
+  pub front : (r : Rules) (terminals : List Terminal)
+      → IsFront r terminals (take (front_of r terminals) terminals) (drop (front_of r terminals) terminals)
+  pub only : (r : Rules) (terminals front rest : List Terminal) → IsFront r terminals front rest
+      → (front ≡ take (front_of r terminals) terminals) × (rest ≡ drop (front_of r terminals) terminals)
+
+-- these rules with `no_calc` on or off
+abbrev pub with_no_calc : Rules → Bool → Rules
+with_no_calc r on = record r { options = record (r.options) { no_calc = on } }
+
+-- these rules with `lowercase` on or off
+abbrev pub with_lowercase : Rules → Bool → Rules
+with_lowercase r on = record r { options = record (r.options) { lowercase = on } }
 
 -- For a text without operators, `no_calc` changes neither whether it is accepted nor its value.
 abbrev pub NoCalcAgrees : Type 0
-NoCalcAgrees = (default_unit : Option TimeUnit) (o : Options) (text : Characters) (nanos : ℕ) → HasNoOperator text
-    → (IsReadWith default_unit (record o { no_calc = true }) text nanos
-    ↔ IsReadWith default_unit (record o { no_calc = false }) text nanos)
+NoCalcAgrees = (r : Rules) (text : Characters) (nanos : ℕ) → HasNoOperator text
+    → (IsRead (with_no_calc r true) text nanos ↔ IsRead (with_no_calc r false) text nanos)
 
 -- With the option on and with the option off, the text is read as the same value or refused for the same cause.
-pub record IsIdle (default_unit : Option TimeUnit) (choice : Bool → Options) (text : Characters) : Type 0 where
-  pub value : (nanos : ℕ)
-      → (IsReadWith default_unit (choice true) text nanos ↔ IsReadWith default_unit (choice false) text nanos)
-  pub cause : (cause : Cause)
-      → (IsRefusedWith default_unit (choice true) text cause ↔ IsRefusedWith default_unit (choice false) text cause)
+pub record IsIdle (choice : Bool → Rules) (text : Characters) : Type 0 where
+  pub value : (nanos : ℕ) → (IsRead (choice true) text nanos ↔ IsRead (choice false) text nanos)
+  pub cause : (cause : Cause) → (IsRefused (choice true) text cause ↔ IsRefused (choice false) text cause)
 
--- `lowercase` changes nothing for a text without ASCII capitals, and `cn_unit` changes nothing for a text without the
--- Chinese characters of the units.
+-- `lowercase` changes nothing for a text without ASCII capitals. By the library's own table `cn_unit` changes nothing
+-- for a text without the Chinese characters of the units.
 pub record OptionsIdle : Type 0 where
-  pub lowercase : (default_unit : Option TimeUnit) (o : Options) (text : Characters) → HasNoCapital text
-      → IsIdle default_unit (λ on. record o { lowercase = on }) text
+  pub lowercase : (r : Rules) (text : Characters) → HasNoCapital text → IsIdle (with_lowercase r) text
   pub cn_unit : (default_unit : Option TimeUnit) (o : Options) (text : Characters) → HasNoChinese text
-      → IsIdle default_unit (λ on. record o { cn_unit = on }) text
+      → IsIdle (λ on. rules_with (record o { cn_unit = on }) default_unit) text
 
 -- Two texts that one sentence spells have the same value, or are refused for the same cause.
 pub record BlanksFree : Type 0 where
-  pub value : (default_unit : Option TimeUnit) (o : Options) (a b : Characters) (lexemes : List Characters) (nanos : ℕ)
-      → IsSentenceWith default_unit o lexemes a → Spells lexemes b → IsReadWith default_unit o a nanos
-      → IsReadWith default_unit o b nanos
-  pub cause : (default_unit : Option TimeUnit) (o : Options) (a b : Characters) (lexemes : List Characters)
-      (cause : Cause)
-      → IsSentenceWith default_unit o lexemes a → Spells lexemes b → IsRefusedWith default_unit o a cause
-      → IsRefusedWith default_unit o b cause
+  pub value : (r : Rules) (a b : Characters) (lexemes : List Characters) (nanos : ℕ)
+      → IsSentenceOf r lexemes a → Spells lexemes b → IsRead r a nanos → IsRead r b nanos
+  pub cause : (r : Rules) (a b : Characters) (lexemes : List Characters) (cause : Cause)
+      → IsSentenceOf r lexemes a → Spells lexemes b → IsRefused r a cause → IsRefused r b cause
 
 -- If `no_calc` is off, two accepted texts without `*`, joined by a plus, have the sum of their values, or are refused
 -- as an overflow if that sum is 2^64 or more.
 pub record SumOfTexts : Type 0 where
-  pub below : (default_unit : Option TimeUnit) (o : Options) (a b : Characters) (m n : ℕ) → o.no_calc ≡ false
-      → HasNoStar a → HasNoStar b
-      → IsReadWith default_unit o a m → IsReadWith default_unit o b n → m + n < 2 ^ 64
-      → IsReadWith default_unit o (a ++ codes "+" ++ b) (m + n)
-  pub above : (default_unit : Option TimeUnit) (o : Options) (a b : Characters) (m n : ℕ) → o.no_calc ≡ false
-      → HasNoStar a → HasNoStar b
-      → IsReadWith default_unit o a m → IsReadWith default_unit o b n → 2 ^ 64 ≤ m + n
-      → IsRefusedWith default_unit o (a ++ codes "+" ++ b) (Overflow None)
+  pub below : (r : Rules) (a b : Characters) (m n : ℕ) → r.options.no_calc ≡ false → HasNoStar a → HasNoStar b
+      → IsRead r a m → IsRead r b n → m + n < 2 ^ 64 → IsRead r (a ++ codes "+" ++ b) (m + n)
+  pub above : (r : Rules) (a b : Characters) (m n : ℕ) → r.options.no_calc ≡ false → HasNoStar a → HasNoStar b
+      → IsRead r a m → IsRead r b n → 2 ^ 64 ≤ m + n → IsRefused r (a ++ codes "+" ++ b) (Overflow None)
 
 -- how often a number is in a list
 abbrev pub times_in : ℕ → List ℕ → ℕ
@@ -185,34 +168,33 @@ AllPlus [] = ⊤
 AllPlus (operator op ∷ terminals) = (op ≡ Plus) × AllPlus terminals
 AllPlus (terminal ∷ terminals) = AllPlus terminals
 
--- If the terms of two sums have the same values, maybe in another order, and one sum is accepted, the other sum is
--- accepted too, and has the same value.
+-- By the library's own table: if the terms of two sums have the same values, maybe in another order, and one sum is
+-- accepted, the other sum is accepted too, and has the same value.
 abbrev pub Reorder : Type 0
 Reorder =
     (default_unit : Option TimeUnit) (o : Options) (a b : Characters) (lexemes others : List Characters) (nanos : ℕ)
-    → IsSentenceWith default_unit o lexemes a → IsSentenceWith default_unit o others b
-    → AllPlus (map (terminal_of o) lexemes) → AllPlus (map (terminal_of o) others)
-    → ((n : ℕ) → times_in n (map value_of_term (terms_with default_unit o lexemes))
-    ≡ times_in n (map value_of_term (terms_with default_unit o others)))
-    → IsReadWith default_unit o a nanos → IsReadWith default_unit o b nanos
+    → let r = rules_with o default_unit in
+    IsSentenceOf r lexemes a → IsSentenceOf r others b
+    → AllPlus (map (terminal_of r) lexemes) → AllPlus (map (terminal_of r) others)
+    → ((n : ℕ) → times_in n (map value_of_term (written_terms r lexemes))
+    ≡ times_in n (map value_of_term (written_terms r others)))
+    → IsRead r a nanos → IsRead r b nanos
 
 -- A text of two terms joined by `*` is read exactly if both numbers, both terms and their product are below 2^64, and
 -- it is read as that product. The product is that of the terms in seconds, rounded down to nanoseconds. If the terms
 -- are exchanged, the text is read as the same value.
 pub record TwoFactors : Type 0 where
-  pub product : (default_unit : Option TimeUnit) (o : Options) (text : Characters) (lexemes : List Characters)
-      (t u : Term) (nanos : ℕ)
-      → IsSentenceWith default_unit o lexemes text → terms_with default_unit o lexemes ≡ t ∷ u ∷ [] → u.operator ≡ Star
-      → (IsReadWith default_unit o text nanos ↔ ((t.number < 2 ^ 64) × (value_of_term t < 2 ^ 64)
+  pub product : (r : Rules) (text : Characters) (lexemes : List Characters) (t u : Term) (nanos : ℕ)
+      → IsSentenceOf r lexemes text → written_terms r lexemes ≡ t ∷ u ∷ [] → u.operator ≡ Star
+      → (IsRead r text nanos ↔ ((t.number < 2 ^ 64) × (value_of_term t < 2 ^ 64)
       × (u.number < 2 ^ 64) × (value_of_term u < 2 ^ 64)
-      × (nanos < 2 ^ 64) × (nanos ≡ value_of_term t * value_of_term u / second)))
-  pub exchanged : (default_unit : Option TimeUnit) (o : Options) (a b : Characters) (lexemes others : List Characters)
-      (t u v w : Term) (nanos : ℕ)
-      → IsSentenceWith default_unit o lexemes a → IsSentenceWith default_unit o others b
-      → terms_with default_unit o lexemes ≡ t ∷ u ∷ [] → u.operator ≡ Star
-      → terms_with default_unit o others ≡ v ∷ w ∷ [] → w.operator ≡ Star
+      × (nanos < 2 ^ 64) × (nanos ≡ value_of_term t * value_of_term u / one_second)))
+  pub exchanged : (r : Rules) (a b : Characters) (lexemes others : List Characters) (t u v w : Term) (nanos : ℕ)
+      → IsSentenceOf r lexemes a → IsSentenceOf r others b
+      → written_terms r lexemes ≡ t ∷ u ∷ [] → u.operator ≡ Star
+      → written_terms r others ≡ v ∷ w ∷ [] → w.operator ≡ Star
       → v.number ≡ u.number → v.length ≡ u.length → w.number ≡ t.number → w.length ≡ t.length
-      → IsReadWith default_unit o a nanos → IsReadWith default_unit o b nanos
+      → IsRead r a nanos → IsRead r b nanos
 
 -- the count of each length: the nanoseconds that the longer lengths leave, divided by this length and rounded down
 abbrev pub counts_of : List ℕ → ℕ → List ℕ
@@ -228,18 +210,20 @@ abbrev pub EqualTexts : Type 0
 EqualTexts = (style : Style) (m n : ℕ) (a b : Characters) → FitsDuration m → FitsDuration n
     → IsPrintedIn style m a → IsPrintedIn style n b → (a ≡ b ↔ m ≡ n)
 
--- A duration below 2^64 ns, printed in any style, is read back as itself. The text of any other duration is refused as
+-- By the library's own table, a duration below 2^64 ns, printed in any style, is read back as itself. The text of any other duration is refused as
 -- an overflow, from 585 years on in its first term.
 pub record ReadsBack : Type 0 where
   pub below : (default_unit : Option TimeUnit) (o : Options) (style : Style) (nanos : ℕ) (text : Characters)
       → nanos < 2 ^ 64
-      → IsPrintedIn style nanos text → IsReadWith default_unit o text nanos
+      → IsPrintedIn style nanos text → IsRead (rules_with o default_unit) text nanos
   pub above : (default_unit : Option TimeUnit) (o : Options) (style : Style) (nanos : ℕ) (text : Characters)
       → 2 ^ 64 ≤ nanos
-      → nanos < 585 * nanos_of Year → IsPrintedIn style nanos text → IsRefusedWith default_unit o text (Overflow None)
+      → nanos < 585 * nanos_of Year → IsPrintedIn style nanos text
+      → IsRefused (rules_with o default_unit) text (Overflow None)
   pub far_above : (default_unit : Option TimeUnit) (o : Options) (style : Style) (nanos : ℕ) (text : Characters)
       → 585 * nanos_of Year ≤ nanos
-      → FitsDuration nanos → IsPrintedIn style nanos text → IsRefusedWith default_unit o text (Overflow (Some 0))
+      → FitsDuration nanos → IsPrintedIn style nanos text
+      → IsRefused (rules_with o default_unit) text (Overflow (Some 0))
 
 -- Neither the line of a cause nor the text of a fault ends with a line feed.
 pub record LastLine : Type 0 where
@@ -257,15 +241,18 @@ pub record IsSameUnit (older row : UnitRow) : Type 0 where
 -- that was read then is read as the same value, and a text whose evaluation was refused then is refused for the same
 -- cause.
 pub record OlderTexts : Type 0 where
-  pub names : (o : Options) (name : Characters) (u : TimeUnit) → older_unit_of_word o name ≡ Some u
-      → unit_of_word o name ≡ Some u
+  pub names : (o : Options) (name : Characters) (u : TimeUnit) → unit_of_word (older_rules o) name ≡ Some u
+      → unit_of_word (rules_of o) name ≡ Some u
   pub units : (u : TimeUnit) (row : UnitRow) → older_row_of u ≡ Some row → IsSameUnit row (row_of u)
   pub terminals : (o : Options) (lexemes : List Characters) (text : Characters)
-      → WasSentenceOf o lexemes text → older_terminals o lexemes ≡ map (terminal_of o) lexemes
+      → IsSentenceOf (older_rules o) lexemes text
+      → map (terminal_of (older_rules o)) lexemes ≡ map (terminal_of (rules_of o)) lexemes
   pub sentence : (o : Options) (lexemes : List Characters) (text : Characters)
-      → WasSentenceOf o lexemes text → IsSentenceOf o lexemes text
-  pub value : (o : Options) (text : Characters) (nanos : ℕ) → WasRead o text nanos → IsRead o text nanos
-  pub cause : (o : Options) (text : Characters) (cause : Cause) → WasRefused o text cause → IsRefused o text cause
+      → IsSentenceOf (older_rules o) lexemes text → IsSentenceOf (rules_of o) lexemes text
+  pub value : (o : Options) (text : Characters) (nanos : ℕ) → IsRead (older_rules o) text nanos
+      → IsRead (rules_of o) text nanos
+  pub cause : (o : Options) (text : Characters) (cause : Cause) → WasRefused o text cause
+      → IsRefused (rules_of o) text cause
 
 -- If a format has all units and at least as many parts as there are units, a duration is printed in full.
 abbrev pub AllParts : Type 0
@@ -283,7 +270,8 @@ pub record KeepsWithin (format : Format) (nanos : ℕ) (counts : List ℕ) : Typ
 -- `most` is the greatest duration, up to `nanos`, that fits into the format.
 pub record IsMostWithin (format : Format) (nanos : ℕ) (text : Characters) (most : ℕ) : Type 0 where
   pub again : IsPrintedWithin format most text
-  pub read : (default_unit : Option TimeUnit) (o : Options) → most < 2 ^ 64 → IsReadWith default_unit o text most
+  pub read : (default_unit : Option TimeUnit) (o : Options) → most < 2 ^ 64
+      → IsRead (rules_with o default_unit) text most
   pub never_more : most ≤ nanos
   pub own : (counts : List ℕ) × KeepsWithin format most counts
   pub greatest : (between : ℕ) (counts : List ℕ) → most < between → between ≤ nanos
@@ -306,8 +294,8 @@ pub record PartsAndRest : Type 0 where
 pub record IsAdvised (o : Options) (word name : Characters) : Type 0 where
   pub unit : TimeUnit
   pub near : is_among (near_words unit) (map to_ascii_lowercase (encode_utf8_all word)) ≡ true
-  pub unread : unit_of_word o word ≡ None
-  pub read : unit_of_word o name ≡ Some unit
+  pub unread : unit_of_word (rules_of o) word ≡ None
+  pub read : unit_of_word (rules_of o) name ≡ Some unit
 
 -- Under all options, the name that is advised for a word names the unit that people mean by the word, and the word
 -- itself names no unit.

@@ -1,15 +1,14 @@
 -- The table of units from before the quarter was added, and what a text was read as with that table.
-use Rattle.std.specs.Prelude.{◌≡◌, ℕ, Bool, false, List, [], ◌∷◌, Option, Some, None, if◌then◌else◌, map, find, codes}
-use Rattle.std.specs.Option.{option_map_or}
+use Rattle.std.specs.Prelude.{◌≡◌, List, [], ◌∷◌, Option, Some, None, if◌then◌else◌, unwrap_or, codes}
 use Rattle.duration_str.specs.declared.options.Options.{Options}
-use Rattle.duration_str.specs.declared.operator.CondUnit.TheVariants.{Plus}
 use Rattle.duration_str.specs.declared.unit.TimeUnit.{TimeUnit}
 use Rattle.duration_str.specs.declared.unit.TimeUnit.TheVariants.{Year, Quarter, Month, Week, Day, Hour, Minute, Second, MilliSecond, MicroSecond, NanoSecond}
 use Rattle.duration_str.specs.declared.cause.Cause.{Cause}
 use Rattle.duration_str.specs.Text.{Characters}
-use Rattle.duration_str.specs.Units.{UnitRow, is_in_row, units}
-use Rattle.duration_str.specs.Grammar.{Terminal, terminal_by, IsSentence, Spells}
-use Rattle.duration_str.specs.Value.{Term, Evaluates, terms_by, value_of, or_else, evaluation_fault}
+use Rattle.duration_str.specs.Units.{UnitRow}
+use Rattle.duration_str.specs.Rules.{Rules}
+use Rattle.duration_str.specs.Grammar.{IsSentenceOf}
+use Rattle.duration_str.specs.Value.{Term, written_terms, or_else, evaluation_fault}
 use Rattle.duration_str.specs.Reading.{first_fault, running_fault}
 
 -- The table of units from before the quarter was added. It does not change if today's table does.
@@ -26,46 +25,22 @@ older_row_of MilliSecond = Some (record { nanos = 1_000_000; printed = codes "ms
 older_row_of MicroSecond = Some (record { nanos = 1_000; printed = codes "µs"; names = codes "µs" ∷ codes "µsec" ∷ codes "µsecond" ∷ codes "us" ∷ codes "usec" ∷ codes "usecond" ∷ codes "microsecond" ∷ codes "microseconds" ∷ []; chinese = codes "微秒" ∷ [] })
 older_row_of NanoSecond = Some (record { nanos = 1; printed = codes "ns"; names = codes "ns" ∷ codes "nsec" ∷ codes "nanosecond" ∷ codes "nanoseconds" ∷ []; chinese = codes "纳秒" ∷ [] })
 
--- a unit's length in nanoseconds by that table, or 0 for the quarter
-abbrev pub older_nanos_of : TimeUnit → ℕ
-older_nanos_of u = option_map_or (λ row. row.nanos) (older_row_of u) 0
+-- the row of a unit in that table. The quarter's row has no name, so no word named it
+abbrev pub older_table : TimeUnit → UnitRow
+older_table u = unwrap_or (older_row_of u) (record { nanos = 0; printed = []; names = []; chinese = [] })
 
--- whether the word was a name of the unit
-abbrev pub was_named : Options → Characters → TimeUnit → Bool
-was_named o word u = option_map_or (is_in_row o word) (older_row_of u) false
-
--- the unit that a word named
-abbrev pub older_unit_of_word : Options → Characters → Option TimeUnit
-older_unit_of_word o word = find (was_named o word) units
-
--- the terminals that these lexemes stood for
-abbrev pub older_terminals : Options → List Characters → List Terminal
-older_terminals o lexemes = map (terminal_by older_unit_of_word o) lexemes
-
--- the terms of a sentence of these lexemes
-abbrev pub older_terms : Options → List Characters → List Term
-older_terms o lexemes = terms_by older_nanos_of (Some Second) Plus (older_terminals o lexemes)
-
--- The lexemes were a sentence of the grammar under these options, and they spell the text.
-pub record WasSentenceOf (o : Options) (lexemes : List Characters) (text : Characters) : Type 0 where
-  pub sentence : IsSentence (Some Second) o.no_calc (older_terminals o lexemes)
-  pub spells : Spells lexemes text
-
--- The text was read as this value.
-pub record WasRead (o : Options) (text : Characters) (nanos : ℕ) : Type 0 where
-  pub lexemes : List Characters
-  pub spells : WasSentenceOf o lexemes text
-  pub evaluates : Evaluates (older_terms o lexemes)
-  pub value : value_of (older_terms o lexemes) ≡ Some nanos
+-- the rules from before the quarter was added, with these options
+abbrev pub older_rules : Options → Rules
+older_rules o = record { table = older_table; default_unit = Some Second; options = o }
 
 -- the fault of these terms. Under `no_calc` it is the first fault in adding them one by one. Otherwise it is the fault
 -- of the first term, or, if there is none, the fault of the evaluation
-abbrev pub sentence_fault : Bool → List Term → Option Cause
-sentence_fault no_calc terms =
-    if no_calc then running_fault [] terms else or_else (first_fault terms) (evaluation_fault terms)
+abbrev pub sentence_fault : Options → List Term → Option Cause
+sentence_fault o terms =
+    if o.no_calc then running_fault [] terms else or_else (first_fault terms) (evaluation_fault terms)
 
 -- A sentence spelled the text, and its evaluation was refused for this cause.
 pub record WasRefused (o : Options) (text : Characters) (cause : Cause) : Type 0 where
   pub lexemes : List Characters
-  pub spells : WasSentenceOf o lexemes text
-  pub refused : sentence_fault o.no_calc (older_terms o lexemes) ≡ Some cause
+  pub spells : IsSentenceOf (older_rules o) lexemes text
+  pub refused : sentence_fault o (written_terms (older_rules o) lexemes) ≡ Some cause

@@ -223,7 +223,8 @@ syntax_line text place expected piece =
 abbrev pub text_line : Bytes → Bytes → Bytes → Bytes
 text_line problem text help = problem ++ (codes " in " ++ (quoted (chars text) ++ help))
 
--- the line of an overflow. In a text with a `*`, only a step may be too large
+-- the line of an overflow. If the text has a `*`, a step can be too large though the value is not, so the line then
+-- speaks of a step
 abbrev pub overflow_line : Bytes → Bytes
 overflow_line text =
     if list_any (λ b. b == 42) text then text_line (codes "step of over 584 years") text []

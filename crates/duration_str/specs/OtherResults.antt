@@ -1,14 +1,12 @@
 -- The results of the other calls that read a text: values of other types, nanoseconds, the number of looks.
-use Rattle.std.specs.Prelude.{◌≡◌, ℕ, ◌≤◌, Option, Result, Ok, Err, IfOk, IfErr, IsOk, length, take, chars}
-use Rattle.duration_str.specs.declared.options.Options.{Options}
+use Rattle.std.specs.Prelude.{◌≡◌, ℕ, ◌≤◌, Result, Ok, Err, IfOk, IfErr, IsOk, length, take, chars}
 use Rattle.duration_str.specs.declared.cause.Cause.{Cause}
 use Rattle.duration_str.specs.declared.cause.Cause.TheVariants.{Syntax}
 use Rattle.duration_str.specs.declared.cause.Expected.{Expected}
-use Rattle.duration_str.specs.declared.unit.TimeUnit.{TimeUnit}
 use Rattle.duration_str.specs.declared.fault.Fault.{Fault}
 use Rattle.duration_str.specs.Text.{Bytes}
-use Rattle.duration_str.specs.Reading.{IsReadIn, IsRefusedIn}
-use Rattle.duration_str.specs.Units.{Table, row_of}
+use Rattle.duration_str.specs.Rules.{Rules}
+use Rattle.duration_str.specs.Reading.{IsRead, IsRefused}
 
 -- The result is a value for which `reads` holds, or a fault with exactly these bytes, and `refuses` holds for its
 -- cause.
@@ -16,17 +14,11 @@ abbrev pub IsValueOrFault : {T : Type 0} → (T → Type 0) → (Cause → Type 
 IsValueOrFault reads refuses bytes (Ok value) = reads value
 IsValueOrFault reads refuses bytes (Err fault) = (fault.text.now ≡ bytes) × refuses fault.cause
 
--- With this table of units, this default unit and these options the bytes are read as the nanoseconds in `Ok`, or
--- refused for the cause in `Err`.
-pub record ReadsIn (rows : Table) (default_unit : Option TimeUnit) (o : Options) (bytes : Bytes)
-    (result : Result ℕ Fault) : Type 0 where
-  pub read : IfOk result (IsReadIn rows default_unit o (chars bytes))
-  pub accepts : (nanos : ℕ) → IsReadIn rows default_unit o (chars bytes) nanos → IsOk result
-  pub refused : IfErr result (λ f. (f.text.now ≡ bytes) × IsRefusedIn rows default_unit o (chars bytes) f.cause)
-
--- `ReadsIn`, with the library's own table of units.
-abbrev pub ReadsWith : Option TimeUnit → Options → Bytes → Result ℕ Fault → Type 0
-ReadsWith = ReadsIn row_of
+-- By these rules the bytes are read as the nanoseconds in `Ok`, or refused for the cause in `Err`.
+pub record Reads (r : Rules) (bytes : Bytes) (result : Result ℕ Fault) : Type 0 where
+  pub read : IfOk result (IsRead r (chars bytes))
+  pub accepts : (nanos : ℕ) → IsRead r (chars bytes) nanos → IsOk result
+  pub refused : IfErr result (λ f. (f.text.now ≡ bytes) × IsRefused r (chars bytes) f.cause)
 
 -- If the cause is a syntax fault, there are at least as many looks as characters before its place.
 abbrev pub ReachesPlace : Bytes → Cause → ℕ → Type 0

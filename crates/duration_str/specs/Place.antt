@@ -1,46 +1,34 @@
 -- Where a text stops being the beginning of a sentence, and what could stand there.
-use Rattle.std.specs.Prelude.{◌≡◌, ℕ, ◌≤◌, Bool, Option, List, [], ◌∷◌, ◌++◌, Some, map, length, take, drop, IsTrue, ◌↔◌}
-use Rattle.duration_str.specs.declared.options.Options.{Options}
+use Rattle.std.specs.Prelude.{◌≡◌, ℕ, ◌≤◌, List, [], ◌∷◌, ◌++◌, Some, map, length, take, drop, IsTrue, ◌↔◌}
 use Rattle.duration_str.specs.declared.unit.TimeUnit.{TimeUnit}
 use Rattle.duration_str.specs.declared.operator.CondUnit.{CondUnit}
 use Rattle.duration_str.specs.declared.cause.Expected.{Expected}
 use Rattle.duration_str.specs.Text.{Characters}
-use Rattle.duration_str.specs.Grammar.{Terminal, terminal_in, IsSentence, number, word, operator}
+use Rattle.duration_str.specs.Rules.{Rules}
+use Rattle.duration_str.specs.Grammar.{Terminal, terminal_of, IsSentence, number, word, operator}
 use Rattle.duration_str.specs.Tokens.{Token, tokens_of, lexemes_of}
-use Rattle.duration_str.specs.Units.{Table, row_of}
 
--- the terminals of a text: what its tokens stand for, by this table of units
-abbrev pub terminals_in : Table → Options → Characters → List Terminal
-terminals_in rows o text = map (terminal_in rows o) (lexemes_of (tokens_of o text))
-
--- the terminals of a text
-abbrev pub terminals_of : Options → Characters → List Terminal
-terminals_of = terminals_in row_of
+-- the terminals of a text: what its tokens stand for
+abbrev pub terminals_of : Rules → Characters → List Terminal
+terminals_of r text = map (terminal_of r) (lexemes_of (tokens_of r.options text))
 
 -- Some sentence starts with these terminals.
-abbrev pub BeginsSentence : Option TimeUnit → Bool → List Terminal → Type 0
-BeginsSentence default_unit no_calc terminals =
-    (more : List Terminal) × IsSentence default_unit no_calc (terminals ++ more)
+abbrev pub BeginsSentence : Rules → List Terminal → Type 0
+BeginsSentence r terminals = (more : List Terminal) × IsSentence r (terminals ++ more)
 
 -- The front is the longest start of the terminals that begins a sentence, and the rest follows it.
-pub record IsFront (default_unit : Option TimeUnit) (no_calc : Bool) (terminals front rest : List Terminal)
-    : Type 0 where
+pub record IsFront (r : Rules) (terminals front rest : List Terminal) : Type 0 where
   pub parts : terminals ≡ front ++ rest
-  pub begins : BeginsSentence default_unit no_calc front
-  pub longest : (n : ℕ) → n ≤ length terminals → BeginsSentence default_unit no_calc (take n terminals)
-      → n ≤ length front
+  pub begins : BeginsSentence r front
+  pub longest : (n : ℕ) → n ≤ length terminals → BeginsSentence r (take n terminals) → n ≤ length front
 
 -- A kind is expected exactly if the front, followed by some terminal of this kind, begins a sentence. The end is
 -- expected exactly if the front is a sentence.
-pub record CanFollow (default_unit : Option TimeUnit) (no_calc : Bool) (front : List Terminal) (expected : Expected)
-    : Type 0 where
-  pub number_expected : IsTrue expected.number
-      ↔ ((n : ℕ) × BeginsSentence default_unit no_calc (front ++ number n ∷ []))
-  pub unit_expected : IsTrue expected.unit_word
-      ↔ ((u : TimeUnit) × BeginsSentence default_unit no_calc (front ++ word (Some u) ∷ []))
-  pub operator_expected : IsTrue expected.operator
-      ↔ ((op : CondUnit) × BeginsSentence default_unit no_calc (front ++ operator op ∷ []))
-  pub end_expected : IsTrue expected.text_end ↔ IsSentence default_unit no_calc front
+pub record CanFollow (r : Rules) (front : List Terminal) (expected : Expected) : Type 0 where
+  pub number_expected : IsTrue expected.number ↔ ((n : ℕ) × BeginsSentence r (front ++ number n ∷ []))
+  pub unit_expected : IsTrue expected.unit_word ↔ ((u : TimeUnit) × BeginsSentence r (front ++ word (Some u) ∷ []))
+  pub operator_expected : IsTrue expected.operator ↔ ((op : CondUnit) × BeginsSentence r (front ++ operator op ∷ []))
+  pub end_expected : IsTrue expected.text_end ↔ IsSentence r front
 
 -- the byte at which the first token starts, or `len` if there is none
 abbrev pub start_or : ℕ → List Token → ℕ

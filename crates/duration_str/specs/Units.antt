@@ -1,8 +1,5 @@
 -- The units: their lengths, the names that are printed, and the names that are read.
-use Rattle.std.specs.Prelude.{ℕ, Bool, ◌&&◌, ◌||◌, List, [], ◌∷◌, Option, if◌then◌else◌, map, bytes_eq, codes, count_by, nat_lt}
-use Rattle.std.specs.Char.{to_ascii_lowercase}
-use Rattle.std.specs.List.{list_any, find}
-use Rattle.duration_str.specs.declared.options.Options.{Options}
+use Rattle.std.specs.Prelude.{ℕ, List, [], ◌∷◌, map, codes, count_by, nat_lt}
 use Rattle.duration_str.specs.declared.unit.TimeUnit.{TimeUnit}
 use Rattle.duration_str.specs.declared.unit.TimeUnit.TheVariants.{Year, Quarter, Month, Week, Day, Hour, Minute, Second, MilliSecond, MicroSecond, NanoSecond}
 use Rattle.duration_str.specs.Text.{Characters}
@@ -33,17 +30,9 @@ row_of NanoSecond = record { nanos = 1; printed = codes "ns"; names = codes "ns"
 abbrev pub units : List TimeUnit
 units = Year ∷ Quarter ∷ Month ∷ Week ∷ Day ∷ Hour ∷ Minute ∷ Second ∷ MilliSecond ∷ MicroSecond ∷ NanoSecond ∷ []
 
--- A table of units. Texts are read by the table above, except where another one is named.
-abbrev pub Table : Type 0
-Table = TimeUnit → UnitRow
-
--- the length of a unit in nanoseconds, by this table
-abbrev pub nanos_in : Table → TimeUnit → ℕ
-nanos_in rows u = (rows u).nanos
-
 -- the length of a unit in nanoseconds
 abbrev pub nanos_of : TimeUnit → ℕ
-nanos_of = nanos_in row_of
+nanos_of u = (row_of u).nanos
 
 -- how many units are longer than this one
 abbrev pub rank_of : TimeUnit → ℕ
@@ -52,29 +41,3 @@ rank_of u = count_by (λ v. nat_lt (nanos_of u) (nanos_of v)) units
 -- the lengths of the units, the longest first
 abbrev pub unit_lengths : List ℕ
 unit_lengths = map nanos_of units
-
--- the word as compared with the names: its ASCII capitals become small letters, unless `lowercase` is on
-abbrev pub comparison_form : Options → Characters → Characters
-comparison_form o word = if o.lowercase then word else map to_ascii_lowercase word
-
--- whether the word is a name in the row
-abbrev pub is_in_row : Options → Characters → UnitRow → Bool
-is_in_row o word row =
-    list_any (bytes_eq (comparison_form o word)) row.names
-    || (o.cn_unit && list_any (bytes_eq (comparison_form o word)) row.chinese)
-
--- whether the word is a name of the unit, by this table
-abbrev pub is_named_in : Table → Options → Characters → TimeUnit → Bool
-is_named_in rows o word u = is_in_row o word (rows u)
-
--- whether the word is a name of the unit
-abbrev pub is_named : Options → Characters → TimeUnit → Bool
-is_named = is_named_in row_of
-
--- the unit that a word names, by this table
-abbrev pub unit_in : Table → Options → Characters → Option TimeUnit
-unit_in rows o word = find (is_named_in rows o word) units
-
--- the unit that a word names
-abbrev pub unit_of_word : Options → Characters → Option TimeUnit
-unit_of_word = unit_in row_of

@@ -1,16 +1,15 @@
 -- The terms of a sentence, their value, and their faults.
 use Rattle.std.specs.Prelude.{◌≡◌, ℕ, ◌+◌, ◌*◌, ◌/◌, ◌^◌, Bool, true, false, List, [], ◌∷◌, ◌++◌, Option, Some, None, if◌then◌else◌, nat_lt, map, unwrap_or}
 use Rattle.std.specs.List.{list_all, fold}
-use Rattle.duration_str.specs.declared.options.Options.{Options}
-use Rattle.duration_str.specs.declared.unit.TimeUnit.{TimeUnit}
 use Rattle.duration_str.specs.declared.unit.TimeUnit.TheVariants.{Second}
 use Rattle.duration_str.specs.declared.operator.CondUnit.{CondUnit}
 use Rattle.duration_str.specs.declared.operator.CondUnit.TheVariants.{Plus, Star}
 use Rattle.duration_str.specs.declared.cause.Cause.{Cause}
 use Rattle.duration_str.specs.declared.cause.Cause.TheVariants.{NumberTooLarge, Overflow, Mixed}
 use Rattle.duration_str.specs.Text.{Characters}
-use Rattle.duration_str.specs.Units.{Table, row_of, nanos_in, nanos_of}
-use Rattle.duration_str.specs.Grammar.{Terminal, number, word, operator, terminal_in}
+use Rattle.duration_str.specs.Units.{nanos_of}
+use Rattle.duration_str.specs.Rules.{Rules}
+use Rattle.duration_str.specs.Grammar.{Terminal, number, word, operator, terminal_of}
 
 -- a term: the operator before it, its number, and its unit's length in nanoseconds
 pub record Term : Type 0 where
@@ -22,45 +21,28 @@ pub record Term : Type 0 where
 abbrev pub value_of_term : Term → ℕ
 value_of_term t = t.number * t.length
 
--- the length of a second
-abbrev pub second : ℕ
-second = nanos_of Second
+-- the length of the unit `Second`
+abbrev pub one_second : ℕ
+one_second = nanos_of Second
 
--- the terms that these terminals write, with these lengths of the units. `op` is the operator before the first term. If
--- an operator is left out, it is plus. If a unit is left out, it is the default unit. Without a default unit no
--- sentence leaves a unit out, so the second is never used
-abbrev pub terms_by : (TimeUnit → ℕ) → Option TimeUnit → CondUnit → List Terminal → List Term
-terms_by length_of default_unit op (number n ∷ word (Some u) ∷ more) =
-    record { operator = op; number = n; length = length_of u } ∷ terms_by length_of default_unit Plus more
-terms_by length_of default_unit op (number n ∷ more) =
-    record { operator = op; number = n; length = length_of (unwrap_or default_unit Second) }
-    ∷ terms_by length_of default_unit Plus more
-terms_by length_of default_unit op (operator next ∷ more) = terms_by length_of default_unit next more
-terms_by length_of default_unit op _ = []
+-- the terms that these terminals write after the operator `op`. If an operator is left out, it is plus. If a unit is
+-- left out, it is the default unit. Without a default unit no sentence leaves a unit out, so the second is never used
+abbrev pub terms_after : Rules → CondUnit → List Terminal → List Term
+terms_after r op (number n ∷ word (Some u) ∷ more) =
+    record { operator = op; number = n; length = (r.table u).nanos } ∷ terms_after r Plus more
+terms_after r op (number n ∷ more) =
+    record { operator = op; number = n; length = (r.table (unwrap_or r.default_unit Second)).nanos }
+    ∷ terms_after r Plus more
+terms_after r op (operator next ∷ more) = terms_after r next more
+terms_after r op _ = []
 
--- the terms that these terminals write after the operator `op`, by this table of units
-abbrev pub terms_after : Table → Option TimeUnit → CondUnit → List Terminal → List Term
-terms_after rows default_unit op terminals = terms_by (nanos_in rows) default_unit op terminals
+-- the terms of a sentence. The operator of the first term is plus, and means nothing
+abbrev pub terms_of : Rules → List Terminal → List Term
+terms_of r terminals = terms_after r Plus terminals
 
--- the terms of a sentence, by this table of units. The operator of the first term is plus, and means nothing
-abbrev pub terms_in : Table → Option TimeUnit → List Terminal → List Term
-terms_in rows default_unit terminals = terms_after rows default_unit Plus terminals
-
--- the terms of a sentence
-abbrev pub terms_of : Option TimeUnit → List Terminal → List Term
-terms_of = terms_in row_of
-
--- the terms that the lexemes of a sentence write, with this table and this default unit
-abbrev pub terms_written : Table → Option TimeUnit → Options → List Characters → List Term
-terms_written rows default_unit o lexemes = terms_in rows default_unit (map (terminal_in rows o) lexemes)
-
--- `terms_written`, with the library's own table of units
-abbrev pub terms_with : Option TimeUnit → Options → List Characters → List Term
-terms_with = terms_written row_of
-
--- `terms_with`, with the second as the default unit
-abbrev pub written_terms : Options → List Characters → List Term
-written_terms o lexemes = terms_with (Some Second) o lexemes
+-- the terms that the lexemes of a sentence write
+abbrev pub written_terms : Rules → List Characters → List Term
+written_terms r lexemes = terms_of r (map (terminal_of r) lexemes)
 
 -- whether two operators are the same
 abbrev pub is_same_operator : CondUnit → CondUnit → Bool
@@ -76,7 +58,7 @@ sum_of (t ∷ terms) = value_of_term t + sum_of terms
 -- the product of the terms' values in seconds, in nanoseconds. It is computed from left to right, and each step is
 -- rounded down
 abbrev pub product_of : List Term → ℕ
-product_of terms = fold (λ p t. p * value_of_term t / second) second terms
+product_of terms = fold (λ p t. p * value_of_term t / one_second) one_second terms
 
 -- the total of the later terms: their sum or their product
 abbrev pub later_total : CondUnit → List Term → ℕ
@@ -86,7 +68,7 @@ later_total Star later = product_of later
 -- `x` and `rest` combined: their sum, or their product in seconds, rounded down to nanoseconds
 abbrev pub combination : CondUnit → ℕ → ℕ → ℕ
 combination Plus x rest = x + rest
-combination Star x rest = x * rest / second
+combination Star x rest = x * rest / one_second
 
 -- the value of a sentence in nanoseconds, given its terms. It is `None` if there are no terms, or if the operators are
 -- mixed. The first term is combined last: in `a*b*c` it is multiplied by the product of `b` and `c`, which is rounded

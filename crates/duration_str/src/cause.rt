@@ -4,9 +4,10 @@ ghost use Rattle.std.specs.Prelude.{◌≡◌, encode_utf8_all};
 ghost use Rattle.duration_str.specs.Answer.{expected_at_start, expected_after_number, expected_after_unit};
 ghost use Rattle.duration_str.specs.Faults.{place_of};
 ghost use Rattle.duration_str.specs.Messages.{line_of};
+ghost use Rattle.duration_str.specs.Internal.UnitTable.{meaning_of};
 
 use crate::operator::CondUnit;
-use crate::unit::TimeUnit;
+use crate::settings::Settings;
 
 /// What could stand at the place of a syntax fault. Each field says whether one kind of item could stand there.
 ///
@@ -43,25 +44,25 @@ impl Expected {
     }
 
     #[inline(always)]
-    pub(crate) fn after_number(no_calc: bool, default_unit: Option<TimeUnit>) -> Expected
-        ensures { result ≡ expected_after_number default_unit no_calc }
+    pub(crate) fn after_number(settings: Settings) -> Expected
+        ensures { result ≡ expected_after_number (meaning_of settings) }
     {
         Expected {
             number: false,
             unit_word: true,
-            operator: default_unit.is_some() && !no_calc,
-            text_end: default_unit.is_some(),
+            operator: settings.default_unit.is_some() && !settings.options.no_calc,
+            text_end: settings.default_unit.is_some(),
         }
     }
 
     #[inline(always)]
-    pub(crate) fn after_unit(no_calc: bool) -> Expected
-        ensures { result ≡ expected_after_unit no_calc }
+    pub(crate) fn after_unit(settings: Settings) -> Expected
+        ensures { result ≡ expected_after_unit (meaning_of settings) }
     {
         Expected {
             number: true,
             unit_word: false,
-            operator: !no_calc,
+            operator: !settings.options.no_calc,
             text_end: true,
         }
     }

@@ -1,6 +1,5 @@
 //! The names and lengths of the units of the crate humantime, with the library's own names added.
 ghost use Rattle.std.specs.Prelude.{◌≡◌};
-ghost use Rattle.duration_str.specs.Units.{nanos_in};
 ghost use Rattle.duration_str.specs.Humantime.{humantime_row_of};
 ghost use Rattle.duration_str.specs.Internal.UnitTable.{unit_of_packed};
 
@@ -13,7 +12,7 @@ use crate::unit::TimeUnit::{
 /// The unit's length in nanoseconds.
 #[inline(always)]
 pub(crate) fn nanos(unit: TimeUnit) -> u64
-    ensures { result ≡ nanos_in humantime_row_of unit }
+    ensures { result ≡ (humantime_row_of unit).nanos }
 {
     match unit {
         Year => 31_557_600_000_000_000,

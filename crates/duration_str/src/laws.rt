@@ -1,17 +1,15 @@
 //! Laws about the definitions. Each function does nothing, and its contract states a law, which is
 //! proved.
-ghost use Rattle.duration_str.specs.Humantime.{humantime_row_of};
-ghost use Rattle.duration_str.specs.Laws.{OneSentence, OneCut, OneReading, OneReadingIn, AnswerIsReading, PlaceAndKinds, NoCalcAgrees, OptionsIdle, BlanksFree, SumOfTexts, Reorder, TwoFactors, GreatestBreakdown, EqualTexts, ReadsBack, LastLine, OlderTexts, AllParts, NeverMore, PartsAndRest, NearWords};
+ghost use Rattle.duration_str.specs.Laws.{OneSentence, OneCut, OneReading, AnswerIsReading, PlaceAndKinds, NoCalcAgrees, OptionsIdle, BlanksFree, SumOfTexts, Reorder, TwoFactors, GreatestBreakdown, EqualTexts, ReadsBack, LastLine, OlderTexts, AllParts, NeverMore, PartsAndRest, NearWords};
 
 /// At most one sentence spells a text, and the lexemes of that sentence are those of the text's tokens. Each text is
-/// either read as one value or refused for one cause, also by humantime's units, and the computed answer says which. So
-/// `3m31s` is spelled by `3`, `m`, `31`, `s` and by no other sentence, and is read as 211 seconds.
+/// either read as one value or refused for one cause, and the computed answer says which. So `3m31s` is spelled by `3`,
+/// `m`, `31`, `s` and by no other sentence, and is read as 211 seconds.
 #[tactic(auto, using(crate::proofs::LawProofs::OneSentence::each_holds))]
 pub fn one_sentence()
     ensures sentence { OneSentence }
     ensures tokens { OneCut }
     ensures reading { OneReading }
-    ensures humantime { OneReadingIn humantime_row_of }
     ensures computed { AnswerIsReading }
 {}
 

@@ -21,6 +21,7 @@ pub mod parser;
 pub mod printing;
 mod reader;
 mod report;
+mod settings;
 mod signed;
 mod table;
 mod term;

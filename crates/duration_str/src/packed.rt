@@ -17,7 +17,7 @@ use crate::unit::TimeUnit::{
 };
 
 impl TimeUnit {
-    ghost use Rattle.duration_str.specs.Units.{is_named, unit_of_word};
+    ghost use Rattle.duration_str.specs.Rules.{is_named, rules_of, unit_of_word};
 
     /// Returns the unit that a word names under these options, if any. No word names two units.
     ///
@@ -29,9 +29,9 @@ impl TimeUnit {
     #[tactic(auto, using(crate::proofs::Characters::UnitLemmas::named_unit))]
     #[must_use]
     pub fn from_word(word: &str, o: Options) -> Option<TimeUnit>
-        ensures unit { result ≡ unit_of_word o (chars word.now) }
-        ensures only { (unit : TimeUnit) → is_named o (chars word.now) unit ≡ true
-            → unit_of_word o (chars word.now) ≡ Some unit }
+        ensures unit { result ≡ unit_of_word (rules_of o) (chars word.now) }
+        ensures only { (unit : TimeUnit) → is_named (rules_of o) (chars word.now) unit ≡ true
+            → unit_of_word (rules_of o) (chars word.now) ≡ Some unit }
     {
         if word.len() > MOST_BYTES {
             return None;

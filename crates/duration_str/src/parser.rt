@@ -1,17 +1,18 @@
 //! Reading: the duration that a text means, or why it means none.
 ghost use Rattle.std.specs.Prelude.{◌≡◌, ◌≤◌, length, Some, None, IfErr, OnOk};
 ghost use Rattle.std.specs.Str.{chars};
-ghost use Rattle.duration_str.specs.Results.{ParsesText, ParsesWith};
-ghost use Rattle.duration_str.specs.OtherResults.{ReadsIn, ReadsWith, ReachesPlace};
-ghost use Rattle.duration_str.specs.Humantime.{humantime_row_of};
-ghost use Rattle.duration_str.specs.Internal.UnitTable.{rows_of};
+ghost use Rattle.duration_str.specs.Rules.{rules_of, rules_with};
+ghost use Rattle.duration_str.specs.Results.{Parses};
+ghost use Rattle.duration_str.specs.OtherResults.{Reads, ReachesPlace};
+ghost use Rattle.duration_str.specs.Humantime.{humantime_rules};
+ghost use Rattle.duration_str.specs.Internal.UnitTable.{meaning_of};
 ghost use Rattle.duration_str.specs.Options.{off};
-ghost use Rattle.duration_str.specs.declared.unit.TimeUnit.TheVariants.{Second};
 
 pub use crate::cause::{Cause, Expected};
 pub use crate::fault::Fault;
 use crate::options::Options;
 use crate::reader::read;
+use crate::settings::Settings;
 use crate::table::UnitTable;
 use crate::token::Tokens;
 use crate::unit::TimeUnit;
@@ -36,7 +37,7 @@ use std::time::Duration;
 /// ```
 #[inline]
 pub fn parse(input: &str) -> Result<Duration, Fault<'_>>
-    ensures { ParsesText off input.now result }
+    ensures { Parses (rules_of off) input.now result }
 {
     parse_with(input, Options::off())
 }
@@ -51,7 +52,7 @@ pub fn parse(input: &str) -> Result<Duration, Fault<'_>>
 /// assert_eq!(duration_str::parse_std("2h 37m").unwrap().as_secs(), 9_420);
 /// ```
 pub fn parse_std(input: &str) -> Result<Duration, Fault<'_>>
-    ensures { ParsesText off input.now result }
+    ensures { Parses (rules_of off) input.now result }
 {
     parse(input)
 }
@@ -86,7 +87,7 @@ pub fn parse_std(input: &str) -> Result<Duration, Fault<'_>>
 /// ```
 #[inline]
 pub fn parse_with(input: &str, o: Options) -> Result<Duration, Fault<'_>>
-    ensures { ParsesText o input.now result }
+    ensures { Parses (rules_of o) input.now result }
 {
     parse_with_default_unit(input, o, Some(TimeUnit::Second))
 }
@@ -117,15 +118,15 @@ pub fn parse_with_default_unit(
     o: Options,
     default_unit: Option<TimeUnit>,
 ) -> Result<Duration, Fault<'_>>
-    ensures { ParsesWith default_unit o input.now result }
+    ensures { Parses (rules_with o default_unit) input.now result }
 {
     parse_nanos(input, o, default_unit).map(Duration::from_nanos)
 }
 
 /// Reads a text as `parse_with_default_unit` does, and returns the duration in nanoseconds.
 ///
-/// If all options are off and the default unit is the second, it calls a copy of the reader that is compiled for this
-/// case, and is faster.
+/// The reader is compiled twice: once for the case that all options are off and the default unit is the second, which
+/// is faster, and once for all other cases.
 ///
 /// # Errors
 ///
@@ -140,7 +141,7 @@ pub fn parse_nanos(
     o: Options,
     default_unit: Option<TimeUnit>,
 ) -> Result<u64, Fault<'_>>
-    ensures { ReadsWith default_unit o input.now result }
+    ensures { Reads (rules_with o default_unit) input.now result }
 {
     if o.are_off() && default_unit == Some(TimeUnit::Second) {
         return nanos_off(input);
@@ -150,22 +151,20 @@ pub fn parse_nanos(
 
 #[inline(never)]
 fn nanos_off(input: &str) -> Result<u64, Fault<'_>>
-    ensures { ReadsWith (Some Second) off input.now result }
+    ensures { Reads (rules_of off) input.now result }
 {
     parse_nanos_specialized(input, Options::off(), Some(TimeUnit::Second))
 }
 
 #[inline(never)]
 fn nanos_chosen(input: &str, o: Options, default_unit: Option<TimeUnit>) -> Result<u64, Fault<'_>>
-    ensures { ReadsWith default_unit o input.now result }
+    ensures { Reads (rules_with o default_unit) input.now result }
 {
     parse_nanos_specialized(input, o, default_unit)
 }
 
-/// Returns what `parse_nanos` returns. For each call in the source, the compiler makes a copy of the reader.
-///
-/// If the compiler knows the options of a call, it makes that copy for these options alone, which is faster. Each copy
-/// adds 3 to 6 kB to the program.
+/// Returns what `parse_nanos` returns. The whole reader is compiled into each place in the source that calls this, and
+/// adds 3 to 6 kB to the program there. It is faster if the compiler knows the options of the call.
 ///
 /// # Errors
 ///
@@ -180,9 +179,9 @@ pub fn parse_nanos_specialized(
     o: Options,
     default_unit: Option<TimeUnit>,
 ) -> Result<u64, Fault<'_>>
-    ensures { ReadsWith default_unit o input.now result }
+    ensures { Reads (rules_with o default_unit) input.now result }
 {
-    read_text(input, UnitTable::Own, o, default_unit).0
+    read_text(input, Settings::with(o, default_unit)).0
 }
 
 /// Reads a text by the names and the lengths of the units of the crate humantime, and returns the duration in
@@ -190,7 +189,7 @@ pub fn parse_nanos_specialized(
 ///
 /// A month has 30.44 days and a year 365.25. Each number needs a unit. The library's own names are read too, and `+` and
 /// `*`. For humantime's texts turn on `lowercase`, so that `1M` is a month and `1m` a minute. As with
-/// `parse_nanos_specialized`, the compiler makes a copy of the reader for each call in the source.
+/// `parse_nanos_specialized`, the whole reader is compiled into each place in the source that calls this.
 ///
 /// # Errors
 ///
@@ -203,9 +202,14 @@ pub fn parse_nanos_specialized(
 /// ```
 #[inline(always)]
 pub fn parse_humantime_specialized(input: &str, o: Options) -> Result<u64, Fault<'_>>
-    ensures { ReadsIn humantime_row_of None o input.now result }
+    ensures { Reads (humantime_rules o) input.now result }
 {
-    read_text(input, UnitTable::Humantime, o, None).0
+    let settings = Settings {
+        table: UnitTable::Humantime,
+        default_unit: None,
+        options: o,
+    };
+    read_text(input, settings).0
 }
 
 /// Returns what `parse_with` returns, and how many times a character of the text was looked at.
@@ -218,23 +222,18 @@ pub fn parse_humantime_specialized(input: &str, o: Options) -> Result<u64, Fault
 /// parse_looked("3m 13s", Options::off()) // (Ok(Duration::from_secs(193)), 6)
 /// ```
 pub fn parse_looked(input: &str, o: Options) -> (Result<Duration, Fault<'_>>, u64)
-    ensures parsed { ParsesText o input.now result.0 }
+    ensures parsed { Parses (rules_of o) input.now result.0 }
     ensures once { result.1 ≤ length (chars input.now) }
     ensures whole { OnOk result.0 (result.1 ≡ length (chars input.now)) }
     ensures reaches { IfErr result.0 (λ f. ReachesPlace input.now f.cause result.1) }
 {
-    let (answer, looks) = read_text(input, UnitTable::Own, o, Some(TimeUnit::Second));
+    let (answer, looks) = read_text(input, Settings::of(o));
     (answer.map(Duration::from_nanos), looks)
 }
 
 #[inline(always)]
-fn read_text(
-    input: &str,
-    table: UnitTable,
-    o: Options,
-    default_unit: Option<TimeUnit>,
-) -> (Result<u64, Fault<'_>>, u64)
-    ensures reads { ReadsIn (rows_of table) default_unit o input.now result.0 }
+fn read_text(input: &str, settings: Settings) -> (Result<u64, Fault<'_>>, u64)
+    ensures reads { Reads (meaning_of settings) input.now result.0 }
     ensures once { result.1 ≤ length (chars input.now) }
     ensures whole { OnOk result.0 (result.1 ≡ length (chars input.now)) }
     ensures reaches { IfErr result.0 (λ f. ReachesPlace input.now f.cause result.1) }
@@ -246,8 +245,8 @@ fn read_text(
         };
         return (Err(fault), 0);
     }
-    let mut tokens = Tokens::new(input, o);
-    match read(&mut tokens, table, o.no_calc, default_unit) {
+    let mut tokens = Tokens::new(input, settings.options);
+    match read(&mut tokens, settings) {
         Ok(nanos) => (Ok(nanos), tokens.looked()),
         Err(cause) => (Err(Fault { text: input, cause }), tokens.looked()),
     }

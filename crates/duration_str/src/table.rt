@@ -1,8 +1,7 @@
 //! The tables of units by which a text can be read: the names of the units, their lengths, and the values of terms.
 ghost use Rattle.std.specs.Prelude.{◌≡◌};
 ghost use Rattle.duration_str.specs.Internal.Numbers.{checked_term};
-ghost use Rattle.duration_str.specs.Units.{nanos_in};
-ghost use Rattle.duration_str.specs.Internal.UnitTable.{rows_of, unit_of_packed};
+ghost use Rattle.duration_str.specs.Internal.UnitTable.{table_of, unit_of_packed};
 
 use crate::cause::Cause;
 use crate::humantime;
@@ -22,7 +21,7 @@ impl UnitTable {
     /// The unit with a name that packs to this number.
     #[inline(always)]
     pub(crate) fn unit_of_packed(self, packed: u64) -> Option<TimeUnit>
-        ensures { result ≡ unit_of_packed (rows_of self) packed }
+        ensures { result ≡ unit_of_packed (table_of self) packed }
     {
         match self {
             UnitTable::Own => unit_of_packed(packed),
@@ -33,7 +32,7 @@ impl UnitTable {
     /// The unit's length in nanoseconds.
     #[inline(always)]
     pub(crate) fn nanos(self, unit: TimeUnit) -> u64
-        ensures { result ≡ nanos_in (rows_of self) unit }
+        ensures { result ≡ (table_of self unit).nanos }
     {
         match self {
             UnitTable::Own => unit.nanos(),
@@ -50,7 +49,7 @@ impl UnitTable {
         number: Option<u64>,
         place: Option<usize>,
     ) -> Result<u64, Cause>
-        ensures { result ≡ checked_term place number (nanos_in (rows_of self) unit) }
+        ensures { result ≡ checked_term place number (table_of self unit).nanos }
     {
         let Some(n) = number else {
             return Err(Cause::NumberTooLarge { place });

@@ -8,8 +8,8 @@ ghost use Rattle.duration_str.specs.Text.{is_blank, is_digit, is_unit_letter, nu
 ghost use Rattle.duration_str.specs.Internal.Positions.{ahead, Stands, StandsAt, Passes, Stops, TakesDigits, TakesLetters};
 ghost use Rattle.duration_str.specs.Tokens.{tokens_of};
 ghost use Rattle.duration_str.specs.Value.{fits};
-ghost use Rattle.duration_str.specs.Units.{row_of};
-ghost use Rattle.duration_str.specs.Internal.UnitTable.{rows_of};
+ghost use Rattle.duration_str.specs.Rules.{rules_of};
+ghost use Rattle.duration_str.specs.Internal.UnitTable.{meaning_of};
 ghost use Rattle.duration_str.specs.declared.token.TokenStart.{TokenStart};
 ghost use Rattle.duration_str.specs.declared.token.TokenStart.TheVariants.{Number as a_number, Word as a_word};
 
@@ -19,7 +19,7 @@ use crate::options::Options;
 use crate::packed::{
     MODULUS, MOST_BYTES, first_number, is_unit_letter, letter_number, with_letter,
 };
-use crate::table::UnitTable;
+use crate::settings::Settings;
 use crate::unit::TimeUnit;
 
 /// What a token is: a number, a word with the unit that it names, an operator, or another character.
@@ -258,31 +258,32 @@ impl<'a> Tokens<'a> {
         packed
     }
 
-    /// Takes the word ahead. Returns the unit that it names in this table, if any.
+    /// Takes the word ahead. Returns the unit that it names by these settings, if any.
     #[inline(always)]
-    pub(crate) fn take_word(&mut self, table: UnitTable) -> Option<TimeUnit>
+    pub(crate) fn take_word(&mut self, settings: Settings) -> Option<TimeUnit>
         requires { IsAhead self.old (Some a_word) }
-        ensures { TakesToken (rows_of table) self.old self.new (word result) }
+        ensures { TakesToken (meaning_of settings) self.old self.new (word result) }
     {
         let start = self.eye.place();
         let packed = self.take_letters();
         if self.eye.place() - start > MOST_BYTES {
             return None;
         }
-        table.unit_of_packed(packed)
+        settings.table.unit_of_packed(packed)
     }
 
     #[inline(always)]
     fn take_token(&mut self, sort: TokenStart) -> What
         requires { IsAhead self.old (Some sort) }
-        ensures { TakesTokenWith row_of self.old self.new (λ terminal. result ≡ what_of terminal) }
+        ensures { TakesTokenWith (rules_of (options_of self.old))
+            self.old self.new (λ terminal. result ≡ what_of terminal) }
     {
         match sort {
             TokenStart::Number => {
                 let _ = self.take_number();
                 What::Number
             }
-            TokenStart::Word => What::Word(self.take_word(UnitTable::Own)),
+            TokenStart::Word => What::Word(self.take_word(Settings::of(self.options))),
             TokenStart::Operator(operator) => {
                 self.advance();
                 What::Operator(operator)

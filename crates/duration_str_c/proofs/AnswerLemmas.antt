@@ -6,18 +6,19 @@ use Rattle.duration_str.specs.declared.unit.TimeUnit.{TimeUnit}
 use Rattle.std.specs.Str.{chars}
 use Rattle.duration_str.specs.declared.options.Options.{Options}
 use Rattle.duration_str.specs.declared.cause.Cause.{Cause}
+use Rattle.duration_str.specs.Reading.{IsRead, IsRefused}
 use Rattle.duration_str_c.specs.declared.answer.Answer.{Answer}
-use Rattle.duration_str_c.specs.Answers.{AreOptions, IsAnswerTo, IsReadBy, IsRefusedBy, options_of_bits, TellsFault, value_answer}
+use Rattle.duration_str_c.specs.Answers.{AreOptions, IsAnswerTo, options_of_bits, rules_of_bits, TellsFault, value_answer}
 use Rattle.duration_str_c.specs.Messages.{IsSaidOf, IsShown, ShowsRefusal}
 
 -- ---- An answer to one text is right for an equal text
 
 pub value_answers : (bits nanos : ℕ) (bytes same : List ℕ) (answer : Answer) → AreOptions bits → IsUtf8 same
-    → bytes ≡ same → IsReadBy bits (chars bytes) nanos → answer ≡ value_answer nanos → IsAnswerTo bits same answer
+    → bytes ≡ same → IsRead (rules_of_bits bits) (chars bytes) nanos → answer ≡ value_answer nanos → IsAnswerTo bits same answer
 value_answers bits nanos bytes same answer known utf8 e read is = inr (inr (inl (known, utf8, nanos, rw e at read, is)))
 
 pub refusal_answers : (o : Options) (bits : ℕ) (bytes same : List ℕ) (cause : Cause) (answer : Answer)
-    → AreOptions bits → IsUtf8 same → o ≡ options_of_bits bits → bytes ≡ same → IsRefusedBy bits (chars same) cause
+    → AreOptions bits → IsUtf8 same → o ≡ options_of_bits bits → bytes ≡ same → IsRefused (rules_of_bits bits) (chars same) cause
     → TellsFault o bytes cause answer → IsAnswerTo bits same answer
 refusal_answers o bits bytes same cause answer known utf8 e f refused tells =
     inr (inr (inr (

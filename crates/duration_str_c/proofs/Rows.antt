@@ -4,7 +4,8 @@ use Rattle.std.proofs.Common.{◌≡◌, ◌+◌, ◌∷◌, [], codes, false, n
 use Rattle.duration_str.specs.Options.{off}
 use Rattle.duration_str.specs.declared.unit.TimeUnit.TheVariants.{Day, Hour, MilliSecond, NanoSecond, Second, Year}
 use Rattle.duration_str.specs.Breakdown.{parts_in, sum_of_parts}
-use Rattle.duration_str.specs.Units.{unit_of_word, units}
+use Rattle.duration_str.specs.Rules.{rules_of, unit_of_word}
+use Rattle.duration_str.specs.Units.{units}
 use Rattle.duration_str_c.specs.Answers.{are_options, default_unit_of_bits}
 use Rattle.duration_str_c.specs.Breakdown.{counts_of}
 use Rattle.duration_str_c.specs.Units.{number_of}
@@ -41,12 +42,12 @@ pub record UnitNumbers : Type 0 where
   pub second : number_of (Some Second) ≡ pos 7
   pub nanosecond : number_of (Some NanoSecond) ≡ pos 10
   pub none : number_of None ≡ negsuc 0
-  pub name : number_of (unit_of_word off (codes "hours")) ≡ pos 5
-  pub name-capitals : number_of (unit_of_word off (codes "MIN")) ≡ pos 6
-  pub name-chinese : number_of (unit_of_word off (codes "年")) ≡ negsuc 0
-  pub name-empty : number_of (unit_of_word off (codes "")) ≡ negsuc 0
-  pub name-blank : number_of (unit_of_word off (codes " h")) ≡ negsuc 0
-  pub name-number : number_of (unit_of_word off (codes "1h")) ≡ negsuc 0
+  pub name : number_of (unit_of_word (rules_of off) (codes "hours")) ≡ pos 5
+  pub name-capitals : number_of (unit_of_word (rules_of off) (codes "MIN")) ≡ pos 6
+  pub name-chinese : number_of (unit_of_word (rules_of off) (codes "年")) ≡ negsuc 0
+  pub name-empty : number_of (unit_of_word (rules_of off) (codes "")) ≡ negsuc 0
+  pub name-blank : number_of (unit_of_word (rules_of off) (codes " h")) ≡ negsuc 0
+  pub name-number : number_of (unit_of_word (rules_of off) (codes "1h")) ≡ negsuc 0
 
 pub unit_numbers : UnitNumbers
 unit_numbers = assumption

@@ -15,7 +15,8 @@ use Rattle.duration_str.specs.Faults.{place_of, found_token}
 use Rattle.duration_str.specs.declared.unit.TimeUnit.{TimeUnit}
 use Rattle.duration_str.specs.declared.unit.TimeUnit.TheVariants.{Second}
 use Rattle.duration_str.specs.Units.{units}
-use Rattle.duration_str.specs.Reading.{IsReadWith, IsRefusedWith}
+use Rattle.duration_str.specs.Rules.{Rules, rules_with}
+use Rattle.duration_str.specs.Reading.{IsRead, IsRefused}
 use Rattle.duration_str_c.specs.declared.answer.Answer.{Answer}
 
 -- whether the bits have this flag
@@ -50,6 +51,10 @@ default_unit_of_bits bits =
     if has_flag bits 8 then None
     else if unit_field bits == 0 then Some Second
     else slice_get units (unit_field bits - 1)
+
+-- the rules that the bits stand for
+abbrev pub rules_of_bits : ℕ → Rules
+rules_of_bits bits = rules_with (options_of_bits bits) (default_unit_of_bits bits)
 
 -- the number of a cause
 abbrev pub cause_number : Cause → ℕ
@@ -138,22 +143,14 @@ TellsFault o bytes cause answer =
     (answer ≡ refusal_answer cause (token_length (found_token o (chars bytes) cause)))
     × ForSome (place_of cause) (IsCharBoundary bytes)
 
--- The text is read as this value under the options whose bits are set.
-abbrev pub IsReadBy : ℕ → List ℕ → ℕ → Type 0
-IsReadBy bits text nanos = IsReadWith (default_unit_of_bits bits) (options_of_bits bits) text nanos
-
--- The text is refused for this cause under the options whose bits are set.
-abbrev pub IsRefusedBy : ℕ → List ℕ → Cause → Type 0
-IsRefusedBy bits text cause = IsRefusedWith (default_unit_of_bits bits) (options_of_bits bits) text cause
-
 -- One of four cases applies, and the proposition for it holds. The bits are not options; or the bytes are not UTF-8;
 -- or they are read as a value under the options whose bits are set; or they are refused for a cause.
 abbrev pub IsTold : Type 0 → Type 0 → (ℕ → Type 0) → (Cause → Type 0) → ℕ → List ℕ → Type 0
 IsTold Unknown NotUtf8 Value Refusal bits bytes =
     ((AreOptions bits → ⊥) × Unknown)
     ⊎ (AreOptions bits × (¬ (IsUtf8 bytes)) × NotUtf8)
-    ⊎ (AreOptions bits × IsUtf8 bytes × (nanos : ℕ) × IsReadBy bits (chars bytes) nanos × Value nanos)
-    ⊎ (AreOptions bits × IsUtf8 bytes × (cause : Cause) × IsRefusedBy bits (chars bytes) cause × Refusal cause)
+    ⊎ (AreOptions bits × IsUtf8 bytes × (nanos : ℕ) × IsRead (rules_of_bits bits) (chars bytes) nanos × Value nanos)
+    ⊎ (AreOptions bits × IsUtf8 bytes × (cause : Cause) × IsRefused (rules_of_bits bits) (chars bytes) cause × Refusal cause)
 
 -- The answer is right for the bytes: it says which of the four cases applies.
 abbrev pub IsAnswerTo : ℕ → List ℕ → Answer → Type 0

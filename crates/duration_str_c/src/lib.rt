@@ -7,11 +7,12 @@ ghost use Rattle.std.specs.Prelude.{◌≡◌, ℕ, ◌+◌, ◌<◌, ◌≤◌,
 ghost use Rattle.std.specs.Bool.{MatchBool};
 ghost use Rattle.std.specs.Str.{chars};
 ghost use Rattle.duration_str.specs.Options.{off};
-ghost use Rattle.duration_str.specs.OtherResults.{ReadsWith};
+ghost use Rattle.duration_str.specs.OtherResults.{Reads};
+ghost use Rattle.duration_str.specs.Rules.{rules_of};
 ghost use Rattle.duration_str.specs.Reading.{IsRead};
 ghost use Rattle.duration_str.specs.Printing.{IsPrinted};
 ghost use Rattle.duration_str.specs.declared.printing.TheConstants.{MAX_PRINTED_LEN};
-ghost use Rattle.duration_str_c.specs.Answers.{are_options, default_unit_of_bits, options_of_bits, IsAnswerTo};
+ghost use Rattle.duration_str_c.specs.Answers.{are_options, default_unit_of_bits, options_of_bits, rules_of_bits, IsAnswerTo};
 
 pub mod answer;
 pub mod breakdown;
@@ -80,9 +81,9 @@ fn default_unit_of_bits(bits: u32) -> Option<TimeUnit>
 /// Reads a text with all options off, and writes its value in nanoseconds to `nanos`. Returns true if the text is read.
 /// If it is refused, returns false and leaves `nanos` unchanged.
 pub fn duration_str_parse(text: &[u8], nanos: &mut u64) -> bool
-    ensures read { IsTrue result → IsRead off (chars text.now) nanos.new }
+    ensures read { IsTrue result → IsRead (rules_of off) (chars text.now) nanos.new }
     ensures accepts { IsUtf8 text.now
-        → (value : ℕ) → IsRead off (chars text.now) value → IsTrue result }
+        → (value : ℕ) → IsRead (rules_of off) (chars text.now) value → IsTrue result }
     ensures utf8 { IsTrue result → IsUtf8 text.now }
     ensures refused { IsFalse result → nanos.new ≡ nanos.old }
 {
@@ -141,7 +142,7 @@ pub fn duration_str_parse_with(text: &[u8], options: u32, answer: &mut Answer) -
 /// fault.
 #[inline(always)]
 pub(crate) fn read_by(text: &str, bits: u32) -> Result<u64, Fault<'_>>
-    ensures { ReadsWith (default_unit_of_bits bits) (options_of_bits bits) text.now result }
+    ensures { Reads (rules_of_bits bits) text.now result }
 {
     parse_nanos(text, options_of_bits(bits), default_unit_of_bits(bits))
 }

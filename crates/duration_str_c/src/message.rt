@@ -5,7 +5,8 @@ ghost use Rattle.duration_str.specs.declared.one_line.TheConstants.{MAX_ONE_LINE
 ghost use Rattle.duration_str.specs.declared.report.TheConstants.{REPORT_BUFFER_SIZE};
 ghost use Rattle.duration_str.specs.OneLine.{one_line_of};
 ghost use Rattle.duration_str.specs.Report.{report_of};
-ghost use Rattle.duration_str_c.specs.Answers.{AreOptions, IsAnswerTo, IsRefusedBy};
+ghost use Rattle.duration_str.specs.Reading.{IsRefused};
+ghost use Rattle.duration_str_c.specs.Answers.{AreOptions, IsAnswerTo, rules_of_bits};
 ghost use Rattle.duration_str_c.specs.Messages.{IsShown, IsSaidOf, ShowsRefusal};
 
 use crate::answer::{Answer, refused};
@@ -65,7 +66,8 @@ pub(crate) fn refusal_of<'a>(
 ) -> Result<Fault<'a>, &'static str>
     ensures answers { IsAnswerTo options bytes.now answer.new }
     ensures refused { IfOk result (λ fault. (fault.text.now ≡ bytes.now) × AreOptions options
-        × IsUtf8 bytes.now × IsRefusedBy options (chars bytes.now) fault.cause) }
+        × IsUtf8 bytes.now
+        × IsRefused (rules_of_bits options) (chars bytes.now) fault.cause) }
     ensures said { IfErr result (λ line. IsSaidOf options bytes.now line.now) }
 {
     if !are_options(options) {

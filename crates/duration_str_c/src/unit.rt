@@ -2,7 +2,7 @@
 ghost use Rattle.std.specs.Prelude.{◌≡◌, IsUtf8, None};
 ghost use Rattle.std.specs.Str.{chars};
 ghost use Rattle.duration_str.specs.Options.{off};
-ghost use Rattle.duration_str.specs.Units.{unit_of_word};
+ghost use Rattle.duration_str.specs.Rules.{rules_of, unit_of_word};
 ghost use Rattle.duration_str_c.specs.Units.{number_of};
 
 use crate::text_of;
@@ -12,7 +12,8 @@ use duration_str::{Options, TimeUnit};
 /// The name is read with all options off, so its ASCII letters may be capitals, and Chinese names are not known. If no
 /// unit has this name, or if the bytes are not UTF-8, returns -1.
 pub fn duration_str_unit(name: &[u8]) -> i32
-    ensures unit { IsUtf8 name.now → result ≡ number_of (unit_of_word off (chars name.now)) }
+    ensures unit { IsUtf8 name.now
+        → result ≡ number_of (unit_of_word (rules_of off) (chars name.now)) }
     ensures not_text { ¬ (IsUtf8 name.now) → result ≡ number_of None }
 {
     let Some(name) = text_of(name) else {

@@ -73,7 +73,7 @@ pub fn includes(o: Options, wanted: Options) -> bool {
         && (o.cn_unit || !wanted.cn_unit)
 }
 
-/// Whether no option is on here and in `other`.
+/// Whether no option is on in both.
 pub fn excludes(o: Options, other: Options) -> bool {
     !(o.no_calc && other.no_calc)
         && !(o.lowercase && other.lowercase)

@@ -4,6 +4,7 @@ use Rattle.std.specs.Fmt.{decimal}
 use Rattle.std.specs.Str.{IsUtf8, chars}
 use Rattle.duration_str.specs.declared.options.Options.{Options}
 use Rattle.duration_str.specs.declared.cause.Cause.{Cause}
+use Rattle.duration_str.specs.Rules.{rules_of}
 use Rattle.duration_str.specs.Reading.{IsRead, IsRefused}
 use Rattle.duration_str.specs.Printing.{IsPrinted}
 use Rattle.duration_str.specs.Messages.{message_of}
@@ -14,7 +15,7 @@ pub record PrintsValue (o : Options) (line text : List ℕ) : Type 0 where
   pub nanos : ℕ
   pub human : List ℕ
   pub utf8 : IsUtf8 line
-  pub read : IsRead o (chars line) nanos
+  pub read : IsRead (rules_of o) (chars line) nanos
   pub human_printed : IsPrinted nanos human
   pub shown : text ≡ decimal nanos ++ (32 ∷ encode_utf8_all human)
 
@@ -22,7 +23,7 @@ pub record PrintsValue (o : Options) (line text : List ℕ) : Type 0 where
 pub record PrintsFault (o : Options) (line text : List ℕ) : Type 0 where
   pub cause : Cause
   pub utf8 : IsUtf8 line
-  pub refused : IsRefused o (chars line) cause
+  pub refused : IsRefused (rules_of o) (chars line) cause
   pub shown : text ≡ message_of line cause
 
 -- For bytes that are not UTF-8 a text that says so is printed.

@@ -1,7 +1,7 @@
 -- Lemmas about the canonical text of a value, and about comparing texts by their bytes.
 use Rattle.std.proofs.Common.{ap, Bool, chars, IsTrue, IsUtf8, List, Option, refl, rules, sym, ℕ, ◌<◌, ◌^◌, ◌↔◌, ◌∙◌, ◌≡◌}
 use Rattle.std.specs.Str.{bytes_eq}
-use Rattle.duration_str.proofs.Common.{bytes_eq-Decides, counts_of, encodes, encodes-chars, EqualTexts, FitsDuration, GreatestBreakdown, IsPrintedIn, IsRead, IsReadWith, off, OneReading, ReadsBack, unit_lengths}
+use Rattle.duration_str.proofs.Common.{bytes_eq-Decides, counts_of, encodes, encodes-chars, EqualTexts, FitsDuration, GreatestBreakdown, IsPrintedIn, IsRead, off, OneReading, ReadsBack, unit_lengths, rules_of, rules_with}
 use Rattle.duration_str.specs.declared.format.Style.{Style}
 use Rattle.duration_str.specs.declared.unit.TimeUnit.{TimeUnit}
 use Rattle.uses.proofs.Common.{Options}
@@ -22,16 +22,16 @@ key_is_printed style nanos key k = (counts_of unit_lengths nanos, k.greatest, k.
 
 -- The key of an expression's value is the canonical text of the expression.
 pub key_is_canonical : ReadsBack → OneReading → (style : Style) (text key : List ℕ) (nanos : ℕ) → nanos < 2 ^ 64
-    → IsRead off text nanos → IsKey style nanos key → IsCanonical style text key
+    → IsRead (rules_of off) text nanos → IsKey style nanos key → IsCanonical style text key
 key_is_canonical back law style text key nanos small read k =
-    let read_back : (default_unit : Option TimeUnit) (o : Options) → IsReadWith default_unit o key nanos =
+    let read_back : (default_unit : Option TimeUnit) (o : Options) → IsRead (rules_with o default_unit) key nanos =
     λ default_unit o. back.below default_unit o style nanos key small (key_is_printed style nanos key k) in
     record {
       nanos = nanos;
       read = read;
       is_key = k;
       read_back = read_back;
-      no_other = λ default_unit o other r. law.one_value default_unit o key other nanos r (read_back default_unit o);
+      no_other = λ default_unit o other r. law.one_value (rules_with o default_unit) key other nanos r (read_back default_unit o);
     }
 
 chars_tell : (a b : List ℕ) → IsUtf8 a → IsUtf8 b → chars a ≡ chars b → a ≡ b

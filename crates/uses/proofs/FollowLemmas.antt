@@ -1,44 +1,43 @@
 -- Lemmas from the law `place_and_kinds` about one more terminal.
-use Rattle.std.proofs.Common.{append-nil, Bool, IsTrue, le_of_suc-le-suc, length, length-take, List, None, Option, refl, rules, Some, suc-le-suc, [], ◌++◌, ◌↔◌, ◌∷◌, ◌≡◌, ◌≤◌}
-use Rattle.duration_str.proofs.Common.{allows, BeginsSentence, cases_Bool, expected_after, front_after, front_of, IsSentence, last_of, number, operator, PlaceAndKinds, Terminal}
-use Rattle.uses.proofs.Common.{CondUnit, take_all}
-use Rattle.duration_str.specs.declared.unit.TimeUnit.TheVariants.{Second}
+use Rattle.std.proofs.Common.{append-nil, IsTrue, le_of_suc-le-suc, length, length-take, List, None, Option, refl, rules, Some, suc-le-suc, [], ◌++◌, ◌↔◌, ◌∷◌, ◌≡◌, ◌≤◌}
+use Rattle.duration_str.proofs.Common.{allows, BeginsSentence, cases_Bool, expected_after, front_after, front_of, IsSentence, last_of, number, operator, PlaceAndKinds, rules_of, Terminal}
+use Rattle.uses.proofs.Common.{CondUnit, Options, take_all}
 
 last_of_pushed : (last : Option Terminal) (front : List Terminal) (t : Terminal) → last_of last (front ++ t ∷ [])
     ≡ Some t
 last_of_pushed last [] t = refl
 last_of_pushed last (s ∷ front) t = last_of_pushed (Some s) front t
 
-module _ (law : PlaceAndKinds) (no_calc : Bool) where
+module _ (law : PlaceAndKinds) (o : Options) where
   -- Terminals begin a sentence exactly if the front that the table finds is all of them.
-  begins_whole : (ts : List Terminal) → (BeginsSentence (Some Second) no_calc ts ↔ length ts ≤ front_of (Some Second) no_calc ts)
+  begins_whole : (ts : List Terminal) → (BeginsSentence (rules_of o) ts ↔ length ts ≤ front_of (rules_of o) ts)
   begins_whole ts = search (rules, append-nil, length-take, take_all)
 
   -- If a terminal is added, the front that the table finds becomes one terminal longer exactly if the table allows the
   -- new terminal after the last one.
   pushed : (last : Option Terminal) (front : List Terminal) (t : Terminal)
-      → length front ≤ front_after (Some Second) no_calc last front
-      → (IsTrue (allows (expected_after (Some Second) no_calc (last_of last front)) t)
-      ↔ length (front ++ t ∷ []) ≤ front_after (Some Second) no_calc last (front ++ t ∷ []))
+      → length front ≤ front_after (rules_of o) last front
+      → (IsTrue (allows (expected_after (rules_of o) (last_of last front)) t)
+      ↔ length (front ++ t ∷ []) ≤ front_after (rules_of o) last (front ++ t ∷ []))
   pushed last [] t h = search (rules, cases_Bool)
   pushed last (s ∷ front) t h = search (rules, cases_Bool, le_of_suc-le-suc, suc-le-suc, pushed (Some s) front t)
 
   -- One more terminal continues the beginning of a sentence exactly if the table allows that terminal there.
-  pub follows : (front : List Terminal) (t : Terminal) → BeginsSentence (Some Second) no_calc front
-      → (IsTrue (allows (expected_after (Some Second) no_calc (last_of None front)) t) ↔ BeginsSentence (Some Second) no_calc (front ++ t ∷ []))
+  pub follows : (front : List Terminal) (t : Terminal) → BeginsSentence (rules_of o) front
+      → (IsTrue (allows (expected_after (rules_of o) (last_of None front)) t) ↔ BeginsSentence (rules_of o) (front ++ t ∷ []))
   follows front t b =
       let push = pushed None front t ((begins_whole front).0 b) in
       let begins = begins_whole (front ++ t ∷ []) in (λ a. begins.1 (push.0 a), λ more. push.1 (begins.0 more))
 
   -- The beginning of a sentence is a sentence if the table lets the text end after its last terminal.
-  pub ends : (front : List Terminal) (t : Terminal) → BeginsSentence (Some Second) no_calc (front ++ t ∷ [])
-      → IsTrue (expected_after (Some Second) no_calc (Some t)).text_end → IsSentence (Some Second) no_calc (front ++ t ∷ [])
+  pub ends : (front : List Terminal) (t : Terminal) → BeginsSentence (rules_of o) (front ++ t ∷ [])
+      → IsTrue (expected_after (rules_of o) (Some t)).text_end → IsSentence (rules_of o) (front ++ t ∷ [])
   ends front t b h =
-      ((law.kinds (Some Second) no_calc (front ++ t ∷ []) _ b).1 refl).end_expected.0 (rw (last_of_pushed None front t) h)
+      ((law.kinds (rules_of o) (front ++ t ∷ []) _ b).1 refl).end_expected.0 (rw (last_of_pushed None front t) h)
 
   -- After an operator, a zero completes a sentence.
-  pub zero_ends : (front : List Terminal) (op : CondUnit) → BeginsSentence (Some Second) no_calc (front ++ operator op ∷ [])
-      → IsSentence (Some Second) no_calc ((front ++ operator op ∷ []) ++ number 0 ∷ [])
+  pub zero_ends : (front : List Terminal) (op : CondUnit) → BeginsSentence (rules_of o) (front ++ operator op ∷ [])
+      → IsSentence (rules_of o) ((front ++ operator op ∷ []) ++ number 0 ∷ [])
   zero_ends front op b =
       let more = (follows (front ++ operator op ∷ []) (number 0) b).0
       (rw (last_of_pushed None front (operator op)) refl) in

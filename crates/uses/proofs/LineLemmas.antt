@@ -1,10 +1,9 @@
 -- The same sentences spell a line and the line's text.
-use Rattle.std.proofs.Common.{ap, append-nil, inl, inr, IsUtf8, List, Option, refl, rules, [], ℕ, ◌+◌, ◌∙◌, ◌∷◌, ◌≡◌}
-use Rattle.duration_str.proofs.Common.{BlanksFree, cases_Bool, chars-append, goes_on, IsSentenceWith, lexemes_of, OneSentence, Spells, tokens_from, width}
+use Rattle.std.proofs.Common.{ap, append-nil, inl, inr, IsUtf8, List, refl, rules, [], ℕ, ◌+◌, ◌∙◌, ◌∷◌, ◌≡◌}
+use Rattle.duration_str.proofs.Common.{BlanksFree, cases_Bool, chars-append, goes_on, IsSentenceOf, lexemes_of, OneSentence, Rules, Spells, tokens_from, width}
 use Rattle.uses.proofs.Common.{IsReadAsBefore, Options, run-not_blank, true≢false, with_line_feed}
 use Rattle.std.specs.Str.{chars}
 use Rattle.duration_str.proofs.LawProofs.SumOfTexts.{spells_both}
-use Rattle.duration_str.specs.declared.unit.TimeUnit.{TimeUnit}
 
 chars_line : (bytes : List ℕ) → IsUtf8 bytes → chars (with_line_feed bytes) ≡ with_line_feed (chars bytes)
 unfolding chars
@@ -12,15 +11,10 @@ chars_line bytes utf8 = chars-append bytes (10 ∷ []) utf8
 
 -- If the sentences that spell an old text also spell a new one, the new text is read as the old one.
 read_as_before : BlanksFree → (old new : List ℕ)
-    → ((default_unit : Option TimeUnit) (o : Options) (lexemes : List (List ℕ)) → IsSentenceWith default_unit o lexemes old
-    → Spells lexemes new)
-    → IsReadAsBefore old new
+    → ((r : Rules) (lexemes : List (List ℕ)) → IsSentenceOf r lexemes old → Spells lexemes new) → IsReadAsBefore old new
 read_as_before free old new spells = record {
-  value = λ default_unit o nanos read.
-      free.value default_unit o old new read.lexemes nanos read.spells
-      (spells default_unit o read.lexemes read.spells) read;
-  cause = λ default_unit o lexemes cause s refused.
-      free.cause default_unit o old new lexemes cause s (spells default_unit o lexemes s) refused;
+  value = λ r nanos read. free.value r old new read.lexemes nanos read.spells (spells r read.lexemes read.spells) read;
+  cause = λ r lexemes cause s refused. free.cause r old new lexemes cause s (spells r lexemes s) refused;
 }
 
 -- ---- A line feed more
@@ -29,7 +23,7 @@ pub line_read : BlanksFree → (bytes : List ℕ) → IsUtf8 bytes → IsReadAsB
     (chars (with_line_feed bytes))
 line_read free bytes utf8 =
     rw (chars_line bytes utf8) (read_as_before free (chars bytes) _
-    (λ default_unit o lexemes s. rw append-nil at (spells_both lexemes [] (chars bytes) (10 ∷ []) s.1 refl)))
+    (λ r lexemes s. rw append-nil at (spells_both lexemes [] (chars bytes) (10 ∷ []) s.1 refl)))
 
 -- ---- A line feed less
 
@@ -42,11 +36,11 @@ line_tokens o at (c ∷ []) = elim (cases_Bool (goes_on o c (10 ∷ []))) [
 ]
 line_tokens o at (c ∷ d ∷ text) = rw (line_tokens o (at + width c) (d ∷ text)) refl
 
-spells_text : OneSentence → (default_unit : Option TimeUnit) (o : Options) (lexemes : List (List ℕ)) (text : List ℕ)
-    → IsSentenceWith default_unit o lexemes (with_line_feed text) → Spells lexemes text
-spells_text law default_unit o lexemes text s =
-    (law.tokens default_unit o text lexemes s.0).1 ((law.tokens default_unit o (with_line_feed text) lexemes s.0).0 s.1 ∙ ap lexemes_of
-    (line_tokens o 0 text))
+spells_text : OneSentence → (r : Rules) (lexemes : List (List ℕ)) (text : List ℕ)
+    → IsSentenceOf r lexemes (with_line_feed text) → Spells lexemes text
+spells_text law r lexemes text s =
+    (law.tokens r text lexemes s.0).1 ((law.tokens r (with_line_feed text) lexemes s.0).0 s.1 ∙ ap lexemes_of
+    (line_tokens r.options 0 text))
 
 pub text_read : OneSentence → BlanksFree → (bytes : List ℕ) → IsUtf8 bytes
     → IsReadAsBefore (chars (with_line_feed bytes)) (chars bytes)

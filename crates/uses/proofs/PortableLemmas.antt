@@ -1,6 +1,6 @@
 -- Lemmas about texts whose characters mean the same under several choices of options.
 use Rattle.std.proofs.Common.{arith, Bool, false, IsTrue, List, not, refl, subst, sym, true, ℕ, ◌&&◌, ◌||◌, ◌↔◌, ◌≡◌}
-use Rattle.duration_str.proofs.Common.{HasNoCapital, HasNoChinese, HasNoOperator, is_ascii_uppercase, is_operator, IsReadWith, IsRefusedWith, list_all, NoCalcAgrees, OptionsIdle, rules}
+use Rattle.duration_str.proofs.Common.{HasNoCapital, HasNoChinese, HasNoOperator, is_ascii_uppercase, is_operator, list_all, NoCalcAgrees, OptionsIdle, rules, IsRead, IsRefused, rules_with}
 use Rattle.uses.proofs.Common.{Options}
 use Rattle.std.proofs.Math.Bool.{beq}
 use Rattle.duration_str.proofs.Characters.CharacterLemmas.{all_weaker}
@@ -45,14 +45,14 @@ module _ (o p : Options) (text : List ℕ) (h : IsTrue (list_all (is_unaffected 
 
   pub unaffected_has_same_value : NoCalcAgrees → OptionsIdle → HasSameValue o p text
   unaffected_has_same_value agrees idle default_unit nanos =
-      let calc = either_way (λ (b : Bool). IsReadWith default_unit (record o { no_calc = b }) text nanos) o.no_calc p.no_calc
-      (λ differ. agrees default_unit o text nanos (no_operator differ)) in
-      let others = others_changed (λ (q : Options). IsReadWith default_unit q text nanos)
-      (λ q plain. (idle.lowercase default_unit q text plain).value nanos) (λ q plain. (idle.cn_unit default_unit q text plain).value nanos) in
+      let calc = either_way (λ (b : Bool). IsRead (rules_with (record o { no_calc = b }) default_unit) text nanos) o.no_calc p.no_calc
+      (λ differ. agrees (rules_with o default_unit) text nanos (no_operator differ)) in
+      let others = others_changed (λ (q : Options). IsRead (rules_with q default_unit) text nanos)
+      (λ q plain. (idle.lowercase (rules_with q default_unit) text plain).value nanos) (λ q plain. (idle.cn_unit default_unit q text plain).value nanos) in
       (λ r. others.0 (calc.0 r), λ r. calc.1 (others.1 r))
 
   pub unaffected_has_same_cause : OptionsIdle → o.no_calc ≡ p.no_calc → HasSameCause o p text
   unaffected_has_same_cause idle same default_unit cause =
-      subst (λ (b : Bool). IsRefusedWith default_unit (record o { no_calc = b }) text cause ↔ IsRefusedWith default_unit p text cause) (sym same)
-      (others_changed (λ (q : Options). IsRefusedWith default_unit q text cause)
-      (λ q plain. (idle.lowercase default_unit q text plain).cause cause) (λ q plain. (idle.cn_unit default_unit q text plain).cause cause))
+      subst (λ (b : Bool). IsRefused (rules_with (record o { no_calc = b }) default_unit) text cause ↔ IsRefused (rules_with p default_unit) text cause) (sym same)
+      (others_changed (λ (q : Options). IsRefused (rules_with q default_unit) text cause)
+      (λ q plain. (idle.lowercase (rules_with q default_unit) text plain).cause cause) (λ q plain. (idle.cn_unit default_unit q text plain).cause cause))

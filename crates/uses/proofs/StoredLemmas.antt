@@ -1,27 +1,26 @@
 -- Lemmas about results of reading, given the value or the cause of the text.
-use Rattle.std.proofs.Common.{chars, Err, IsErrAnd, IsOkAnd, List, map, Ok, Result, Some, ℕ, ◌≡◌}
-use Rattle.duration_str.proofs.Common.{as_nanos, IsRead, IsRefused, lexemes_of, older_terminals, OlderTexts, OneReading, OneSentence, ParsesText, terminal_of, tokens_of, WasSentenceOf}
+use Rattle.std.proofs.Common.{chars, Err, IsErrAnd, IsOkAnd, List, map, Ok, Result, ℕ, ◌≡◌}
+use Rattle.duration_str.proofs.Common.{as_nanos, IsRead, IsRefused, lexemes_of, older_rules, OlderTexts, OneReading, OneSentence, Parses, terminal_of, tokens_of, IsSentenceOf, rules_of}
 use Rattle.uses.proofs.Common.{Cause, Duration, Fault, Options, Token}
 use Rattle.uses.specs.Stored.{unit_of_first}
-use Rattle.duration_str.specs.declared.unit.TimeUnit.TheVariants.{Second}
 
 module _ (law : OneReading) (o : Options) (bytes : List ℕ) where
   -- If a text is read as a value, the result is that value.
-  pub value_answered : (result : Result Duration Fault) (nanos : ℕ) → ParsesText o bytes result
-      → IsRead o (chars bytes) nanos → IsOkAnd result (λ d. as_nanos d ≡ nanos)
-  value_answered (Ok d) nanos parsed read = law.one_value (Some Second) o (chars bytes) (as_nanos d) nanos parsed.read read
-  value_answered (Err f) nanos parsed read = absurd (law.not_both (Some Second) o (chars bytes) nanos f.cause read parsed.refused.1)
+  pub value_answered : (result : Result Duration Fault) (nanos : ℕ) → Parses (rules_of o) bytes result
+      → IsRead (rules_of o) (chars bytes) nanos → IsOkAnd result (λ d. as_nanos d ≡ nanos)
+  value_answered (Ok d) nanos parsed read = law.one_value (rules_of o) (chars bytes) (as_nanos d) nanos parsed.read read
+  value_answered (Err f) nanos parsed read = absurd (law.not_both (rules_of o) (chars bytes) nanos f.cause read parsed.refused.1)
 
   -- If a text is refused for a cause, the result is that cause.
-  pub cause_answered : (result : Result Duration Fault) (cause : Cause) → ParsesText o bytes result
-      → IsRefused o (chars bytes) cause → IsErrAnd result (λ f. f.cause ≡ cause)
-  cause_answered (Ok d) cause parsed r = absurd (law.not_both (Some Second) o (chars bytes) (as_nanos d) cause parsed.read r)
-  cause_answered (Err f) cause parsed r = law.one_cause (Some Second) o (chars bytes) f.cause cause parsed.refused.1 r
+  pub cause_answered : (result : Result Duration Fault) (cause : Cause) → Parses (rules_of o) bytes result
+      → IsRefused (rules_of o) (chars bytes) cause → IsErrAnd result (λ f. f.cause ≡ cause)
+  cause_answered (Ok d) cause parsed r = absurd (law.not_both (rules_of o) (chars bytes) (as_nanos d) cause parsed.read r)
+  cause_answered (Err f) cause parsed r = law.one_cause (rules_of o) (chars bytes) f.cause cause parsed.refused.1 r
 
 -- The unit of the first number by the older table is the unit that the tokens have today.
 pub first_kept : OneSentence → OlderTexts → (o : Options) (lexemes : List (List ℕ)) (text : List ℕ)
-    (tokens : List Token) → WasSentenceOf o lexemes text → tokens_of o text ≡ tokens
-    → unit_of_first (map (terminal_of o) (lexemes_of tokens)) ≡ unit_of_first (older_terminals o lexemes)
+    (tokens : List Token) → IsSentenceOf (older_rules o) lexemes text → tokens_of o text ≡ tokens
+    → unit_of_first (map (terminal_of (rules_of o)) (lexemes_of tokens)) ≡ unit_of_first (map (terminal_of (older_rules o)) lexemes)
 first_kept one older o lexemes text tokens was e =
     let s = older.sentence o lexemes text was in
-    rw (older.terminals o lexemes text was, (one.tokens (Some Second) o text lexemes s.0).0 s.1, e)
+    rw (older.terminals o lexemes text was, (one.tokens (rules_of o) text lexemes s.0).0 s.1, e)

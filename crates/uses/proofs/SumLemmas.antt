@@ -1,7 +1,7 @@
 -- Lemmas about sums whose parts are exchanged.
 use Rattle.std.proofs.Common.{if◌then◌else◌, List, map, Option, refl, rules, [], ℕ, ◌==◌, ◌∷◌, ◌≡◌}
 use Rattle.std.specs.List.{sum_by}
-use Rattle.duration_str.proofs.Common.{IsReadWith, Reorder, times_in, value_of_term}
+use Rattle.duration_str.proofs.Common.{IsRead, Reorder, rules_with, times_in, value_of_term}
 use Rattle.uses.proofs.Common.{IsPermutation, nanos_in, Options, Part, Plus, sum_by-IsPermutation, term_of_part}
 use Rattle.std.proofs.lemmas.List.Sums.{sum_by-cons}
 use Rattle.uses.specs.Sum.{Adds}
@@ -18,6 +18,6 @@ times_in_parts n (part ∷ parts) = rw (sum_by-cons, ← times_in_parts n parts)
 
 -- A sum of the same parts in another order is read as the same value.
 pub permuted_read : Reorder → (default_unit : Option TimeUnit) (o : Options) (xs ys : List Part) (a b : List ℕ)
-    (nanos : ℕ) → IsPermutation xs ys → Adds default_unit o xs a → Adds default_unit o ys b
-    → IsReadWith default_unit o a nanos → IsReadWith default_unit o b nanos
+    (nanos : ℕ) → IsPermutation xs ys → let r = rules_with o default_unit in Adds r xs a → Adds r ys b
+    → IsRead r a nanos → IsRead r b nanos
 permuted_read law default_unit o xs ys a b nanos p s t = search (rules, times_in_parts, sum_by-IsPermutation)

@@ -1,19 +1,17 @@
 -- Lemmas about a text that is refused for a syntax fault.
-use Rattle.std.proofs.Common.{ap, Bool, List, rules, Some, ℕ, ◌++◌, ◌∙◌, ◌≡◌}
-use Rattle.duration_str.proofs.Common.{CanFollow, early, IsRefusedAt, late, syntax_fault, Terminal}
+use Rattle.std.proofs.Common.{ap, List, rules, Some, ℕ, ◌++◌, ◌∙◌, ◌≡◌}
+use Rattle.duration_str.proofs.Common.{CanFollow, early, IsRefusedAt, late, Rules, syntax_fault, Terminal}
 use Rattle.duration_str.proofs.OnePass.PlaceLemmas.{early_stands, late_stands}
 use Rattle.uses.proofs.Common.{Cause, Expected, Syntax}
-use Rattle.duration_str.specs.declared.unit.TimeUnit.TheVariants.{Second}
-use Rattle.duration_str.specs.Units.{row_of}
 
 -- A syntax fault is at the place after the front, and its kinds are those that can follow the front. No other fault of
 -- a text is a syntax fault.
-pub refused_at : (no_calc : Bool) (at : ℕ) (front rest : List Terminal) (cause : Cause) (place : ℕ)
+pub refused_at : (r : Rules) (at : ℕ) (front rest : List Terminal) (cause : Cause) (place : ℕ)
     (expected : Expected)
-    → IsRefusedAt row_of (Some Second) no_calc at front rest cause → cause ≡ Syntax place expected
-    → (place ≡ at) × CanFollow (Some Second) no_calc front expected
-refused_at no_calc at front rest cause place expected (early h) e =
-    absurd (rw (h ∙ ap Some e) at (early_stands (λ n. ⊥) row_of (Some Second) no_calc front rest))
-refused_at no_calc at front rest cause place expected (syntax_fault other none whole can is) e = search rules
-refused_at no_calc at front rest cause place expected (late none s h) e =
-    absurd (rw (h ∙ ap Some e) at (late_stands (λ n. ⊥) row_of (Some Second) no_calc (front ++ rest)))
+    → IsRefusedAt r at front rest cause → cause ≡ Syntax place expected
+    → (place ≡ at) × CanFollow r front expected
+refused_at r at front rest cause place expected (early h) e =
+    absurd (rw (h ∙ ap Some e) at (early_stands (λ n. ⊥) r front rest))
+refused_at r at front rest cause place expected (syntax_fault other none whole can is) e = search rules
+refused_at r at front rest cause place expected (late none s h) e =
+    absurd (rw (h ∙ ap Some e) at (late_stands (λ n. ⊥) r (front ++ rest)))

@@ -1,6 +1,6 @@
 -- The canonical text of a value, and how it is read back.
 use Rattle.std.specs.Prelude.{◌≡◌, ℕ, List, Option, Result, Ok, Err, chars}
-use Rattle.uses.specs.Common.{Duration, as_nanos, Options, Cause, Fault, off, unit_lengths, IsRead, IsReadWith, IsRefused, IsGreatestBreakdown, counts_of, printed_counts}
+use Rattle.uses.specs.Common.{Duration, as_nanos, Options, Cause, Fault, off, unit_lengths, IsRead, IsRefused, IsGreatestBreakdown, counts_of, printed_counts, rules_of, rules_with}
 use Rattle.duration_str.specs.declared.format.Style.{Style}
 use Rattle.duration_str.specs.declared.unit.TimeUnit.{TimeUnit}
 
@@ -17,17 +17,17 @@ pub record IsKey (style : Style) (nanos : ℕ) (key : List ℕ) : Type 0 where
 -- or none, the key is read as the same value, and as no other.
 pub record IsCanonical (style : Style) (text key : List ℕ) : Type 0 where
   pub nanos : ℕ
-  pub read : IsRead off text nanos
+  pub read : IsRead (rules_of off) text nanos
   pub is_key : IsKey style nanos key
-  pub read_back : (default_unit : Option TimeUnit) (o : Options) → IsReadWith default_unit o key nanos
+  pub read_back : (default_unit : Option TimeUnit) (o : Options) → IsRead (rules_with o default_unit) key nanos
   pub no_other : (default_unit : Option TimeUnit) (o : Options) (other : ℕ)
-      → IsReadWith default_unit o key other → other ≡ nanos
+      → IsRead (rules_with o default_unit) key other → other ≡ nanos
 
 -- The fault has this text, and a cause for which the text is refused.
 abbrev pub Refuses : List ℕ → Fault → Type 0
-Refuses text fault = (fault.text.now ≡ text) × IsRefused off (chars text) fault.cause
+Refuses text fault = (fault.text.now ≡ text) × IsRefused (rules_of off) (chars text) fault.cause
 
 -- The text is read as the value in `Ok`, or refused for the cause in `Err`.
 abbrev pub IsAnswerTo : Options → List ℕ → Result Duration Cause → Type 0
-IsAnswerTo o text (Ok d) = IsRead o text (as_nanos d)
-IsAnswerTo o text (Err cause) = IsRefused o text cause
+IsAnswerTo o text (Ok d) = IsRead (rules_of o) text (as_nanos d)
+IsAnswerTo o text (Err cause) = IsRefused (rules_of o) text cause

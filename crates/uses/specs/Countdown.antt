@@ -7,6 +7,7 @@ use Rattle.duration_str.specs.Laws.{KeepsWithin}
 use Rattle.duration_str.specs.Format.{down_to, IsPrintedWithin, part_count, whole_format}
 use Rattle.duration_str.specs.Printing.{IsGreatestBreakdown}
 use Rattle.duration_str.specs.Reading.{IsRead}
+use Rattle.duration_str.specs.Rules.{rules_of}
 use Rattle.duration_str.specs.Units.{unit_lengths}
 use Rattle.duration_str.specs.Options.{off}
 
@@ -21,5 +22,5 @@ pub record IsShown (left : ℕ) (text : List ℕ) (shown : ℕ) : Type 0 where
   pub never_more : shown ≤ left
   pub few : (counts : List ℕ) × IsGreatestBreakdown unit_lengths shown counts × (part_count counts ≤ 2)
   pub exact : (counts : List ℕ) → KeepsWithin coarse left counts → shown ≡ left
-  pub read : shown < 2 ^ 64 → IsRead off text shown
+  pub read : shown < 2 ^ 64 → IsRead (rules_of off) text shown
   pub again : IsPrintedWithin coarse shown text

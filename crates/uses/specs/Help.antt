@@ -1,7 +1,7 @@
 -- The only answer to the text of an example.
 use Rattle.std.specs.Prelude.{◌≡◌, ℕ, List, ◌↔◌, Result, Ok, Err, None}
-use Rattle.duration_str.specs.Units.{unit_of_word}
-use Rattle.uses.specs.Common.{Duration, as_nanos, Options, Cause, IsRead, IsRefused}
+use Rattle.duration_str.specs.Rules.{unit_of_word}
+use Rattle.uses.specs.Common.{Duration, as_nanos, Options, Cause, IsRead, IsRefused, rules_of}
 
 -- the answer, with the duration in nanoseconds
 abbrev pub in_nanos : Result Duration Cause → Result ℕ Cause
@@ -10,9 +10,9 @@ in_nanos (Err cause) = Err cause
 
 -- The text is read as the value in `Ok` and as no other, or refused for the cause in `Err` and for no other.
 pub record IsOnlyAnswerTo (o : Options) (text : List ℕ) (answer : Result Duration Cause) : Type 0 where
-  pub read : (nanos : ℕ) → (IsRead o text nanos ↔ in_nanos answer ≡ Ok nanos)
-  pub refused : (cause : Cause) → (IsRefused o text cause ↔ in_nanos answer ≡ Err cause)
+  pub read : (nanos : ℕ) → (IsRead (rules_of o) text nanos ↔ in_nanos answer ≡ Ok nanos)
+  pub refused : (cause : Cause) → (IsRefused (rules_of o) text cause ↔ in_nanos answer ≡ Err cause)
 
 -- The word names no unit, under any options.
 abbrev pub IsNoUnit : List ℕ → Type 0
-IsNoUnit word = (o : Options) → unit_of_word o word ≡ None
+IsNoUnit word = (o : Options) → unit_of_word (rules_of o) word ≡ None

@@ -2,7 +2,7 @@
 use Rattle.std.specs.Prelude.{ℕ, Bool, not, ◌&&◌, ◌||◌, List, Option, ◌↔◌}
 use Rattle.std.specs.Bool.{beq}
 use Rattle.std.specs.Char.{is_ascii_uppercase}
-use Rattle.uses.specs.Common.{Options, Cause, is_operator, is_chinese, IsReadWith, IsRefusedWith}
+use Rattle.uses.specs.Common.{Options, Cause, is_operator, is_chinese, IsRead, IsRefused, rules_with}
 use Rattle.duration_str.specs.declared.unit.TimeUnit.{TimeUnit}
 
 -- whether the character means the same under both choices. An operator does if both have the same `no_calc`, an ASCII
@@ -17,9 +17,9 @@ is_unaffected o p c =
 -- With each default unit or none, the text is read as the same value under both choices, or under neither.
 abbrev pub HasSameValue : Options → Options → List ℕ → Type 0
 HasSameValue o p text = (default_unit : Option TimeUnit) (nanos : ℕ)
-    → (IsReadWith default_unit o text nanos ↔ IsReadWith default_unit p text nanos)
+    → (IsRead (rules_with o default_unit) text nanos ↔ IsRead (rules_with p default_unit) text nanos)
 
 -- With each default unit or none, the text is refused for the same cause under both choices, or under neither.
 abbrev pub HasSameCause : Options → Options → List ℕ → Type 0
 HasSameCause o p text = (default_unit : Option TimeUnit) (cause : Cause)
-    → (IsRefusedWith default_unit o text cause ↔ IsRefusedWith default_unit p text cause)
+    → (IsRefused (rules_with o default_unit) text cause ↔ IsRefused (rules_with p default_unit) text cause)

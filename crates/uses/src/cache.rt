@@ -2,7 +2,7 @@
 #![tactic(auto, using(crate::proofs::CacheLemmas::key_is_canonical))]
 
 ghost use Rattle.std.specs.Prelude.{◌≡◌, ℕ, List, ◌↔◌, IsTrue, IfOk, IfErr, ◌⊎◌, chars};
-ghost use Rattle.uses.specs.Common.{as_nanos, Options as Choice, IsRead, IsPrintedIn, off};
+ghost use Rattle.uses.specs.Common.{as_nanos, Options as Choice, IsRead, IsPrintedIn, off, rules_of};
 ghost use Rattle.duration_str.specs.declared.format.Style.{Style as AnyStyle};
 ghost use Rattle.uses.specs.Cache.{IsKey, IsCanonical, IsAnswerTo, Refuses};
 
@@ -48,8 +48,8 @@ pub fn canonical<'a, 'b>(
 
 /// Returns whether two expressions have the same value, and so share an entry of the cache. It compares their keys.
 pub fn share_entry<'a>(text: &'a str, other: &'a str) -> Result<bool, Fault<'a>>
-    ensures same { IfOk result (λ same. (m n : ℕ) → IsRead off (chars text.now) m
-        → IsRead off (chars other.now) n → (IsTrue same ↔ (m ≡ n))) }
+    ensures same { IfOk result (λ same. (m n : ℕ) → IsRead (rules_of off) (chars text.now) m
+        → IsRead (rules_of off) (chars other.now) n → (IsTrue same ↔ (m ≡ n))) }
     ensures fault { IfErr result (λ f. Refuses text.now f ⊎ Refuses other.now f) }
 {
     equal_texts();

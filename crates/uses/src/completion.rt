@@ -2,7 +2,7 @@
 #![tactic(auto, using(crate::proofs::CompletionLemmas::refused_completion))]
 
 ghost use Rattle.std.specs.Prelude.{◌≡◌, ◌↔◌, ℕ, length, IsTrue, IfSome, IfNone, chars};
-ghost use Rattle.uses.specs.Common.{Syntax, Expected as Kinds, IsRefused, IsRefusedWith};
+ghost use Rattle.uses.specs.Common.{Syntax, Expected as Kinds, IsRefused, rules_of, rules_with};
 ghost use Rattle.uses.specs.Completion.{IsCompletion};
 
 use duration_str::laws::{one_sentence, place_and_kinds};
@@ -29,7 +29,7 @@ pub struct Completion {
 pub fn complete(text: &str, o: Options) -> Option<Completion>
     ensures some { IfSome result (λ c. IsCompletion o (chars text.now) c.place c.expected) }
     ensures none { IfNone result ((place : ℕ) (expected : Kinds)
-        → IsRefused o (chars text.now) (Syntax place expected) → ⊥) }
+        → IsRefused (rules_of o) (chars text.now) (Syntax place expected) → ⊥) }
 {
     one_sentence();
     place_and_kinds();
@@ -52,7 +52,7 @@ pub fn complete(text: &str, o: Options) -> Option<Completion>
 /// ```
 pub fn is_unfinished(text: &str, o: Options, default_unit: Option<TimeUnit>) -> bool
     ensures { (place : ℕ) (expected : Kinds)
-        → IsRefusedWith default_unit o (chars text.now) (Syntax place expected)
+        → IsRefused (rules_with o default_unit) (chars text.now) (Syntax place expected)
         → (IsTrue result ↔ (place ≡ length text.now)) }
 {
     one_sentence();

@@ -1,6 +1,6 @@
 //! The price of reading a text, for a service that charges for it.
 ghost use Rattle.std.specs.Prelude.{◌≡◌, ◌≤◌, ◌*◌, ℕ, length, take, chars};
-ghost use Rattle.uses.specs.Common.{IsRead, IsRefused, Syntax, Expected};
+ghost use Rattle.uses.specs.Common.{IsRead, IsRefused, Syntax, Expected, rules_of};
 
 use duration_str::laws::one_sentence;
 use duration_str::{Options, parse_looked};
@@ -14,10 +14,10 @@ use duration_str::{Options, parse_looked};
 /// ```
 pub fn price(text: &str, price_per_look: u32, o: Options) -> u128
     ensures most { result ≤ length (chars text.now) * price_per_look }
-    ensures read { (nanos : ℕ) → IsRead o (chars text.now) nanos
+    ensures read { (nanos : ℕ) → IsRead (rules_of o) (chars text.now) nanos
         → result ≡ length (chars text.now) * price_per_look }
     ensures refused { (place : ℕ) (expected : Expected)
-        → IsRefused o (chars text.now) (Syntax place expected)
+        → IsRefused (rules_of o) (chars text.now) (Syntax place expected)
         → length (chars (take place text.now)) * price_per_look ≤ result }
 {
     one_sentence();

@@ -1,6 +1,6 @@
 //! Multiplies a rate by a length.
-ghost use Rattle.std.specs.Prelude.{◌≡◌, ℕ, ◌^◌, ◌≤◌, List, Option, IfSome, IfNone};
-ghost use Rattle.uses.specs.Common.{as_nanos, Options as Choice, TimeUnit as Unit, IsReadWith};
+ghost use Rattle.std.specs.Prelude.{◌≡◌, ℕ, ◌^◌, ◌≤◌, List, IfSome, IfNone};
+ghost use Rattle.uses.specs.Common.{as_nanos, IsRead, Rules};
 
 use duration_str::TimeUnit;
 use duration_str::laws::two_factors;
@@ -39,8 +39,8 @@ impl Part {
 ghost use Rattle.uses.specs.Product.{MultipliesInEitherOrder};
 
 /// Returns the product of the two parts. Each text that multiplies them, in either order, is read as this duration,
-/// under all options that read operators, and with whatever default unit. The result is `None` if no such text is
-/// accepted. So a program can test for an overflow before it makes the text.
+/// by all rules that read operators, with whatever default unit. The result is `None` if no such text is accepted. So a
+/// program can test for an overflow before it makes the text.
 ///
 /// ```text
 /// let rate = Part { number: 10, unit: TimeUnit::MilliSecond };
@@ -48,12 +48,10 @@ ghost use Rattle.uses.specs.Product.{MultipliesInEitherOrder};
 /// scaled(rate, length) // Some(Duration::from_millis(600)), as are `10ms*1m` and `1m * 10 ms`
 /// ```
 pub fn scaled(rate: Part, length: Part) -> Option<Duration>
-    ensures read { IfSome result (λ d. (default_unit : Option Unit) (o : Choice) (text : List ℕ)
-        → MultipliesInEitherOrder default_unit o rate length text
-        → IsReadWith default_unit o text (as_nanos d)) }
-    ensures refused { IfNone result ((default_unit : Option Unit) (o : Choice) (text : List ℕ)
-        (nanos : ℕ) → MultipliesInEitherOrder default_unit o rate length text
-        → IsReadWith default_unit o text nanos → ⊥) }
+    ensures read { IfSome result (λ d. (r : Rules) (text : List ℕ)
+        → MultipliesInEitherOrder r rate length text → IsRead r text (as_nanos d)) }
+    ensures refused { IfNone result ((r : Rules) (text : List ℕ) (nanos : ℕ)
+        → MultipliesInEitherOrder r rate length text → IsRead r text nanos → ⊥) }
 {
     two_factors();
     let nanos = rate.nanos()?;

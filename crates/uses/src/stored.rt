@@ -1,9 +1,9 @@
 //! Durations that an older version of a program stored as texts.
 #![tactic(auto, using(crate::proofs::StoredLemmas::value_answered, crate::proofs::StoredLemmas::cause_answered))]
 
-ghost use Rattle.std.specs.Prelude.{◌≡◌, ℕ, List, IsOkAnd, IsErrAnd, chars};
-ghost use Rattle.uses.specs.Common.{as_nanos, Terminal, what_of, Cause as AnyCause};
-ghost use Rattle.duration_str.specs.Older.{older_terminals, WasSentenceOf, WasRead, WasRefused};
+ghost use Rattle.std.specs.Prelude.{◌≡◌, ℕ, List, IsOkAnd, IsErrAnd, chars, map};
+ghost use Rattle.uses.specs.Common.{as_nanos, IsRead, IsSentenceOf, Terminal, terminal_of, what_of, Cause as AnyCause};
+ghost use Rattle.duration_str.specs.Older.{older_rules, WasRefused};
 ghost use Rattle.uses.specs.Stored.{unit_named, unit_of_first};
 
 use duration_str::laws::{older_texts, one_sentence};
@@ -18,7 +18,7 @@ use std::time::Duration;
 /// stored_duration("1y 2mon", Options::off()) // 425 days, as before
 /// ```
 pub fn stored_duration(text: &str, o: Options) -> Result<Duration, Fault<'_>>
-    ensures kept { (nanos : ℕ) → WasRead o (chars text.now) nanos
+    ensures kept { (nanos : ℕ) → IsRead (older_rules o) (chars text.now) nanos
         → IsOkAnd result (λ d. as_nanos d ≡ nanos) }
     ensures refused { (cause : AnyCause) → WasRefused o (chars text.now) cause
         → IsErrAnd result (λ f. f.cause ≡ cause) }
@@ -35,8 +35,8 @@ pub fn stored_duration(text: &str, o: Options) -> Result<Duration, Fault<'_>>
 /// first_unit("90 min + 1h", Options::off()) // Some(TimeUnit::Minute)
 /// ```
 pub fn first_unit(text: &str, o: Options) -> Option<TimeUnit>
-    ensures { (lexemes : List (List ℕ)) → WasSentenceOf o lexemes (chars text.now)
-        → result ≡ unit_of_first (older_terminals o lexemes) }
+    ensures { (lexemes : List (List ℕ)) → IsSentenceOf (older_rules o) lexemes (chars text.now)
+        → result ≡ unit_of_first (map (terminal_of (older_rules o)) lexemes) }
 {
     older_texts();
     one_sentence();

@@ -1,6 +1,6 @@
 //! Sums of durations: their value without writing them, and their terms in another order.
 ghost use Rattle.std.specs.Prelude.{◌≡◌, ◌↔◌, ℕ, false, ◌==◌, ◌++◌, None, List, Option, not, codes, reverse, IfSome, IfNone, chars};
-ghost use Rattle.uses.specs.Common.{as_nanos, list_all, Options as Choice, TimeUnit as Unit, HasNoStar, IsReadWith, IsRefusedWith, Overflow};
+ghost use Rattle.uses.specs.Common.{as_nanos, list_all, Options as Choice, TimeUnit as Unit, HasNoStar, IsRead, IsRefused, Overflow, rules_with};
 ghost use Rattle.std.specs.List.Sorted.{IsPermutation, IsNonDecreasingBy};
 ghost use Rattle.uses.specs.Product.{nanos_in};
 ghost use Rattle.uses.specs.Sum.{Adds};
@@ -20,8 +20,8 @@ pub fn longest_first(parts: &mut [Part])
     ensures permuted { IsPermutation parts.old parts.new }
     ensures order { IsNonDecreasingBy nanos_in (reverse parts.new) }
     ensures same { (default_unit : Option Unit) (o : Choice) (a b : List ℕ) (nanos : ℕ)
-        → Adds default_unit o parts.old a → Adds default_unit o parts.new b
-        → (IsReadWith default_unit o a nanos ↔ IsReadWith default_unit o b nanos) }
+        → let r = rules_with o default_unit in Adds r parts.old a → Adds r parts.new b
+        → (IsRead r a nanos ↔ IsRead r b nanos) }
 {
     reorder();
     parts.sort_unstable_by_key(|part| part.wide_nanos());
@@ -41,13 +41,13 @@ pub fn total_of(
     o: Options,
     default_unit: Option<TimeUnit>,
 ) -> Option<Duration>
-    ensures read { IfSome result (λ d. IsReadWith default_unit o
+    ensures read { IfSome result (λ d. IsRead (rules_with o default_unit)
         (chars text.now ++ codes "+" ++ chars other.now) (as_nanos d)) }
     ensures refused { IfNone result ((m n : ℕ) → o.no_calc ≡ false
         → HasNoStar (chars text.now) → HasNoStar (chars other.now)
-        → IsReadWith default_unit o (chars text.now) m
-        → IsReadWith default_unit o (chars other.now) n
-        → IsRefusedWith default_unit o
+        → IsRead (rules_with o default_unit) (chars text.now) m
+        → IsRead (rules_with o default_unit) (chars other.now) n
+        → IsRefused (rules_with o default_unit)
         (chars text.now ++ codes "+" ++ chars other.now) (Overflow None)) }
 {
     sum_of_texts();

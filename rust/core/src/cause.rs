@@ -3,7 +3,7 @@
 //! syntax fault.
 
 use crate::operator::CondUnit;
-use crate::unit::TimeUnit;
+use crate::settings::Settings;
 
 /// What could stand at the place of a syntax fault. Each field says whether one kind of item could stand there.
 ///
@@ -39,21 +39,21 @@ impl Expected {
     }
 
     #[inline(always)]
-    pub(crate) fn after_number(no_calc: bool, default_unit: Option<TimeUnit>) -> Expected {
+    pub(crate) fn after_number(settings: Settings) -> Expected {
         Expected {
             number: false,
             unit_word: true,
-            operator: default_unit.is_some() && !no_calc,
-            text_end: default_unit.is_some(),
+            operator: settings.default_unit.is_some() && !settings.options.no_calc,
+            text_end: settings.default_unit.is_some(),
         }
     }
 
     #[inline(always)]
-    pub(crate) fn after_unit(no_calc: bool) -> Expected {
+    pub(crate) fn after_unit(settings: Settings) -> Expected {
         Expected {
             number: true,
             unit_word: false,
-            operator: !no_calc,
+            operator: !settings.options.no_calc,
             text_end: true,
         }
     }

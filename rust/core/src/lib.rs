@@ -38,6 +38,8 @@ mod reader;
 #[forbid(unsafe_code)]
 mod report;
 #[forbid(unsafe_code)]
+mod settings;
+#[forbid(unsafe_code)]
 mod table;
 #[forbid(unsafe_code)]
 mod token;

@@ -5,6 +5,7 @@ pub use crate::cause::{Cause, Expected};
 pub use crate::fault::Fault;
 use crate::options::Options;
 use crate::reader::read;
+use crate::settings::Settings;
 use crate::table::UnitTable;
 use crate::token::Tokens;
 use crate::unit::TimeUnit;
@@ -109,8 +110,8 @@ pub fn parse_with_default_unit(
 
 /// Reads a text as `parse_with_default_unit` does, and returns the duration in nanoseconds.
 ///
-/// If all options are off and the default unit is the second, it calls a copy of the reader that is compiled for this
-/// case, and is faster.
+/// The reader is compiled twice: once for the case that all options are off and the default unit is the second, which
+/// is faster, and once for all other cases.
 ///
 /// # Errors
 ///
@@ -141,10 +142,8 @@ fn nanos_chosen(input: &str, o: Options, default_unit: Option<TimeUnit>) -> Resu
     parse_nanos_specialized(input, o, default_unit)
 }
 
-/// Returns what `parse_nanos` returns. For each call in the source, the compiler makes a copy of the reader.
-///
-/// If the compiler knows the options of a call, it makes that copy for these options alone, which is faster. Each copy
-/// adds 3 to 6 kB to the program.
+/// Returns what `parse_nanos` returns. The whole reader is compiled into each place in the source that calls this, and
+/// adds 3 to 6 kB to the program there. It is faster if the compiler knows the options of the call.
 ///
 /// # Errors
 ///
@@ -159,7 +158,7 @@ pub fn parse_nanos_specialized(
     o: Options,
     default_unit: Option<TimeUnit>,
 ) -> Result<u64, Fault<'_>> {
-    read_text(input, UnitTable::Own, o, default_unit).0
+    read_text(input, Settings::with(o, default_unit)).0
 }
 
 /// Reads a text by the names and the lengths of the units of the crate humantime, and returns the duration in
@@ -167,7 +166,7 @@ pub fn parse_nanos_specialized(
 ///
 /// A month has 30.44 days and a year 365.25. Each number needs a unit. The library's own names are read too, and `+` and
 /// `*`. For humantime's texts turn on `lowercase`, so that `1M` is a month and `1m` a minute. As with
-/// `parse_nanos_specialized`, the compiler makes a copy of the reader for each call in the source.
+/// `parse_nanos_specialized`, the whole reader is compiled into each place in the source that calls this.
 ///
 /// # Errors
 ///
@@ -180,7 +179,12 @@ pub fn parse_nanos_specialized(
 /// ```
 #[inline(always)]
 pub fn parse_humantime_specialized(input: &str, o: Options) -> Result<u64, Fault<'_>> {
-    read_text(input, UnitTable::Humantime, o, None).0
+    let settings = Settings {
+        table: UnitTable::Humantime,
+        default_unit: None,
+        options: o,
+    };
+    read_text(input, settings).0
 }
 
 /// Returns what `parse_with` returns, and how many times a character of the text was looked at.
@@ -193,17 +197,12 @@ pub fn parse_humantime_specialized(input: &str, o: Options) -> Result<u64, Fault
 /// parse_looked("3m 13s", Options::off()) // (Ok(Duration::from_secs(193)), 6)
 /// ```
 pub fn parse_looked(input: &str, o: Options) -> (Result<Duration, Fault<'_>>, u64) {
-    let (answer, looks) = read_text(input, UnitTable::Own, o, Some(TimeUnit::Second));
+    let (answer, looks) = read_text(input, Settings::of(o));
     (answer.map(Duration::from_nanos), looks)
 }
 
 #[inline(always)]
-fn read_text(
-    input: &str,
-    table: UnitTable,
-    o: Options,
-    default_unit: Option<TimeUnit>,
-) -> (Result<u64, Fault<'_>>, u64) {
+fn read_text(input: &str, settings: Settings) -> (Result<u64, Fault<'_>>, u64) {
     if input.is_empty() {
         let fault = Fault {
             text: input,
@@ -211,8 +210,8 @@ fn read_text(
         };
         return (Err(fault), 0);
     }
-    let mut tokens = Tokens::new(input, o);
-    match read(&mut tokens, table, o.no_calc, default_unit) {
+    let mut tokens = Tokens::new(input, settings.options);
+    match read(&mut tokens, settings) {
         Ok(nanos) => (Ok(nanos), tokens.looked()),
         Err(cause) => (Err(Fault { text: input, cause }), tokens.looked()),
     }

@@ -5,7 +5,8 @@
 //! left, and so on down to the smallest unit, or until there are as many parts as were asked for. Counts of 0 are left
 //! out, and so is what remains at the end. A duration of 0 is `0s`.
 //!
-//! Each function that writes begins after the first `at` bytes of the buffer, and returns where its part ends.
+//! Each function that writes keeps the first `at` bytes of the buffer, writes its part after them, and returns where
+//! that part ends.
 
 use crate::breakdown::Breakdown;
 use crate::format::{Format, Style, Units};

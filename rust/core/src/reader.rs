@@ -3,7 +3,7 @@
 
 use crate::cause::{Cause, Expected};
 use crate::operator::CondUnit;
-use crate::table::UnitTable;
+use crate::settings::Settings;
 use crate::token::{TokenStart, Tokens};
 use crate::unit::TimeUnit;
 
@@ -18,29 +18,22 @@ type Later = Result<Option<(CondUnit, u64)>, Cause>;
 /// term is returned at once. Otherwise that fault is kept in place of the total while the rest is read, since a syntax
 /// fault in the rest comes first.
 #[inline(always)]
-pub(crate) fn read(
-    tokens: &mut Tokens<'_>,
-    table: UnitTable,
-    no_calc: bool,
-    default_unit: Option<TimeUnit>,
-) -> Result<u64, Cause> {
+pub(crate) fn read(tokens: &mut Tokens<'_>, settings: Settings) -> Result<u64, Cause> {
     expect_number(tokens)?;
     let number = tokens.take_number();
-    let value = table.times(
-        read_unit(tokens, table, no_calc, default_unit)?,
-        number,
-        Some(0),
-    )?;
-    let (first, mut later) = if no_calc {
+    let value = settings
+        .table
+        .times(read_unit(tokens, settings)?, number, Some(0))?;
+    let (first, mut later) = if settings.options.no_calc {
         (0, Ok(Some((CondUnit::Plus, value))))
     } else {
         (value, Ok(None))
     };
-    while let Some(next) = read_operator(tokens, no_calc)? {
+    while let Some(next) = read_operator(tokens, settings)? {
         let number = tokens.take_number();
-        let unit = read_unit(tokens, table, no_calc, default_unit)?;
-        later = with_term(later, next, number, table, unit);
-        if no_calc {
+        let unit = read_unit(tokens, settings)?;
+        later = with_term(later, next, number, settings, unit);
+        if settings.options.no_calc {
             later?;
         }
     }
@@ -62,71 +55,62 @@ fn expect_number(tokens: &mut Tokens<'_>) -> Result<(), Cause> {
 /// Reads the unit after a number. If an operator or the end follows, the unit is the default unit, and no token is
 /// taken.
 #[inline(always)]
-fn read_unit(
-    tokens: &mut Tokens<'_>,
-    table: UnitTable,
-    no_calc: bool,
-    default_unit: Option<TimeUnit>,
-) -> Result<TimeUnit, Cause> {
+fn read_unit(tokens: &mut Tokens<'_>, settings: Settings) -> Result<TimeUnit, Cause> {
     let Some(sort) = tokens.sort_after_number() else {
-        return unit_left_out(tokens.place(), no_calc, default_unit);
+        return unit_left_out(tokens.place(), settings);
     };
     let place = tokens.place();
     match sort {
-        TokenStart::Word => match tokens.take_word(table) {
+        TokenStart::Word => match tokens.take_word(settings) {
             Some(unit) => Ok(unit),
-            None => Err(no_unit(place, no_calc, default_unit)),
+            None => Err(no_unit(place, settings)),
         },
-        TokenStart::Operator(_) if !no_calc => unit_left_out(place, no_calc, default_unit),
+        TokenStart::Operator(_) if !settings.options.no_calc => unit_left_out(place, settings),
         // This is an arm of its own, since in one with two patterns the prover would not know which
         // one matched.
-        TokenStart::Operator(_) => Err(no_unit(place, no_calc, default_unit)),
-        TokenStart::Number | TokenStart::Other => Err(no_unit(place, no_calc, default_unit)),
+        TokenStart::Operator(_) => Err(no_unit(place, settings)),
+        TokenStart::Number | TokenStart::Other => Err(no_unit(place, settings)),
     }
 }
 
 /// Returns the default unit, which a number without a unit has. If there is no default unit, returns a syntax fault at
 /// `place`, where only a unit could stand.
 #[inline(always)]
-fn unit_left_out(
-    place: usize,
-    no_calc: bool,
-    default_unit: Option<TimeUnit>,
-) -> Result<TimeUnit, Cause> {
-    default_unit.ok_or(no_unit(place, no_calc, default_unit))
+fn unit_left_out(place: usize, settings: Settings) -> Result<TimeUnit, Cause> {
+    settings.default_unit.ok_or(no_unit(place, settings))
 }
 
 /// The syntax fault of a token that can't follow a number.
 #[inline(always)]
-fn no_unit(place: usize, no_calc: bool, default_unit: Option<TimeUnit>) -> Cause {
-    Cause::syntax(place, Expected::after_number(no_calc, default_unit))
+fn no_unit(place: usize, settings: Settings) -> Cause {
+    Cause::syntax(place, Expected::after_number(settings))
 }
 
 /// Reads the operator after a unit, and moves to the number that must follow. If the operator is left out, it is a
 /// plus. At the end of the text the result is `None`.
 #[inline(always)]
-fn read_operator(tokens: &mut Tokens<'_>, no_calc: bool) -> Result<Option<CondUnit>, Cause> {
+fn read_operator(tokens: &mut Tokens<'_>, settings: Settings) -> Result<Option<CondUnit>, Cause> {
     let Some(sort) = tokens.sort_ahead() else {
         return Ok(None);
     };
     let place = tokens.place();
     match sort {
         TokenStart::Number => Ok(Some(CondUnit::Plus)),
-        TokenStart::Operator(operator) if !no_calc => {
+        TokenStart::Operator(operator) if !settings.options.no_calc => {
             tokens.advance();
             expect_number(tokens)?;
             Ok(Some(operator))
         }
         // This is an arm of its own, as in `read_unit`.
-        TokenStart::Operator(_) => Err(no_operator(place, no_calc)),
-        TokenStart::Word | TokenStart::Other => Err(no_operator(place, no_calc)),
+        TokenStart::Operator(_) => Err(no_operator(place, settings)),
+        TokenStart::Word | TokenStart::Other => Err(no_operator(place, settings)),
     }
 }
 
 /// The syntax fault of a token that can't follow a unit.
 #[inline(always)]
-fn no_operator(place: usize, no_calc: bool) -> Cause {
-    Cause::syntax(place, Expected::after_unit(no_calc))
+fn no_operator(place: usize, settings: Settings) -> Cause {
+    Cause::syntax(place, Expected::after_unit(settings))
 }
 
 /// Adds one more term to the later terms. `next` is the operator before it.
@@ -135,11 +119,11 @@ fn with_term(
     later: Later,
     next: CondUnit,
     number: Option<u64>,
-    table: UnitTable,
+    settings: Settings,
     unit: TimeUnit,
 ) -> Later {
     let Some((operator, total)) = later? else {
-        return Ok(Some((next, table.times(unit, number, None)?)));
+        return Ok(Some((next, settings.table.times(unit, number, None)?)));
     };
     if next != operator {
         return Err(Cause::Mixed {
@@ -147,7 +131,7 @@ fn with_term(
             later: next,
         });
     }
-    let value = table.times(unit, number, None)?;
+    let value = settings.table.times(unit, number, None)?;
     Ok(Some((next, within(combination(next, total, value))?)))
 }
 

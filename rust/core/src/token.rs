@@ -7,7 +7,7 @@ use crate::options::Options;
 use crate::packed::{
     MODULUS, MOST_BYTES, first_number, is_unit_letter, letter_number, with_letter,
 };
-use crate::table::UnitTable;
+use crate::settings::Settings;
 use crate::unit::TimeUnit;
 
 /// What a token is: a number, a word with the unit that it names, an operator, or another character.
@@ -196,15 +196,15 @@ impl<'a> Tokens<'a> {
         packed
     }
 
-    /// Takes the word ahead. Returns the unit that it names in this table, if any.
+    /// Takes the word ahead. Returns the unit that it names by these settings, if any.
     #[inline(always)]
-    pub(crate) fn take_word(&mut self, table: UnitTable) -> Option<TimeUnit> {
+    pub(crate) fn take_word(&mut self, settings: Settings) -> Option<TimeUnit> {
         let start = self.eye.place();
         let packed = self.take_letters();
         if self.eye.place() - start > MOST_BYTES {
             return None;
         }
-        table.unit_of_packed(packed)
+        settings.table.unit_of_packed(packed)
     }
 
     #[inline(always)]
@@ -214,7 +214,7 @@ impl<'a> Tokens<'a> {
                 let _ = self.take_number();
                 What::Number
             }
-            TokenStart::Word => What::Word(self.take_word(UnitTable::Own)),
+            TokenStart::Word => What::Word(self.take_word(Settings::of(self.options))),
             TokenStart::Operator(operator) => {
                 self.advance();
                 What::Operator(operator)

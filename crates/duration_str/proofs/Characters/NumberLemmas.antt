@@ -1,5 +1,5 @@
 -- The definitions about digits agree with those of Rust's standard library.
-use Rattle.duration_str.proofs.Common.{and_parts, ap, arith, Bool, cases_Bool, cases_lt, chars, common_steps, cond-true, decimal, decimal_nonempty, digits_decimal, digits_value-decimal, drop, drop-cons, encodes-chars, encodes-IsAscii, false, fits, get_or, inl, inr, is_digit, IsAscii-from_digits, IsNumber, IsTrue, IsUtf8, le-ltb, length, length-drop, List, list_all, list_all-append, lt-ltb, mul-pos, nat_le, nat_tests, number, number_after, number_of, Option, Options, pow-suc, refl, Result, rules, Some, suc, sym, take, take-append-drop, terminal_of, true, u64_from, [], ℕ, ◌%◌, ◌&&◌, ◌*◌, ◌++◌, ◌+◌, ◌-◌, ◌<◌, ◌==◌, ◌^◌, ◌||◌, ◌∙◌, ◌∷◌, ◌≡◌, ◌≤◌}
+use Rattle.duration_str.proofs.Common.{[], and_parts, ap, arith, Bool, cases_Bool, cases_lt, chars, common_steps, cond-true, decimal, decimal_nonempty, digits_decimal, digits_value-decimal, drop, drop-cons, encodes-chars, encodes-IsAscii, false, fits, get_or, inl, inr, is_digit, IsAscii-from_digits, IsNumber, IsTrue, IsUtf8, le-ltb, length, length-drop, List, list_all, list_all-append, lt-ltb, mul-pos, nat_le, nat_tests, number, number_after, number_of, Option, pow-suc, refl, Result, Rules, rules, Some, suc, sym, take, take-append-drop, terminal_of, true, u64_from, ℕ, ◌%◌, ◌&&◌, ◌*◌, ◌++◌, ◌+◌, ◌-◌, ◌<◌, ◌==◌, ◌^◌, ◌||◌, ◌∙◌, ◌∷◌, ◌≡◌, ◌≤◌}
 use Rattle.std.proofs.lemmas.Str.Parse.{digits_value_short, IsNumeralModel, numerals_by_fold}
 use native.Mathlib.Nat.{pow-le-pow_right}
 use Rattle.std.specs.Bool.{then_some}
@@ -92,11 +92,11 @@ pub parsed_u64 : {E : Type 0} (bs : List ℕ) (r : Result ℕ E) (parsed : Optio
     → ParsesUnsigned 64 10 bs r → parsed ≡ result_ok r → parsed ≡ u64_from (number_of (chars bs))
 parsed_u64 bs r parsed utf8 digits parses is = search (rules, bytes_of_digits, decimal_digits)
 
-digits_terminal : (o : Options) (digits : List ℕ) → 0 < length digits → IsTrue (list_all is_digit digits)
-    → terminal_of o digits ≡ number (number_of digits)
-digits_terminal o digits some h = search (rules, cond-true)
+digits_terminal : (r : Rules) (digits : List ℕ) → 0 < length digits → IsTrue (list_all is_digit digits)
+    → terminal_of r digits ≡ number (number_of digits)
+digits_terminal r digits some h = search (rules, cond-true)
 
 -- The terminal of a number's decimal digits is that number.
-pub decimal_terminal : (o : Options) (n : ℕ) → n < 2 ^ 64 → terminal_of o (decimal n) ≡ number n
-decimal_terminal o n h =
+pub decimal_terminal : (r : Rules) (n : ℕ) → n < 2 ^ 64 → terminal_of r (decimal n) ≡ number n
+decimal_terminal r n h =
     search (rules, digits_terminal, decimal_nonempty, digits_decimal, decimal_digits, digits_value-decimal)

@@ -1,6 +1,7 @@
 -- Lemmas about packed names and their slots in the table.
-use Rattle.duration_str.proofs.Common.{all_names_in, and_from, and_parts, ap, arith, Bool, byte_len, bytes_eq, cases_Bool, chinese_letters, UnitTable, comparison_form, eq-eqb, eqb, eqb-true, false, false_from_ne_true, get_or, if◌then◌else◌, inl, inr, Humantime, is_chinese, is_named, is_named_in, is_unit_letter, leb, leb-true, length, length-reverse, letter_number, List, list_all, list_any, list_any-append, lit<, map, nat_tests, None, number_in, off, Options, or_cases, Own, packed_number, packed_number_after, packs_to, pow-le-pow_right, pow-succ', refl, reverse-reverse, row_of, rows_of, rules, Some, suc, sym, Table, TimeUnit, to_ascii_lowercase, true, unit_in, unit_of_word, units, width, [], ℕ, ◌%◌, ◌&&◌, ◌*◌, ◌+◌, ◌-◌, ◌/◌, ◌<◌, ◌==◌, ◌^◌, ◌||◌, ◌∙◌, ◌∷◌, ◌≡◌, ◌≤◌, ◌⊎◌}
+use Rattle.duration_str.proofs.Common.{[], all_names_in, and_from, and_parts, ap, arith, Bool, byte_len, bytes_eq, cases_Bool, chinese_letters, comparison_form, eq-eqb, eqb, eqb-true, false, false_from_ne_true, get_or, Humantime, if◌then◌else◌, inl, inr, is_chinese, is_in_row, is_named, is_unit_letter, leb, leb-true, length, length-reverse, letter_number, List, list_all, list_any, list_any-append, lit<, map, meaning_of, nat_tests, None, number_in, off, Options, or_cases, Own, packed_number, packed_number_after, packs_to, pow-le-pow_right, pow-succ', refl, reverse-reverse, row_of, table_of, Rules, rules, rules_of, Second, Some, suc, sym, Table, TimeUnit, to_ascii_lowercase, true, unit_of_word, units, UnitTable, width, ℕ, ◌%◌, ◌&&◌, ◌*◌, ◌+◌, ◌-◌, ◌/◌, ◌<◌, ◌==◌, ◌^◌, ◌||◌, ◌∙◌, ◌∷◌, ◌≡◌, ◌≤◌, ◌⊎◌}
 use mathlib.Core.List.{reverse, reverse_aux}
+use Rattle.duration_str.specs.declared.settings.Settings.{Settings}
 use Rattle.duration_str.specs.Internal.UnitTable.{unit_of_packed}
 use Rattle.std.proofs.lemmas.List.{get_or-map, length-map}
 use Rattle.std.proofs.lemmas.List.Folds.{list_all_at}
@@ -233,14 +234,14 @@ names_test v (name ∷ names) letters own =
     let parts = and_parts (are_name_letters name) _ own in
     rw (name_test v name letters parts.0, names_test v names letters parts.1)
 
-letters_in_table : (table : UnitTable) (u : TimeUnit) → list_all are_name_letters (all_names_in (rows_of table) u) ≡ true
-letters_in_table Own = all_units (λ u. list_all are_name_letters (all_names_in (rows_of Own) u)) refl
-letters_in_table Humantime = all_units (λ u. list_all are_name_letters (all_names_in (rows_of Humantime) u)) refl
+letters_in_table : (table : UnitTable) (u : TimeUnit) → list_all are_name_letters (all_names_in (table_of table) u) ≡ true
+letters_in_table Own = all_units (λ u. list_all are_name_letters (all_names_in (table_of Own) u)) refl
+letters_in_table Humantime = all_units (λ u. list_all are_name_letters (all_names_in (table_of Humantime) u)) refl
 
 -- each Chinese name has a Chinese character
-chinese_in_table : (table : UnitTable) (u : TimeUnit) → list_all (list_any is_chinese) (rows_of table u).chinese ≡ true
-chinese_in_table Own = all_units (λ u. list_all (list_any is_chinese) (rows_of Own u).chinese) refl
-chinese_in_table Humantime = all_units (λ u. list_all (list_any is_chinese) (rows_of Humantime u).chinese) refl
+chinese_in_table : (table : UnitTable) (u : TimeUnit) → list_all (list_any is_chinese) (table_of table u).chinese ≡ true
+chinese_in_table Own = all_units (λ u. list_all (list_any is_chinese) (table_of Own u).chinese) refl
+chinese_in_table Humantime = all_units (λ u. list_all (list_any is_chinese) (table_of Humantime u).chinese) refl
 
 -- without `cn_unit` a word of unit letters has no Chinese character, so it is no Chinese name
 no_chinese_letter : (o : Options) (w : List ℕ) → o.cn_unit ≡ false → list_all (is_unit_letter o) w ≡ true
@@ -260,18 +261,18 @@ no_chinese_letter o w off e = elim (cases_Bool o.lowercase) [
 
 no_chinese_name : (table : UnitTable) (o : Options) (w : List ℕ) (u : TimeUnit) → o.cn_unit ≡ false
     → list_all (is_unit_letter o) w ≡ true
-    → list_any (bytes_eq (comparison_form o w)) (rows_of table u).chinese ≡ false
+    → list_any (bytes_eq (comparison_form o w)) (table_of table u).chinese ≡ false
 no_chinese_name table o w u off e = false_from_ne_true _ (λ named. cc (
   no_chinese_letter o w off e,
-  named_passes (list_any is_chinese) (comparison_form o w) (rows_of table u).chinese (chinese_in_table table u) named,
+  named_passes (list_any is_chinese) (comparison_form o w) (table_of table u).chinese (chinese_in_table table u) named,
 ))
 
 named_by_number : (table : UnitTable) (o : Options) (w : List ℕ) (u : TimeUnit) → list_all (is_unit_letter o) w ≡ true
-    → is_named_in (rows_of table) o w u ≡ list_any (packs_to (packed_number o w)) (all_names_in (rows_of table) u)
+    → is_in_row o w (table_of table u) ≡ list_any (packs_to (packed_number o w)) (all_names_in (table_of table) u)
 named_by_number table o w u letters =
     let form = comparison_form o w in
-    let all = names_test form (all_names_in (rows_of table) u) (form_letters o w letters) (letters_in_table table u) in
-    let parts = list_any-append (bytes_eq form) (rows_of table u).names in
+    let all = names_test form (all_names_in (table_of table) u) (form_letters o w letters) (letters_in_table table u) in
+    let parts = list_any-append (bytes_eq form) (table_of table u).names in
     rw (form_packed o w, ← all, parts) (elim (cases_Bool o.cn_unit) [
       | inl on ↦ rw on
       | inr off ↦ rw (off, no_chinese_name table o w u off letters)
@@ -280,14 +281,14 @@ named_by_number table o w u letters =
 -- ---- words that name no unit
 
 -- A word names no unit if all names pass a test that the word fails.
-pub no_name : (rows : Table) (o : Options) (w : List ℕ) (test : List ℕ → Bool)
-    → list_all (λ u. list_all test (all_names_in rows u)) units ≡ true
-    → test (comparison_form o w) ≡ false → None ≡ unit_in rows o w
-no_name rows o w test all fails =
-    let unnamed = λ (u : TimeUnit). false_from_ne_true (is_named_in rows o w u) (λ t. cc (
+pub no_name : (r : Rules) (w : List ℕ) (test : List ℕ → Bool)
+    → list_all (λ u. list_all test (all_names_in r.table u)) units ≡ true
+    → test (comparison_form r.options w) ≡ false → None ≡ unit_of_word r w
+no_name r w test all fails =
+    let unnamed = λ (u : TimeUnit). false_from_ne_true (is_named r w u) (λ t. cc (
       fails,
-      named_passes test (comparison_form o w) (all_names_in rows u)
-          (all_units (λ v. list_all test (all_names_in rows v)) all u) (among_all rows o w u t),
+      named_passes test (comparison_form r.options w) (all_names_in r.table u)
+          (all_units (λ v. list_all test (all_names_in r.table v)) all u) (among_all r.table r.options w u t),
     )) in
     simp unnamed
 
@@ -308,7 +309,7 @@ letters_of_chinese : (o : Options) (u : TimeUnit) → o.cn_unit ≡ true
     → list_all (list_all (is_unit_letter o)) (row_of u).chinese ≡ true
 letters_of_chinese o u on = search rules
 
-named_letters : (o : Options) (w : List ℕ) (u : TimeUnit) → is_named o w u ≡ true → list_all (is_unit_letter o) w ≡ true
+named_letters : (o : Options) (w : List ℕ) (u : TimeUnit) → is_named (rules_of o) w u ≡ true → list_all (is_unit_letter o) w ≡ true
 named_letters o w u h =
     let form = comparison_form o w in
     let letters : list_all (is_unit_letter o) form ≡ true =
@@ -320,9 +321,9 @@ named_letters o w u h =
     sym (letters_form o w) ∙ letters
 
 -- A word with a character that is no unit letter names no unit.
-pub no_letter_name : (o : Options) (w : List ℕ) → list_all (is_unit_letter o) w ≡ false → None ≡ unit_of_word o w
+pub no_letter_name : (o : Options) (w : List ℕ) → list_all (is_unit_letter o) w ≡ false → None ≡ unit_of_word (rules_of o) w
 no_letter_name o w other =
-    let unnamed = λ (u : TimeUnit). false_from_ne_true (is_named o w u) (λ t. cc (other, named_letters o w u t)) in
+    let unnamed = λ (u : TimeUnit). false_from_ne_true (is_named (rules_of o) w u) (λ t. cc (other, named_letters o w u t)) in
     simp unnamed
 
 byte_len-form : (o : Options) (w : List ℕ) → byte_len (comparison_form o w) ≡ byte_len w
@@ -334,13 +335,13 @@ byte_len-form o w = elim (cases_Bool o.lowercase) [ inl on ↦ rw on refl | inr 
         let same : width (to_ascii_lowercase c) ≡ width c = grind (arith, nat_tests) in rw (same, lower cs)
 
 short_names : (table : UnitTable)
-    → list_all (λ u. list_all (λ name. leb (byte_len name) 12) (all_names_in (rows_of table) u)) units ≡ true
+    → list_all (λ u. list_all (λ name. leb (byte_len name) 12) (all_names_in (table_of table) u)) units ≡ true
 short_names Own = refl
 short_names Humantime = refl
 
-pub no_long_name : (table : UnitTable) (o : Options) (w : List ℕ) → 12 < byte_len w → None ≡ unit_in (rows_of table) o w
-no_long_name table o w long = no_name (rows_of table) o w (λ name. leb (byte_len name) 12) (short_names table)
-    (false_from_ne_true _ (λ t. absurd (omega (arith, leb-true _ _ t, byte_len-form o w))))
+pub no_long_name : (settings : Settings) (w : List ℕ) → 12 < byte_len w → None ≡ unit_of_word (meaning_of settings) w
+no_long_name settings w long = no_name (meaning_of settings) w (λ name. leb (byte_len name) 12) (short_names settings.table)
+    (false_from_ne_true _ (λ t. absurd (omega (arith, leb-true _ _ t, byte_len-form settings.options w))))
 
 -- if the packed numbers of all names pass a test, a number that fails the test is not that of a name
 absent : (test : ℕ → Bool) (n : ℕ) → test n ≡ false → (ns : List (List ℕ))
@@ -352,20 +353,25 @@ absent test n fails (name ∷ ns) all =
     (λ e. let same = eqb-true (packed_number kept_capitals name) n e in cc (fails, rw same at parts.0)) in
     rw (other, absent test n fails ns parts.1)
 
-pub no_packed_name : (rows : Table) (test : ℕ → Bool) (n : ℕ) → test n ≡ false
-    → list_all (λ u. list_all (λ name. test (packed_number kept_capitals name)) (all_names_in rows u)) units ≡ true
-    → None ≡ unit_of_packed rows n
+pub no_packed_name : (table : Table) (test : ℕ → Bool) (n : ℕ) → test n ≡ false
+    → list_all (λ u. list_all (λ name. test (packed_number kept_capitals name)) (all_names_in table u)) units ≡ true
+    → None ≡ unit_of_packed table n
 unfolding unit_of_packed
-no_packed_name rows test n fails all =
-    let none = λ (u : TimeUnit). absent test n fails (all_names_in rows u)
-    (all_units (λ v. list_all (λ name. test (packed_number kept_capitals name)) (all_names_in rows v)) all u) in
+no_packed_name table test n fails all =
+    let none = λ (u : TimeUnit). absent test n fails (all_names_in table u)
+    (all_units (λ v. list_all (λ name. test (packed_number kept_capitals name)) (all_names_in table v)) all u) in
     simp none
 
+-- the settings with the library's own table, and with the second as the default unit
+abbrev pub own_settings : Options → Settings
+own_settings o = record { table = Own; default_unit = Some Second; options = o }
+
 -- a word of unit letters names the unit of its packed number
-pub unit_by_number : (table : UnitTable) (o : Options) (w : List ℕ) → list_all (is_unit_letter o) w ≡ true
-    → unit_in (rows_of table) o w ≡ unit_of_packed (rows_of table) (packed_number o w)
+pub unit_by_number : (settings : Settings) (w : List ℕ) → list_all (is_unit_letter settings.options) w ≡ true
+    → unit_of_word (meaning_of settings) w ≡ unit_of_packed (table_of settings.table) (packed_number settings.options w)
 unfolding unit_of_packed
-unit_by_number table o w letters = simp (λ (u : TimeUnit). named_by_number table o w u letters)
+unit_by_number settings w letters =
+    simp (λ (u : TimeUnit). named_by_number settings.table settings.options w u letters)
 
 -- ---- slots
 
@@ -382,15 +388,15 @@ slot_below slots count i less all = elim (cases_Bool (leb (suc (get_or slots i 0
 ]
 
 -- the unit of a name in the table stands at the same index of the table of units
-pub name_found : (rows : Table) (names : List ℕ) (table : List TimeUnit) (i m n : ℕ) (u : TimeUnit)
-    → map (unit_of_packed rows) names ≡ map Some table → i < length names → get_or names i m ≡ n
-    → Some (get_or table i u) ≡ unit_of_packed rows n
-name_found rows names table i m n u same less key =
-    let many : length names ≡ length table =
-    sym (length-map names (unit_of_packed rows)) ∙ ap length same ∙ length-map table Some in
-    let there = get_or-map Some table i u None (omega (arith, many, less)) in
-    let here = get_or-map (unit_of_packed rows) names i m None less in
-    sym there ∙ ap (λ units. get_or units i None) (sym same) ∙ here ∙ ap (unit_of_packed rows) key
+pub name_found : (table : Table) (names : List ℕ) (found_units : List TimeUnit) (i m n : ℕ) (u : TimeUnit)
+    → map (unit_of_packed table) names ≡ map Some found_units → i < length names → get_or names i m ≡ n
+    → Some (get_or found_units i u) ≡ unit_of_packed table n
+name_found table names found_units i m n u same less key =
+    let many : length names ≡ length found_units =
+    sym (length-map names (unit_of_packed table)) ∙ ap length same ∙ length-map found_units Some in
+    let there = get_or-map Some found_units i u None (omega (arith, many, less)) in
+    let here = get_or-map (unit_of_packed table) names i m None less in
+    sym there ∙ ap (λ units. get_or units i None) (sym same) ∙ here ∙ ap (unit_of_packed table) key
 
 -- whether the slot of a number holds the index of that number
 abbrev pub is_kept : ℕ → ℕ → List ℕ → List ℕ → ℕ → ℕ → ℕ → Bool

@@ -1,5 +1,5 @@
 -- Lemmas about units and their names: as bytes and as characters, and with ASCII capitals.
-use Rattle.duration_str.proofs.Common.{all_names, all_names_in, and_parts, arith, Bool, byte_len, bytes_eq, bytes_eq-Decides, cases_Bool, common_steps, comparison_form, Day, encode_utf8_all, encodes, encodes_same, eqb, eqb-true, false, find, Hour, inl, inr, is_named, is_named_in, leb-true, length, List, list_all, list_any, list_any-append, map, map-append, MicroSecond, MilliSecond, Minute, Month, name_part, nanos_of, NanoSecond, not, Options, or_cases, Quarter, refl, row_of, rules, same_from_decides, Second, Some, Style, Table, TimeUnit, to_ascii_lowercase, true, unit_of_word, units, Week, Year, [], ℕ, ⊤, ◌||◌, ◌∷◌, ◌≡◌, ◌≤◌}
+use Rattle.duration_str.proofs.Common.{[], all_names, all_names_in, and_parts, arith, Bool, byte_len, bytes_eq, bytes_eq-Decides, cases_Bool, common_steps, comparison_form, Day, encode_utf8_all, encodes, encodes_same, eqb, eqb-true, false, find, Hour, inl, inr, is_in_row, is_named, leb-true, length, List, list_all, list_any, list_any-append, map, map-append, MicroSecond, MilliSecond, Minute, Month, name_part, nanos_of, NanoSecond, not, Options, or_cases, Quarter, refl, row_of, rules, rules_of, same_from_decides, Second, Some, Style, Table, TimeUnit, to_ascii_lowercase, true, unit_of_word, units, Week, Year, ℕ, ⊤, ◌||◌, ◌∷◌, ◌≡◌, ◌≤◌}
 use lib.Utf8.{encode}
 
 -- ---- A property that each unit in the table has is a property of every unit
@@ -74,12 +74,12 @@ named_passes test w [] all h = cc
 named_passes test w (name ∷ names) all h =
     search (rules, and_parts, or_cases, bytes_eq-Decides, named_passes test w names)
 
-pub among_all : (rows : Table) (o : Options) (w : List ℕ) (u : TimeUnit) → is_named_in rows o w u ≡ true
-    → list_any (bytes_eq (comparison_form o w)) (all_names_in rows u) ≡ true
-among_all rows o w u h = rw (list_any-append (bytes_eq (comparison_form o w)) (rows u).names) (grind arith)
+pub among_all : (table : Table) (o : Options) (w : List ℕ) (u : TimeUnit) → is_in_row o w (table u) ≡ true
+    → list_any (bytes_eq (comparison_form o w)) (all_names_in table u) ≡ true
+among_all table o w u h = rw (list_any-append (bytes_eq (comparison_form o w)) (table u).names) (grind arith)
 
 module _ (o : Options) where
-  one_unit : (w : List ℕ) (u v : TimeUnit) → is_named o w u ≡ true → is_named o w v ≡ true → u ≡ v
+  one_unit : (w : List ℕ) (u v : TimeUnit) → is_named (rules_of o) w u ≡ true → is_named (rules_of o) w v ≡ true → u ≡ v
   one_unit w u v h k = elim (or_cases (eqb (nanos_of u) (nanos_of v)) (are_apart u v) (all_apart u v)) [
     | inl same ↦ same_length u v (eqb-true (nanos_of u) (nanos_of v) same)
     | inr apart ↦
@@ -88,10 +88,10 @@ module _ (o : Options) where
   ]
 
   -- If the list has a unit that the word names, that unit is found, since the word names no other unit.
-  found_only : (w : List ℕ) (us : List TimeUnit) (u : TimeUnit) → is_named o w u ≡ true
-      → list_any (λ v. eqb (nanos_of v) (nanos_of u)) us ≡ true → find (is_named o w) us ≡ Some u
+  found_only : (w : List ℕ) (us : List TimeUnit) (u : TimeUnit) → is_named (rules_of o) w u ≡ true
+      → list_any (λ v. eqb (nanos_of v) (nanos_of u)) us ≡ true → find (is_named (rules_of o) w) us ≡ Some u
   found_only w [] u h there = cc
-  found_only w (v ∷ us) u h there = elim (cases_Bool (is_named o w v)) [
+  found_only w (v ∷ us) u h there = elim (cases_Bool (is_named (rules_of o) w v)) [
     | inl e ↦ rw (e, one_unit w v u e h)
     | inr e ↦ elim (or_cases (eqb (nanos_of v) (nanos_of u)) _ there) [
       | inl same ↦ cc (rw (same_length v u (eqb-true (nanos_of v) (nanos_of u) same), h) at e)
@@ -100,7 +100,7 @@ module _ (o : Options) where
   ]
 
   -- if a word is a name of a unit, it names that unit
-  pub named_unit : (w : List ℕ) (u : TimeUnit) → is_named o w u ≡ true → unit_of_word o w ≡ Some u
+  pub named_unit : (w : List ℕ) (u : TimeUnit) → is_named (rules_of o) w u ≡ true → unit_of_word (rules_of o) w ≡ Some u
   named_unit w u h =
       found_only w units u h (all_units (λ u. list_any (λ v. eqb (nanos_of v) (nanos_of u)) units) refl u)
 

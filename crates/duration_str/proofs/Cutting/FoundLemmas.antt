@@ -1,5 +1,5 @@
 -- The token at a place is found by cutting the text from a character before the place.
-use Rattle.duration_str.proofs.Common.{add-zero, add_assoc, ap, arith, Bor, byte_len, cases_Bool, chars, chars-append, common_steps, drop, drop-drop, false, goes_on, IsCharBoundary, IsSliceOf, IsUtf8, IsUtf8-take, length-take-le, List, map, nat_tests, None, Option, option_map, Options, refl, row_of, rules, Some, sym, take, take-append-drop, Token, token_at, tokens_from, tokens_of, true, width, with_first_character, [], ℕ, ◌++◌, ◌+◌, ◌-◌, ◌<◌, ◌==◌, ◌∙◌, ◌∷◌, ◌≡◌, ◌≤◌}
+use Rattle.duration_str.proofs.Common.{[], add-zero, add_assoc, ap, arith, Bor, byte_len, cases_Bool, chars, chars-append, common_steps, drop, drop-drop, false, goes_on, IsCharBoundary, IsSliceOf, IsUtf8, IsUtf8-take, length-take-le, List, map, nat_tests, None, Option, option_map, Options, refl, rules, rules_of, Some, sym, take, take-append-drop, Token, token_at, tokens_from, tokens_of, true, width, with_first_character, ℕ, ◌++◌, ◌+◌, ◌-◌, ◌<◌, ◌==◌, ◌∙◌, ◌∷◌, ◌≡◌, ◌≤◌}
 use Rattle.duration_str.proofs.Characters.CharacterLemmas.{run-not_blank, width_some}
 use Rattle.duration_str.proofs.OnePass.PlaceLemmas.{byte_count}
 use Rattle.duration_str.proofs.Cutting.SortLemmas.{first_token}
@@ -17,7 +17,7 @@ module _ (o : Options) where
       ≡ token_at place (tokens_from o (at + width c) text)
   without_joined at place c [] before e = cc e
   without_joined at place c (d ∷ more) before e =
-      let (cs, rest, is, _) = first_token row_of o (at + width c) d more (run-not_blank o c d e) in
+      let (cs, rest, is, _) = first_token (rules_of o) (at + width c) d more (run-not_blank o c d e) in
       rw is (elsewhere place at _ rest (omega (arith, before)) ∙ sym (elsewhere place (at + width c) cs rest before))
 
   -- A character that ends before the place can be left out without changing which token is found there.

@@ -1,10 +1,11 @@
 -- Lemmas about the steps of cutting, in terms of a text, the byte up to which it is cut, and the number of looks.
-use Rattle.duration_str.proofs.Common.{add-zero, ahead, and_from, ap, append_assoc, append_cancel_right, arith, Between, Bool, byte_len, chars, chars-append, UnitTable, drop, drop-drop, encodes-chars, EndsRun, false, ForSome, if◌then◌else◌, is_blank, is_digit, is_some, is_unit_letter, IsCharBoundary, IsLexeme, IsUtf8, IsUtf8-drop, IsUtf8-take, length, length-append, length-drop, length-le-encodes, letter_number, List, list_all-append, None, number_after, number_of, Option, Options, Own, packed_number_after, Passes, refl, row_of, rows_of, slice_range, Some, Stands, StandsAt, sym, Table, take, take-append-drop, TakesDigits, TakesLetters, TimeUnit, tokens_from, true, u64_from, unit_in, unit_of_packed, unit_of_word, width, [], ℕ, ◌%◌, ◌*◌, ◌++◌, ◌+◌, ◌-◌, ◌<◌, ◌^◌, ◌∙◌, ◌∷◌, ◌≡◌, ◌≤◌, append-nil, IsTrue, packed_number, list_all}
+use Rattle.duration_str.proofs.Common.{[], add-zero, ahead, and_from, ap, append-nil, append_assoc, append_cancel_right, arith, Between, Bool, byte_len, chars, chars-append, drop, drop-drop, encodes-chars, EndsRun, false, ForSome, if◌then◌else◌, is_blank, is_digit, is_some, is_unit_letter, IsCharBoundary, IsLexeme, IsTrue, IsUtf8, IsUtf8-drop, IsUtf8-take, length, length-append, length-drop, length-le-encodes, letter_number, List, list_all, list_all-append, meaning_of, None, number_after, number_of, Option, Options, packed_number, packed_number_after, Passes, refl, row_of, table_of, Rules, rules_of, slice_range, Some, Stands, StandsAt, sym, take, take-append-drop, TakesDigits, TakesLetters, TimeUnit, tokens_from, true, u64_from, unit_of_packed, unit_of_word, width, ℕ, ◌%◌, ◌*◌, ◌++◌, ◌+◌, ◌-◌, ◌<◌, ◌^◌, ◌∙◌, ◌∷◌, ◌≡◌, ◌≤◌}
 pub use Rattle.duration_str.proofs.Cutting.TokenLemmas.{blanks_no_token, tokens_step}
+use Rattle.duration_str.specs.declared.settings.Settings.{Settings}
 use Rattle.duration_str.proofs.Characters.CharacterLemmas.{byte_len-append, width_some}
 use Rattle.duration_str.proofs.Characters.NumberLemmas.{decimal_digits, whole_number}
 use Rattle.std.proofs.lemmas.Str.Parse.{digits_value_short}
-use Rattle.duration_str.proofs.Characters.PackedLemmas.{exact, no_letter_name, no_long_name, unit_by_number}
+use Rattle.duration_str.proofs.Characters.PackedLemmas.{own_settings, exact, no_letter_name, no_long_name, unit_by_number}
 
 -- ---- how many times a character was looked at
 
@@ -130,30 +131,29 @@ short_number taken short =
     let less = digits_value_short decimal_digits cs 19 taken.run.all few in
     whole_number (number_of cs) _ taken.number (omega arith)
 
--- The characters from `place` to `next` are unit letters, and `unit` is the unit that they name in this table.
-pub record TakesWord (rows : Table) (o : Options) (text : List ℕ) (place next : ℕ) (unit : Option TimeUnit)
-    : Type 0 where
-  pub run : Passes (is_unit_letter o) text place next
-  pub named : unit ≡ unit_in rows o run.characters
+-- The characters from `place` to `next` are unit letters, and `unit` is the unit that they name by these rules.
+pub record TakesWord (r : Rules) (text : List ℕ) (place next : ℕ) (unit : Option TimeUnit) : Type 0 where
+  pub run : Passes (is_unit_letter r.options) text place next
+  pub named : unit ≡ unit_of_word r run.characters
 
-module _ (table : UnitTable) {o : Options} {text : List ℕ} {place next value : ℕ}
-    (taken : TakesLetters o text place next value) where
+module _ (settings : Settings) {text : List ℕ} {place next value : ℕ}
+    (taken : TakesLetters settings.options text place next value) where
   -- a word of at most 12 bytes names the unit of its packed number
-  pub short_word : {unit : Option TimeUnit} → next - place ≤ 12 → unit ≡ unit_of_packed (rows_of table) value
-      → TakesWord (rows_of table) o text place next unit
+  pub short_word : {unit : Option TimeUnit} → next - place ≤ 12 → unit ≡ unit_of_packed (table_of settings.table) value
+      → TakesWord (meaning_of settings) text place next unit
   short_word short found =
       let cs = taken.run.characters in
       let few : length cs ≤ 12 = omega (arith, length-le-byte_len cs, taken.run.between.bytes, short) in
       record {
         run = taken.run;
-        named = rw (found, exact o cs value few taken.number, unit_by_number table o cs taken.run.all);
+        named = rw (found, exact settings.options cs value few taken.number, unit_by_number settings cs taken.run.all);
       }
 
   -- a word of more than 12 bytes names no unit
-  pub long_word : 12 < next - place → TakesWord (rows_of table) o text place next None
+  pub long_word : 12 < next - place → TakesWord (meaning_of settings) text place next None
   long_word long = record {
     run = taken.run;
-    named = no_long_name table o taken.run.characters (omega (arith, taken.run.between.bytes));
+    named = no_long_name settings taken.run.characters (omega (arith, taken.run.between.bytes));
   }
 
 -- ---- a word by itself
@@ -179,17 +179,17 @@ packs_more {o} {c = c} passed letter more = record {
 
 -- a word whose characters are all packed names the unit of its packed number
 pub packs_unit : {o : Options} {word : List ℕ} {n : ℕ} {unit : Option TimeUnit} → Packs o word [] n → byte_len word ≤ 12
-    → unit ≡ unit_of_packed row_of n → unit ≡ unit_of_word o word
+    → unit ≡ unit_of_packed row_of n → unit ≡ unit_of_word (rules_of o) word
 packs_unit {o} {word} {n} packed short found =
     let cs = packed.letters in
     let same : cs ≡ word = rw append-nil at (sym packed.whole) in
     let few : length cs ≤ 12 = omega (arith, length-le-byte_len word, ap length same, short) in
-    found ∙ ap (unit_of_packed row_of) (exact o cs n few packed.number) ∙ sym (unit_by_number Own o cs packed.all)
-    ∙ ap (unit_of_word o) same
+    found ∙ ap (unit_of_packed row_of) (exact o cs n few packed.number) ∙ sym (unit_by_number (own_settings o) cs packed.all)
+    ∙ ap (unit_of_word (rules_of o)) same
 
 -- a word with a character that is no unit letter names no unit
 pub packs_other : {o : Options} {word rest : List ℕ} {c n : ℕ} → Packs o word (c ∷ rest) n → is_unit_letter o c ≡ false
-    → None ≡ unit_of_word o word
+    → None ≡ unit_of_word (rules_of o) word
 packs_other {o} {word} {rest} {c} packed other =
     no_letter_name o word
     (rw (packed.whole, list_all-append (is_unit_letter o) packed.letters (c ∷ rest), packed.all, other) refl)

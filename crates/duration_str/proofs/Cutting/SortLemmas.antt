@@ -1,5 +1,5 @@
 -- Lemmas about terminals and their sorts, and about tokens by their first character.
-use Rattle.duration_str.proofs.Common.{add-zero, ahead, and_from, and_parts, are_of_one_run, AreTokens, arith, Between, Bool, cases_Bool, common_steps, CondUnit, EndsRun, false, goes_on, if◌then◌else◌, inl, inr, is_blank, is_digit, is_number, is_unit_letter, IsLexeme, IsNumber, IsSign, IsTrue, length, List, list_all, None, Number, number, number_of, operator, operator_of, operator_or_other, Option, Options, or_cases, or_right, other, Passes, refl, rules, sign_sort, sign_terminal, Some, sort_at, sort_of, StandsAt, Stops, Table, Terminal, terminal_in, TimeUnit, Token, tokens_from, TokenStart, true, unit_in, with_first_character, Word, word, [], ℕ, ◌<◌, ◌∷◌, ◌≡◌}
+use Rattle.duration_str.proofs.Common.{[], add-zero, ahead, and_from, and_parts, are_of_one_run, AreTokens, arith, Between, Bool, cases_Bool, common_steps, CondUnit, EndsRun, false, goes_on, if◌then◌else◌, inl, inr, is_blank, is_digit, is_number, is_unit_letter, IsLexeme, IsNumber, IsSign, IsTrue, length, List, list_all, None, Number, number, number_of, operator, operator_of, operator_or_other, Option, Options, or_cases, or_right, other, Passes, refl, Rules, rules, sign_sort, sign_terminal, Some, sort_at, sort_of, StandsAt, Stops, Terminal, terminal_of, TimeUnit, Token, tokens_from, TokenStart, true, unit_of_word, with_first_character, Word, word, ℕ, ◌<◌, ◌∷◌, ◌≡◌}
 use Rattle.duration_str.proofs.Characters.CharacterLemmas.{all_weaker, digit-not_blank, digit-not_letter, letter-not_blank, letter-not_digit}
 use Rattle.duration_str.proofs.Cutting.TokenLemmas.{tokens_are}
 use Rattle.duration_str.proofs.Cutting.PositionLemmas.{TakesWord}
@@ -8,27 +8,27 @@ use Rattle.duration_str.proofs.Cutting.PositionLemmas.{TakesWord}
 
 -- A property of characters and their terminal holds if it holds in each of five cases: no characters, digits, unit
 -- letters, an operator, and anything else.
-pub terminal_cases : (rows : Table) (o : Options) (P : List ℕ → Terminal → Type 0) → P [] other
+pub terminal_cases : (r : Rules) (P : List ℕ → Terminal → Type 0) → P [] other
     → ((c : ℕ) (cs : List ℕ) → IsTrue (list_all is_digit (c ∷ cs)) → P (c ∷ cs) (number (number_of (c ∷ cs))))
-    → ((c : ℕ) (cs : List ℕ) → IsTrue (list_all (is_unit_letter o) (c ∷ cs))
-    → P (c ∷ cs) (word (unit_in rows o (c ∷ cs))))
-    → ((c : ℕ) (op : CondUnit) → list_all is_digit (c ∷ []) ≡ false → list_all (is_unit_letter o) (c ∷ []) ≡ false
+    → ((c : ℕ) (cs : List ℕ) → IsTrue (list_all (is_unit_letter r.options) (c ∷ cs))
+    → P (c ∷ cs) (word (unit_of_word r (c ∷ cs))))
+    → ((c : ℕ) (op : CondUnit) → list_all is_digit (c ∷ []) ≡ false → list_all (is_unit_letter r.options) (c ∷ []) ≡ false
     → operator_of c ≡ Some op → P (c ∷ []) (operator op))
-    → ((c : ℕ) (cs : List ℕ) → list_all is_digit (c ∷ cs) ≡ false → list_all (is_unit_letter o) (c ∷ cs) ≡ false
+    → ((c : ℕ) (cs : List ℕ) → list_all is_digit (c ∷ cs) ≡ false → list_all (is_unit_letter r.options) (c ∷ cs) ≡ false
     → P (c ∷ cs) other)
-    → (w : List ℕ) → P w (terminal_in rows o w)
-terminal_cases rows o P none digits letters sign rest [] = none
-terminal_cases rows o P none digits letters sign rest (c ∷ cs) = by_tests cs _ _ refl refl
+    → (w : List ℕ) → P w (terminal_of r w)
+terminal_cases r P none digits letters sign rest [] = none
+terminal_cases r P none digits letters sign rest (c ∷ cs) = by_tests cs _ _ refl refl
   where
     by_operator : (op : Option CondUnit) → operator_of c ≡ op → list_all is_digit (c ∷ []) ≡ false
-        → list_all (is_unit_letter o) (c ∷ []) ≡ false → P (c ∷ []) (operator_or_other op)
+        → list_all (is_unit_letter r.options) (c ∷ []) ≡ false → P (c ∷ []) (operator_or_other op)
     by_operator (Some op) e d l = sign c op d l e
     by_operator None e d l = rest c [] d l
 
     by_tests : (ds : List ℕ) (are_digits are_letters : Bool) → list_all is_digit (c ∷ ds) ≡ are_digits
-        → list_all (is_unit_letter o) (c ∷ ds) ≡ are_letters
+        → list_all (is_unit_letter r.options) (c ∷ ds) ≡ are_letters
         → P (c ∷ ds) (if are_digits then number (number_of (c ∷ ds))
-        else if are_letters then word (unit_in rows o (c ∷ ds)) else sign_terminal (c ∷ ds))
+        else if are_letters then word (unit_of_word r (c ∷ ds)) else sign_terminal (c ∷ ds))
     by_tests ds true are_letters d l = digits c ds d
     by_tests ds false true d l = letters c ds l
     by_tests [] false false d l = by_operator (operator_of c) refl d l
@@ -60,18 +60,18 @@ no_run o c rest e f = grind arith
 pub sign_sorts : (op : Option CondUnit) → sign_sort op ≡ sort_of (operator_or_other op)
 sign_sorts op = grind arith
 
-sign_alone : (rows : Table) (o : Options) (c : ℕ) (ds : List ℕ) → is_digit c ≡ false → is_unit_letter o c ≡ false
-    → IsTrue (list_all (are_of_one_run o c) ds) → sort_at o c ≡ sort_of (terminal_in rows o (c ∷ ds))
-sign_alone rows o c ds e f all = grind (arith, and_parts)
+sign_alone : (r : Rules) (c : ℕ) (ds : List ℕ) → is_digit c ≡ false → is_unit_letter r.options c ≡ false
+    → IsTrue (list_all (are_of_one_run r.options c) ds) → sort_at r.options c ≡ sort_of (terminal_of r (c ∷ ds))
+sign_alone r c ds e f all = grind (arith, and_parts)
 
 -- The first character of a lexeme determines the sort of its terminal.
-pub lexeme_sort : (rows : Table) (o : Options) (c : ℕ) (cs : List ℕ) → IsLexeme o (c ∷ cs)
-    → sort_at o c ≡ sort_of (terminal_in rows o (c ∷ cs))
-lexeme_sort rows o c cs p = elim (cases_Bool (is_digit c)) [
-  | inl e ↦ rw (e, all_weaker _ is_digit cs (λ d h. grind (arith, digit-not_letter o c e)) p.1)
-  | inr e ↦ elim (cases_Bool (is_unit_letter o c)) [
-    | inl f ↦ rw (e, f, all_weaker _ (is_unit_letter o) cs (λ d h. grind arith) p.1)
-    | inr f ↦ sign_alone rows o c cs e f p.1
+pub lexeme_sort : (r : Rules) (c : ℕ) (cs : List ℕ) → IsLexeme r.options (c ∷ cs)
+    → sort_at r.options c ≡ sort_of (terminal_of r (c ∷ cs))
+lexeme_sort r c cs p = elim (cases_Bool (is_digit c)) [
+  | inl e ↦ rw (e, all_weaker _ is_digit cs (λ d h. grind (arith, digit-not_letter r.options c e)) p.1)
+  | inr e ↦ elim (cases_Bool (is_unit_letter r.options c)) [
+    | inl f ↦ rw (e, f, all_weaker _ (is_unit_letter r.options) cs (λ d h. grind arith) p.1)
+    | inr f ↦ sign_alone r c cs e f p.1
   ]
 ]
 
@@ -82,13 +82,12 @@ run_sort o c d run = grind (arith, or_cases, and_parts, letter-not_digit)
 -- ---- Tokens by their first character
 
 -- The characters from `place` to `next` are a token, which is as long as possible and stands for this terminal.
-pub record StandsToken (rows : Table) (o : Options) (text : List ℕ) (place next : ℕ) (terminal : Terminal)
-    : Type 0 where
+pub record StandsToken (r : Rules) (text : List ℕ) (place next : ℕ) (terminal : Terminal) : Type 0 where
   pub characters : List ℕ
   pub between : Between text place next characters
-  pub is_lexeme : IsLexeme o characters
-  pub ends : EndsRun o characters (ahead text next)
-  pub is_terminal : terminal ≡ terminal_in rows o characters
+  pub is_lexeme : IsLexeme r.options characters
+  pub ends : EndsRun r.options characters (ahead text next)
+  pub is_terminal : terminal ≡ terminal_of r characters
 
 -- A run ends where the characters that pass a test end, if no character that passes the test is of one run with a
 -- character that fails it.
@@ -97,38 +96,38 @@ run_ends : (o : Options) (test : ℕ → Bool) → ((c d : ℕ) → test c ≡ t
 run_ends o test apart c rest e stops = search rules
 
 -- If such a run is a lexeme whose terminal is `meaning`, it is a token with this terminal.
-run_stands : {text cs : List ℕ} {place next at c : ℕ} (rows : Table) (o : Options) (test : ℕ → Bool) (meaning : List ℕ → Terminal)
-    → ((c d : ℕ) → test c ≡ true → test d ≡ false → are_of_one_run o c d ≡ false)
+run_stands : {text cs : List ℕ} {place next at c : ℕ} (r : Rules) (test : ℕ → Bool) (meaning : List ℕ → Terminal)
+    → ((c d : ℕ) → test c ≡ true → test d ≡ false → are_of_one_run r.options c d ≡ false)
     → ((d : ℕ) (ds : List ℕ) → IsTrue (list_all test (d ∷ ds))
-    → IsLexeme o (d ∷ ds) × (terminal_in rows o (d ∷ ds) ≡ meaning (d ∷ ds)))
+    → IsLexeme r.options (d ∷ ds) × (terminal_of r (d ∷ ds) ≡ meaning (d ∷ ds)))
     → Between text place next cs → IsTrue (list_all test cs) → Stops test (ahead text next) → StandsAt text place at c
     → test c ≡ true
-    → (0 < length cs) × StandsToken rows o text place next (meaning cs)
-run_stands rows o test meaning apart lexeme between all stops stands e = search (rules, run_ends)
+    → (0 < length cs) × StandsToken r text place next (meaning cs)
+run_stands r test meaning apart lexeme between all stops stands e = search (rules, run_ends)
 
-pub number_stands : {text : List ℕ} {place next at c : ℕ} (rows : Table) (o : Options) (run : Passes is_digit text place next)
+pub number_stands : {text : List ℕ} {place next at c : ℕ} (r : Rules) (run : Passes is_digit text place next)
     → Stops is_digit (ahead text next) → StandsAt text place at c → is_digit c ≡ true
-    → IsNumber run.characters × StandsToken rows o text place next (number (number_of run.characters))
-number_stands rows o run stops stands e = grind (arith, common_steps, digits_are_lexeme)
+    → IsNumber run.characters × StandsToken r text place next (number (number_of run.characters))
+number_stands r run stops stands e = grind (arith, common_steps, digits_are_lexeme)
 
-pub word_stands : {text : List ℕ} {place next at c : ℕ} {unit : Option TimeUnit} (rows : Table) (o : Options)
-    → TakesWord rows o text place next unit → Stops (is_unit_letter o) (ahead text next) → StandsAt text place at c
-    → is_unit_letter o c ≡ true → StandsToken rows o text place next (word unit)
-word_stands rows o taken stops stands e =
-    rw taken.named (run_stands rows o (is_unit_letter o) (λ cs. word (unit_in rows o cs))
-    (λ c d p q. rw (letter-not_digit o c p, p, q)) (λ d ds all.
-    let no_digit = letter-not_digit o d (and_parts (is_unit_letter o d) _ all).0 in
-    (letters_are_lexeme o d ds all, rw (no_digit, all))) taken.run.between taken.run.all stops stands e).1
+pub word_stands : {text : List ℕ} {place next at c : ℕ} {unit : Option TimeUnit} (r : Rules)
+    → TakesWord r text place next unit → Stops (is_unit_letter r.options) (ahead text next) → StandsAt text place at c
+    → is_unit_letter r.options c ≡ true → StandsToken r text place next (word unit)
+word_stands r taken stops stands e =
+    rw taken.named (run_stands r (is_unit_letter r.options) (λ cs. word (unit_of_word r cs))
+    (λ c d p q. rw (letter-not_digit r.options c p, p, q)) (λ d ds all.
+    let no_digit = letter-not_digit r.options d (and_parts (is_unit_letter r.options d) _ all).0 in
+    (letters_are_lexeme r.options d ds all, rw (no_digit, all))) taken.run.between taken.run.all stops stands e).1
 
 -- a character that is no blank, no digit and no unit letter is a token by itself
-pub sign_stands : {text : List ℕ} {place next c : ℕ} (rows : Table) (o : Options) → StandsAt text place next c → is_blank c ≡ false
-    → is_digit c ≡ false → is_unit_letter o c ≡ false
-    → StandsToken rows o text place next (operator_or_other (operator_of c))
-sign_stands {text} {next = next} {c = c} rows o stands b e f = record {
+pub sign_stands : {text : List ℕ} {place next c : ℕ} (r : Rules) → StandsAt text place next c → is_blank c ≡ false
+    → is_digit c ≡ false → is_unit_letter r.options c ≡ false
+    → StandsToken r text place next (operator_or_other (operator_of c))
+sign_stands {text} {next = next} {c = c} r stands b e f = record {
   characters = c ∷ [];
   between = record { cut = stands.head; bytes = rw add-zero stands.bytes };
   is_lexeme = (b, refl);
-  ends = no_run o c (ahead text next) e f;
+  ends = no_run r.options c (ahead text next) e f;
   is_terminal = rw (e, f) refl;
 }
 
@@ -162,18 +161,18 @@ module _ (o : Options) where
 -- ---- the token that starts with a character
 
 -- A text that starts with a character other than a blank starts with a token, whose sort is that of the character.
-pub first_token : (rows : Table) (o : Options) (at c : ℕ) (text : List ℕ) → is_blank c ≡ false
+pub first_token : (r : Rules) (at c : ℕ) (text : List ℕ) → is_blank c ≡ false
     → (cs : List ℕ) × (rest : List Token)
-    × (tokens_from o at (c ∷ text) ≡ record { start = at; characters = cs } ∷ rest) ×
-    (sort_at o c ≡ sort_of (terminal_in rows o cs))
-first_token rows o at c text e = elim (cases_Bool (goes_on o c text)) [
-  | inl more ↦ rw (e, more) (joined _ (rw (e, more) at (tokens_are o at (c ∷ text))))
-  | inr alone ↦ rw (e, alone) (c ∷ [], _, refl, lexeme_sort rows o c [] (e, refl))
+    × (tokens_from r.options at (c ∷ text) ≡ record { start = at; characters = cs } ∷ rest) ×
+    (sort_at r.options c ≡ sort_of (terminal_of r cs))
+first_token r at c text e = elim (cases_Bool (goes_on r.options c text)) [
+  | inl more ↦ rw (e, more) (joined _ (rw (e, more) at (tokens_are r.options at (c ∷ text))))
+  | inr alone ↦ rw (e, alone) (c ∷ [], _, refl, lexeme_sort r c [] (e, refl))
 ]
   where
-    joined : (ps : List Token) → AreTokens o at (c ∷ text) (with_first_character at c ps)
+    joined : (ps : List Token) → AreTokens r.options at (c ∷ text) (with_first_character at c ps)
         → (cs : List ℕ) × (rest : List Token)
         × (with_first_character at c ps ≡ record { start = at; characters = cs } ∷ rest)
-        × (sort_at o c ≡ sort_of (terminal_in rows o cs))
-    joined [] a = (c ∷ [], [], refl, lexeme_sort rows o c [] a.1.is_lexeme)
-    joined (p ∷ ps) a = (c ∷ p.characters, ps, refl, lexeme_sort rows o c p.characters a.1.is_lexeme)
+        × (sort_at r.options c ≡ sort_of (terminal_of r cs))
+    joined [] a = (c ∷ [], [], refl, lexeme_sort r c [] a.1.is_lexeme)
+    joined (p ∷ ps) a = (c ∷ p.characters, ps, refl, lexeme_sort r c p.characters a.1.is_lexeme)

@@ -1,5 +1,5 @@
 -- Lemmas about the steps of `Tokens`: what is ahead, and the next token.
-use Rattle.duration_str.proofs.Common.{ahead, arith, CondUnit, cut_place, ForSome, is_blank, is_digit, is_unit_letter, IsAhead, IsCharBoundary, IsSign, IsUtf8, IsUtf8-had, KeepsInput, length, length-drop, length-take-le, List, LooksAhead, None, Number, number_of, Operator, Option, options_of, Other, other, Passes, refl, row_of, rules, slice_range, Some, sort_of, source, Stands, StandsAt, Stops, sym, Table, TakesDigits, TakesNumber, TakesToken, TakesTokenWith, Terminal, terminal_in, TimeUnit, Token, Tokens, tokens_left, TokenStart, true, u64_from, what_of, width, Word, word, YieldsNextToken, [], ℕ, ◌+◌, ◌<◌, ◌∙◌, ◌∷◌, ◌≡◌}
+use Rattle.duration_str.proofs.Common.{[], ahead, arith, CondUnit, cut_place, ForSome, is_blank, is_digit, is_unit_letter, IsAhead, IsCharBoundary, IsSign, IsUtf8, IsUtf8-had, KeepsInput, length, length-drop, length-take-le, List, LooksAhead, None, Number, number_of, Operator, Option, options_of, Other, other, Passes, refl, Rules, rules, rules_at, rules_of, slice_range, Some, sort_of, source, Stands, StandsAt, Stops, sym, TakesDigits, TakesNumber, TakesToken, TakesTokenWith, Terminal, terminal_of, TimeUnit, Token, Tokens, tokens_left, TokenStart, true, u64_from, what_of, width, Word, word, YieldsNextToken, ℕ, ◌+◌, ◌<◌, ◌∙◌, ◌∷◌, ◌≡◌}
 use Rattle.duration_str.proofs.Characters.NumberLemmas.{bytes_of_digits}
 use Rattle.duration_str.proofs.Cutting.PositionLemmas.{blanks_passed, chars_between, place_at_end, TakesWord, token_taken}
 use Rattle.duration_str.proofs.Cutting.SortLemmas.{digit_of_sort, first_token, letter_of_sort, number_stands, sign_of_sort, sign_sorts, sign_stands, StandsToken, word_stands}
@@ -29,13 +29,13 @@ pub none_left : (s : Tokens) → IsAhead s None → (tokens_left s ≡ []) × (c
 none_left s end = search (rules, IsUtf8-had, place_at_end)
 
 -- If a token of a sort is ahead, the first token that is left starts at the place, and its terminal has that sort.
-pub first_left : (rows : Table) (s : Tokens) (sort : TokenStart) → IsAhead s (Some sort)
+pub first_left : (r : Rules) (s : Tokens) (sort : TokenStart) → IsAhead s (Some sort)
     → (cs : List ℕ) × (rest : List Token) × (tokens_left s ≡ record { start = cut_place s; characters = cs } ∷ rest)
-    × (sort ≡ sort_of (terminal_in rows (options_of s) cs))
-first_left rows s sort h =
+    × (sort ≡ sort_of (terminal_of (rules_at r s) cs))
+first_left r s sort h =
     let stands : Stands (source s) (cut_place s) h.character = s.some h.character h.is_head in
     let after = ahead (source s) (cut_place s + width h.character) in
-    let (cs, rest, is, sort_is) = first_token rows (options_of s) (cut_place s) h.character after h.not_blank in
+    let (cs, rest, is, sort_is) = first_token (rules_at r s) (cut_place s) h.character after h.not_blank in
     (cs, rest, rw stands.head is, rw h.is_sort sort_is)
 
 -- a word starts with a unit letter
@@ -45,8 +45,8 @@ letter_ahead s c h is = search (rules)
 
 -- ---- the next token
 
-takes_token : {rows : Table} {s t : Tokens} {terminal : Terminal} → KeepsInput s t
-    → StandsToken rows (options_of s) (source s) (cut_place s) (cut_place t) terminal → TakesToken rows s t terminal
+takes_token : {r : Rules} {s t : Tokens} {terminal : Terminal} → KeepsInput s t
+    → StandsToken (rules_at r s) (source s) (cut_place s) (cut_place t) terminal → TakesToken r s t terminal
 takes_token {s = s} kept token = search (rules, token_taken)
 
 -- a slice of the text of t, from s to t, is the same slice of the text of s
@@ -68,21 +68,21 @@ pub takes_number : {s t : Tokens} {low : ℕ} {value : Option ℕ} → IsAhead s
 takes_number {s} h kept taken stops is =
     let digit = digit_of_sort (options_of s) h.character h.is_sort in
     let run =
-    λ (rows : Table). number_stands rows (options_of s) taken.run (simp kept.text at stops) (s.some h.character h.is_head) digit in
-    record { n = number_of taken.run.characters; kept = kept; token = λ rows. takes_token kept (run rows).1; is_value = is }
+    λ (r : Rules). number_stands (rules_at r s) taken.run (simp kept.text at stops) (s.some h.character h.is_head) digit in
+    record { n = number_of taken.run.characters; kept = kept; token = λ r. takes_token kept (run r).1; is_value = is }
 
-pub takes_word : (rows : Table) {s t : Tokens} {unit : Option TimeUnit} → IsAhead s (Some Word) → KeepsInput s t
-    → TakesWord rows (options_of s) (source s) (cut_place s) (cut_place t) unit
-    → Stops (is_unit_letter (options_of s)) (ahead (source t) (cut_place t)) → TakesToken rows s t (word unit)
-takes_word rows {s} h kept taken stops =
+pub takes_word : (r : Rules) {s t : Tokens} {unit : Option TimeUnit} → IsAhead s (Some Word) → KeepsInput s t
+    → TakesWord (rules_at r s) (source s) (cut_place s) (cut_place t) unit
+    → Stops (is_unit_letter (options_of s)) (ahead (source t) (cut_place t)) → TakesToken r s t (word unit)
+takes_word r {s} h kept taken stops =
     let letter = letter_of_sort (options_of s) h.character h.is_sort in
-    takes_token kept (word_stands rows (options_of s) taken (simp kept.text at stops) (s.some h.character h.is_head) letter)
+    takes_token kept (word_stands (rules_at r s) taken (simp kept.text at stops) (s.some h.character h.is_head) letter)
 
 -- a step past a single character takes it as a token
-pub takes_sign : {s t : Tokens} (rows : Table) (sort : TokenStart) → IsSign sort → IsAhead s (Some sort) → KeepsInput s t
+pub takes_sign : {s t : Tokens} (r : Rules) (sort : TokenStart) → IsSign sort → IsAhead s (Some sort) → KeepsInput s t
     → ((c : ℕ) → s.head ≡ Some c → StandsAt (source s) (cut_place s) (cut_place t) c)
-    → TakesTokenWith rows s t (λ terminal. sort ≡ sort_of terminal)
-takes_sign {s} rows sort sign h kept past =
+    → TakesTokenWith r s t (λ terminal. sort ≡ sort_of terminal)
+takes_sign {s} r sort sign h kept past =
     let c = h.character in
     let (no_digit, no_letter, sort_is) = sign_of_sort (options_of s) c sort sign h.is_sort in
     search (rules, takes_token, sign_stands, sign_sorts)
@@ -98,7 +98,7 @@ other_what _ e = absurd cc
 
 -- the token that was taken is the next one that the iterator returns
 pub takes_terminal : {s m t : Tokens} {terminal : Terminal} (x : RustToken) → KeepsInput s m
-    → tokens_left m ≡ tokens_left s → TakesToken row_of m t terminal
+    → tokens_left m ≡ tokens_left s → TakesToken (rules_of (options_of m)) m t terminal
     → x.start ≡ cut_place m → x.text.now ≡ slice_range (source t) x.start (cut_place t)
     → IsUtf8 x.text.now → x.what ≡ what_of terminal → IsCharBoundary (source m) (cut_place m)
     → IsCharBoundary (source t) (cut_place t) → YieldsNextToken s (Some x) t

@@ -1,5 +1,5 @@
 -- `tokens_from` gives the tokens of a text, and a text has no others.
-use Rattle.duration_str.proofs.Common.{add-zero, add_assoc, and_from, and_parts, ap, append-nil, are_of_one_run, AreTokens, arith, Bool, byte_len, EndsRun, false, goes_on, if◌then◌else◌, is_blank, IsBlank, IsLexeme, List, list_all, Options, refl, sym, Token, tokens_from, true, width, with_first_character, [], ℕ, ◌++◌, ◌+◌, ◌∙◌, ◌∷◌, ◌≡◌}
+use Rattle.duration_str.proofs.Common.{[], add-zero, add_assoc, and_from, and_parts, ap, append-nil, are_of_one_run, AreTokens, arith, Bool, byte_len, EndsRun, false, goes_on, if◌then◌else◌, is_blank, IsBlank, IsLexeme, List, list_all, Options, refl, sym, Token, tokens_from, true, width, with_first_character, ℕ, ◌++◌, ◌+◌, ◌∙◌, ◌∷◌, ◌≡◌}
 use Rattle.duration_str.proofs.Characters.CharacterLemmas.{run-not_blank, same_run}
 
 pub blanks_no_token : (o : Options) (at : ℕ) (blanks rest : List ℕ) → IsBlank blanks

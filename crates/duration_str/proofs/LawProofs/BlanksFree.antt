@@ -1,12 +1,12 @@
 -- Two texts that one sentence spells have the same value, or are refused for the same cause.
-use Rattle.duration_str.proofs.Common.{BlanksFree, row_of}
+use Rattle.duration_str.proofs.Common.{BlanksFree}
 use Rattle.duration_str.proofs.Sentences.AnswerLemmas.{read_sentence, refused_sentence, sentence_refused}
 
 pub blanks_free_holds : BlanksFree
 blanks_free_holds = record {
-  value = λ default_unit o a b lexemes nanos s spells r.
-      let found = read_sentence lexemes s r in
+  value = λ r a b lexemes nanos s spells read.
+      let found = read_sentence lexemes s read in
       record { lexemes = lexemes; spells = (s.0, spells); evaluates = found.evaluates; value = found.value };
-  cause = λ default_unit o a b lexemes cause s spells h.
-      sentence_refused {rows = row_of} o b lexemes cause (s.0, spells) (λ place. refused_sentence {rows = row_of} o a lexemes cause place s h);
+  cause = λ r a b lexemes cause s spells h.
+      sentence_refused r b lexemes cause (s.0, spells) (λ place. refused_sentence r a lexemes cause place s h);
 }

@@ -1,14 +1,15 @@
 -- Two durations print the same text exactly if they are equal.
-use Rattle.duration_str.proofs.Common.{EqualTexts, FitsDuration, IsPrintedIn, List, off, row_of, Second, Some, Style, sum_of, terminals_of, terms_of, ℕ, ◌≡◌}
+use Rattle.duration_str.proofs.Common.{EqualTexts, FitsDuration, IsPrintedIn, List, off, rules_of, Second, Some, Style, sum_of, terminals_of, terms_of, ℕ, ◌≡◌}
 use Rattle.duration_str.proofs.Sentences.SpellingLemmas.{sentence_terminals}
 use Rattle.duration_str.proofs.Printer.PrintingLemmas.{counts_are, duration_lexemes, duration_sum, printed_is_sum}
 
 -- A printed text determines its duration, which is the sum of the text's terms.
 printed_sum : (style : Style) (nanos : ℕ) (text : List ℕ) → FitsDuration nanos → IsPrintedIn style nanos text
-    → sum_of (terms_of (Some Second) (terminals_of off text)) ≡ nanos
+    → sum_of (terms_of (rules_of off) (terminals_of (rules_of off) text)) ≡ nanos
 printed_sum style nanos text h p =
     let sentence = (printed_is_sum (Some Second) off style nanos text h p).sentence in
-    rw (← sentence_terminals row_of (Some Second) off text (duration_lexemes style nanos) sentence) (duration_sum (Some Second) off style nanos h)
+    rw (← sentence_terminals (rules_of off) text (duration_lexemes style nanos) sentence)
+    (duration_sum (Some Second) off style nanos h)
 
 pub equal_texts_hold : EqualTexts
 equal_texts_hold style m n a b fits_m fits_n p q = (

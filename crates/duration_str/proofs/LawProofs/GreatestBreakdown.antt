@@ -1,5 +1,5 @@
 -- The counts by quotients and remainders are the greatest breakdown, and the only one.
-use Rattle.duration_str.proofs.Common.{arith, cases_lt, counts_of, div-add-mod', GreatestBreakdown, inl, inr, IsBefore, IsGreatestBreakdown, length, List, refl, rules, unit_lengths, weighted_sum, [], ℕ, ◌%◌, ◌*◌, ◌+◌, ◌/◌, ◌∷◌, ◌≡◌, ◌≤◌, ◌⊎◌}
+use Rattle.duration_str.proofs.Common.{[], arith, cases_lt, counts_of, div-add-mod', GreatestBreakdown, inl, inr, IsBefore, IsGreatestBreakdown, length, List, refl, rules, unit_lengths, weighted_sum, ℕ, ◌%◌, ◌*◌, ◌+◌, ◌/◌, ◌∷◌, ◌≡◌, ◌≤◌, ◌⊎◌}
 
 -- Each length is above 0, and the last is 1.
 abbrev pub EndInOne : List ℕ → Type 0

@@ -1,5 +1,5 @@
 -- The counts in a format by quotients and remainders are the greatest.
-use Rattle.duration_str.proofs.Common.{arith, cases_Bool, cases_lt, common_steps, counts_within, div-add-mod', false, Format, inl, inr, IsBefore, IsGreatestWithin, le-div_iff_mul-le, leb, leb-true, length, lengths_within, List, map, nanos_of, nat_tests, part_count, refl, rules, TimeUnit, weighted_sum, [], ℕ, ⊤, ◌%◌, ◌*◌, ◌+◌, ◌-◌, ◌/◌, ◌<◌, ◌==◌, ◌∷◌, ◌≡◌, ◌≤◌, ◌⊎◌}
+use Rattle.duration_str.proofs.Common.{[], arith, cases_Bool, cases_lt, common_steps, counts_within, div-add-mod', false, Format, inl, inr, IsBefore, IsGreatestWithin, le-div_iff_mul-le, leb, leb-true, length, lengths_within, List, map, nanos_of, nat_tests, part_count, refl, rules, TimeUnit, weighted_sum, ℕ, ⊤, ◌%◌, ◌*◌, ◌+◌, ◌-◌, ◌/◌, ◌<◌, ◌==◌, ◌∷◌, ◌≡◌, ◌≤◌, ◌⊎◌}
 use Rattle.duration_str.proofs.Characters.UnitLemmas.{all_units}
 use Rattle.duration_str.proofs.LawProofs.GreatestBreakdown.{not_before_each_other}
 

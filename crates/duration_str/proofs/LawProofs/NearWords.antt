@@ -1,5 +1,5 @@
 -- A word for which a name is advised names no unit, and the advised name names the unit that people mean by the word.
-use Rattle.duration_str.proofs.Common.{all_names, ap, arith, Bool, bytes_eq, cases_Bool, codes, comparison_form, encode_utf8_all, find, inl, inr, List, list_all, list_any, map, MicroSecond, Month, not, Options, refl, row_of, rules, Some, sym, TimeUnit, to_ascii_lowercase, true, unit_of_word, units, [], ℕ, ◌∙◌, ◌∷◌, ◌≡◌}
+use Rattle.duration_str.proofs.Common.{[], all_names, ap, arith, Bool, bytes_eq, cases_Bool, codes, comparison_form, encode_utf8_all, find, inl, inr, List, list_all, list_any, map, MicroSecond, Month, not, Options, refl, row_of, rules, rules_of, Some, sym, TimeUnit, to_ascii_lowercase, true, unit_of_word, units, ℕ, ◌∙◌, ◌∷◌, ◌≡◌}
 use Rattle.std.specs.Option.{option_map}
 use Rattle.duration_str.specs.Laws.{IsAdvised, NearWords}
 use Rattle.duration_str.specs.OneLine.{is_among, near_words, small_words, us_words}
@@ -34,7 +34,7 @@ printed_named : (u : TimeUnit) → list_any (bytes_eq (row_of u).printed) (row_o
 printed_named = all_units (λ u. list_any (bytes_eq (row_of u).printed) (row_of u).names) refl
 
 named : (o : Options) (name : List ℕ) (u : TimeUnit) → map to_ascii_lowercase name ≡ name
-    → list_any (bytes_eq name) (row_of u).names ≡ true → unit_of_word o name ≡ Some u
+    → list_any (bytes_eq name) (row_of u).names ≡ true → unit_of_word (rules_of o) name ≡ Some u
 named o name u small among =
     let form : comparison_form o name ≡ name = elim (cases_Bool o.lowercase) [ inl on ↦ rw on refl | inr off ↦ rw off small ] in
     named_unit o name u (rw (form, among) refl)
@@ -46,14 +46,14 @@ found_near small [] name e = absurd cc
 found_near small (u ∷ us) name e = search (rules, cases_Bool, found_near small us name)
 
 advised : (o : Options) (word name : List ℕ) (u : TimeUnit)
-    → is_among (near_words u) (map to_ascii_lowercase (encode_utf8_all word)) ≡ true → unit_of_word o name ≡ Some u
+    → is_among (near_words u) (map to_ascii_lowercase (encode_utf8_all word)) ≡ true → unit_of_word (rules_of o) name ≡ Some u
     → IsAdvised o word name
 advised o word name u near read =
     let is = rw (lower-encodes word, among_same (map to_ascii_lowercase word)) at near in
     record {
       unit = u;
       near = near;
-      unread = sym (no_name row_of o word (λ name. not (is_near u name)) (near_apart u) (rw (lower_form o word, is) refl));
+      unread = sym (no_name (rules_of o) word (λ name. not (is_near u name)) (near_apart u) (rw (lower_form o word, is) refl));
       read = read;
     }
 
@@ -77,6 +77,6 @@ near_words_hold o word name e =
         | inr other ↦
             let found = found_near small units name (otherwise _ _ _ other ∙ otherwise _ _ _ none ∙ e) in
             let read = named o (row_of found.0).printed found.0 (printed_small found.0) (printed_named found.0) in
-            advised o word name found.0 found.1 (ap (unit_of_word o) (sym found.2) ∙ read)
+            advised o word name found.0 found.1 (ap (unit_of_word (rules_of o)) (sym found.2) ∙ read)
       ]
     ]

@@ -1,5 +1,5 @@
 -- A text printed in a format stands for the greatest duration that fits into the format.
-use Rattle.duration_str.proofs.Common.{Format, IsGreatestBreakdown, IsReadWith, List, NeverMore, Option, Options, TimeUnit, Year, [], ap, arith, counts_of, counts_within, div-eq_of_lt-le, le-div_iff_mul-le, le-mul_of_pos_right, length, lengths_within, map, map-append, nanos_of, nat_lt, nonzero, part_count, refl, rules, subst, sym, terminal_of, text_within, units, units_within, weighted_sum, zero-div, zero_unit, ℕ, ◌%◌, ◌*◌, ◌++◌, ◌+◌, ◌/◌, ◌<◌, ◌^◌, ◌∙◌, ◌∷◌, ◌≡◌, ◌≤◌, last_unit, shorter_units}
+use Rattle.duration_str.proofs.Common.{[], ap, arith, counts_of, counts_within, div-eq_of_lt-le, Format, IsGreatestBreakdown, IsRead, last_unit, le-div_iff_mul-le, le-mul_of_pos_right, length, lengths_within, List, map, map-append, nanos_of, nat_lt, NeverMore, nonzero, Option, Options, part_count, refl, rules, rules_with, shorter_units, subst, sym, terminal_of, text_within, TimeUnit, units, units_within, weighted_sum, Year, zero-div, zero_unit, ℕ, ◌%◌, ◌*◌, ◌++◌, ◌+◌, ◌/◌, ◌<◌, ◌^◌, ◌∙◌, ◌∷◌, ◌≡◌, ◌≤◌}
 use Rattle.std.specs.Prelude.{filter}
 use Rattle.duration_str.proofs.LawProofs.GreatestBreakdown.{breakdown_of, EndInOne, one_greatest}
 use Rattle.duration_str.proofs.LawProofs.GreatestWithin.{ArePositive, greatest_within, left_whole, lengths_positive, one_greatest_within, some_length, within_each, within_few, within_sum}
@@ -90,21 +90,21 @@ each_below (l ∷ lengths) (n ∷ counts) h e small = search (rules, le-mul_of_p
 reads : (default_unit : Option TimeUnit) (o : Options) (format : Format) (counts text : List ℕ)
     → length counts ≡ length (lengths_within format)
     → weighted_sum (lengths_within format) counts < 2 ^ 64 → text ≡ text_within format counts
-    → IsReadWith default_unit o text (weighted_sum (lengths_within format) counts)
+    → IsRead (rules_with o default_unit) text (weighted_sum (lengths_within format) counts)
 reads default_unit o format counts text each small same =
     let us = units_within format in
     let zero = zero_unit us in
     let ps = nonzero us counts in
     let below = each_below (lengths_within format) counts (lengths_positive us) each small in
-    let are : map (terminal_of o) (lexemes format.style (or_zero zero ps)) ≡ terminals (or_zero zero ps) =
-    terminals_or_zero o format.style zero ps (terminals_kept o format.style us counts below) in
+    let are : map (terminal_of (rules_with o default_unit)) (lexemes format.style (or_zero zero ps)) ≡ terminals (or_zero zero ps) =
+    terminals_or_zero default_unit o format.style zero ps (terminals_kept default_unit o format.style us counts below) in
     sum_read {lexemes = lexemes format.style (or_zero zero ps)} (record {
       sentence = (
-        rw are (units_sentence default_unit o.no_calc zero ps),
+        rw are (units_sentence (rules_with o default_unit) zero ps),
         rw same (all_spelled format.style zero ps),
       );
       plus = rw are (units_plus (or_zero zero ps));
-    }) (rw (are, sum_or_zero default_unit zero ps, sum_kept default_unit us counts)) small
+    }) (rw (are, sum_or_zero (rules_with o default_unit) zero ps, sum_kept default_unit o us counts)) small
 
 pub never_more_holds : NeverMore
 never_more_holds format nanos text p =

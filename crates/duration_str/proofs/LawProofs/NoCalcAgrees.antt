@@ -1,5 +1,5 @@
 -- For a text without operators, `no_calc` changes neither whether it is accepted nor its value.
-use Rattle.duration_str.proofs.Common.{and_parts, Bool, HasNoOperator, is_operator, IsReadWith, IsSentence, List, map, NoCalcAgrees, not, number, operator, Option, Options, row_of, rules, Some, Terminal, terminal_of, TimeUnit, word, [], ℕ, ⊤, ◌∷◌}
+use Rattle.duration_str.proofs.Common.{false, true, [], and_parts, Bool, HasNoOperator, is_operator, IsRead, IsSentence, List, map, NoCalcAgrees, not, number, operator, Rules, Some, Terminal, terminal_of, with_no_calc, word, ℕ, ⊤, ◌∷◌}
 use Rattle.duration_str.proofs.Cutting.SortLemmas.{terminal_cases}
 use Rattle.duration_str.proofs.Sentences.SpellingLemmas.{EachPasses, lexemes_pass}
 
@@ -8,30 +8,33 @@ HaveNoOperator [] = ⊤
 HaveNoOperator (operator op ∷ terminals) = ⊥
 HaveNoOperator (t ∷ terminals) = HaveNoOperator terminals
 
-no_operator_terminals : (o : Options) (lexemes : List (List ℕ)) → EachPasses (λ c. not (is_operator c)) lexemes
-    → HaveNoOperator (map (terminal_of o) lexemes)
-no_operator_terminals o [] h = tt
-no_operator_terminals o (w ∷ lexemes) h =
-    let more = no_operator_terminals o lexemes h.1 in
-    terminal_cases row_of o (λ w t. HasNoOperator w → HaveNoOperator (t ∷ map (terminal_of o) lexemes))
+no_operator_terminals : (r : Rules) (lexemes : List (List ℕ)) → EachPasses (λ c. not (is_operator c)) lexemes
+    → HaveNoOperator (map (terminal_of r) lexemes)
+no_operator_terminals r [] h = tt
+no_operator_terminals r (w ∷ lexemes) h =
+    let more = no_operator_terminals r lexemes h.1 in
+    terminal_cases r (λ w t. HasNoOperator w → HaveNoOperator (t ∷ map (terminal_of r) lexemes))
     (λ plain. more) (λ c cs digits plain. more) (λ c cs letters plain. more)
     (λ c op _ _ sign plain. cc (rw sign at (and_parts (not (is_operator c)) _ plain).0)) (λ c cs _ _ plain. more) w h.0
 
 -- A sentence without operators is a sentence both with and without `no_calc`.
-sentence_for : (default_unit : Option TimeUnit) (a b : Bool) (terminals : List Terminal) → HaveNoOperator terminals
-    → IsSentence default_unit a terminals
-    → IsSentence default_unit b terminals
-sentence_for default_unit a b (number n ∷ []) h s = s
-sentence_for default_unit a b (number n ∷ word (Some u) ∷ []) h s = tt
-sentence_for default_unit a b (number n ∷ word (Some u) ∷ number m ∷ more) h s =
-    sentence_for default_unit a b (number m ∷ more) h s
-sentence_for default_unit a b _ h s = absurd assumption
+sentence_for : (r : Rules) (a b : Bool) (terminals : List Terminal) → HaveNoOperator terminals
+    → IsSentence (with_no_calc r a) terminals → IsSentence (with_no_calc r b) terminals
+sentence_for r a b (number n ∷ []) h s = s
+sentence_for r a b (number n ∷ word (Some u) ∷ []) h s = tt
+sentence_for r a b (number n ∷ word (Some u) ∷ number m ∷ more) h s = sentence_for r a b (number m ∷ more) h s
+sentence_for r a b _ h s = absurd assumption
 
-read_under : (default_unit : Option TimeUnit) (o : Options) (a b : Bool) (text : List ℕ) (nanos : ℕ)
-    → HasNoOperator text
-    → IsReadWith default_unit (record o { no_calc = a }) text nanos
-    → IsReadWith default_unit (record o { no_calc = b }) text nanos
-read_under default_unit o a b text nanos plain r = search (rules, lexemes_pass, no_operator_terminals, sentence_for)
+read_under : (r : Rules) (a b : Bool) (text : List ℕ) (nanos : ℕ) → HasNoOperator text
+    → IsRead (with_no_calc r a) text nanos → IsRead (with_no_calc r b) text nanos
+read_under r a b text nanos plain read =
+    let none = no_operator_terminals (with_no_calc r a) read.lexemes
+    (lexemes_pass (λ c. not (is_operator c)) read.lexemes text plain read.spells.1) in record {
+      lexemes = read.lexemes;
+      spells = (sentence_for r a b (map (terminal_of r) read.lexemes) none read.spells.0, read.spells.1);
+      evaluates = read.evaluates;
+      value = read.value;
+    }
 
 pub no_calc_agrees_holds : NoCalcAgrees
-no_calc_agrees_holds default_unit o text nanos plain = search (rules, read_under)
+no_calc_agrees_holds r text nanos plain = (read_under r true false text nanos plain, read_under r false true text nanos plain)

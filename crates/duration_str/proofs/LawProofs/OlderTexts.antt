@@ -1,5 +1,5 @@
 -- The law `older_texts`: a sentence over the units without the quarter is a sentence over all units.
-use Rattle.duration_str.proofs.Common.{allows, ap, append-nil, ap₂, Bool, cases_Bool, Cause, CondUnit, expected_after, inl, inr, is_digit, is_unit_letter, IsRead, IsRefused, IsRefusedAt, IsSentence, IsSentenceOf, IsTrue, List, list_all, map, nanos_of, None, number, older_nanos_of, older_row_of, older_terminals, older_terms, older_unit_of_word, OlderTexts, operator, Option, Options, Plus, refl, row_of, rules, Second, sentence_fault, sign_terminal, Some, Terminal, terminal_by, terminal_of, terms_by, terms_of, TimeUnit, unit_of_word, WasRead, WasRefused, WasSentenceOf, word, [], ℕ, ⊤, ◌∙◌, ◌∷◌, ◌≡◌}
+use Rattle.duration_str.proofs.Common.{[], allows, ap, append-nil, ap₂, cases_Bool, Cause, CondUnit, expected_after, inl, inr, is_digit, is_unit_letter, IsRead, IsRefused, IsRefusedAt, IsSentence, IsSentenceOf, IsTrue, List, list_all, map, nanos_of, None, number, older_row_of, older_rules, older_table, OlderTexts, operator, Option, Options, Plus, refl, row_of, rules, rules_of, sentence_fault, sign_terminal, Some, Terminal, terminal_of, terms_after, terms_of, TimeUnit, unit_of_word, WasRefused, word, written_terms, ℕ, ⊤, ◌∙◌, ◌∷◌, ◌≡◌}
 use Rattle.duration_str.specs.Laws.{IsSameUnit}
 use Rattle.duration_str.specs.Units.{UnitRow}
 use Rattle.duration_str.proofs.Sentences.AnswerLemmas.{sentence_refused}
@@ -7,8 +7,8 @@ use Rattle.duration_str.proofs.Sentences.FrontLemmas.{AreAllowed, sentence_allow
 
 -- ---- Names and units
 
-name_kept : (o : Options) (name : List ℕ) (u : TimeUnit) → older_unit_of_word o name ≡ Some u
-    → unit_of_word o name ≡ Some u
+name_kept : (o : Options) (name : List ℕ) (u : TimeUnit) → unit_of_word (older_rules o) name ≡ Some u
+    → unit_of_word (rules_of o) name ≡ Some u
 name_kept o name u e = search rules
 
 unit_kept : (u : TimeUnit) (row : UnitRow) → older_row_of u ≡ Some row → IsSameUnit row (row_of u)
@@ -19,13 +19,13 @@ unit_kept u row e = search rules
 -- Each unit among these terminals still has its length.
 abbrev KeepLengths : List Terminal → Type 0
 KeepLengths [] = ⊤
-KeepLengths (word (Some u) ∷ terminals) = (older_nanos_of u ≡ nanos_of u) × KeepLengths terminals
+KeepLengths (word (Some u) ∷ terminals) = ((older_table u).nanos ≡ nanos_of u) × KeepLengths terminals
 KeepLengths (terminal ∷ terminals) = KeepLengths terminals
 
 same_word : (o : Options) (last : Option Terminal) (w : List ℕ) (found : Option TimeUnit) (terminals : List Terminal)
-    → older_unit_of_word o w ≡ found → IsTrue (allows (expected_after (Some Second) o.no_calc last) (word found))
+    → unit_of_word (older_rules o) w ≡ found → IsTrue (allows (expected_after (older_rules o) last) (word found))
     → KeepLengths terminals
-    → (word found ≡ word (unit_of_word o w)) × KeepLengths (word found ∷ terminals)
+    → (word found ≡ word (unit_of_word (rules_of o) w)) × KeepLengths (word found ∷ terminals)
 same_word o last w found terminals e a k = search rules
 
 sign_keeps : (w : List ℕ) (terminals : List Terminal) → KeepLengths terminals
@@ -35,9 +35,9 @@ sign_keeps w terminals k = search rules
 -- A lexeme that the table of terminals allows at its place stands for the same terminal as before, with a unit of the
 -- same length.
 same_terminal : (o : Options) (last : Option Terminal) (w : List ℕ) (terminals : List Terminal)
-    → IsTrue (allows (expected_after (Some Second) o.no_calc last) (terminal_by older_unit_of_word o w)) → KeepLengths terminals
-    → (terminal_by older_unit_of_word o w ≡ terminal_of o w)
-    × KeepLengths (terminal_by older_unit_of_word o w ∷ terminals)
+    → IsTrue (allows (expected_after (older_rules o) last) (terminal_of (older_rules o) w)) → KeepLengths terminals
+    → (terminal_of (older_rules o) w ≡ terminal_of (rules_of o) w)
+    × KeepLengths (terminal_of (older_rules o) w ∷ terminals)
 same_terminal o last [] terminals a k = (refl, k)
 same_terminal o last (c ∷ cs) terminals a k = elim (cases_Bool (list_all is_digit (c ∷ cs))) [
   | inl digits ↦ rw digits (refl, k)
@@ -49,33 +49,37 @@ same_terminal o last (c ∷ cs) terminals a k = elim (cases_Bool (list_all is_di
 ]
 
 same_terminals : (o : Options) (last : Option Terminal) (lexemes : List (List ℕ))
-    → AreAllowed (Some Second) o.no_calc last (older_terminals o lexemes)
-    → (older_terminals o lexemes ≡ map (terminal_of o) lexemes) × KeepLengths (older_terminals o lexemes)
+    → AreAllowed (older_rules o) last (map (terminal_of (older_rules o)) lexemes)
+    → (map (terminal_of (older_rules o)) lexemes ≡ map (terminal_of (rules_of o)) lexemes)
+    × KeepLengths (map (terminal_of (older_rules o)) lexemes)
 same_terminals o last [] a = (refl, tt)
 same_terminals o last (w ∷ lexemes) a =
-    let more = same_terminals o (Some (terminal_by older_unit_of_word o w)) lexemes a.1 in
-    let first = same_terminal o last w (older_terminals o lexemes) a.0 more.1 in (ap₂ ◌∷◌ first.0 more.0, first.1)
+    let more = same_terminals o (Some (terminal_of (older_rules o) w)) lexemes a.1 in
+    let first = same_terminal o last w (map (terminal_of (older_rules o)) lexemes) a.0 more.1 in
+    (ap₂ ◌∷◌ first.0 more.0, first.1)
 
-same_terms : (op : CondUnit) (terminals : List Terminal) → KeepLengths terminals
-    → terms_by older_nanos_of (Some Second) op terminals ≡ terms_by nanos_of (Some Second) op terminals
-same_terms op (number n ∷ word (Some u) ∷ more) k = rw (k.0, same_terms Plus more k.1) refl
-same_terms op (number n ∷ more) k = rw (same_terms Plus more k) refl
-same_terms op (operator next ∷ more) k = same_terms next more k
-same_terms op _ k = refl
+same_terms : (o : Options) (op : CondUnit) (terminals : List Terminal) → KeepLengths terminals
+    → terms_after (older_rules o) op terminals ≡ terms_after (rules_of o) op terminals
+same_terms o op (number n ∷ word (Some u) ∷ more) k = rw (k.0, same_terms o Plus more k.1) refl
+same_terms o op (number n ∷ more) k = rw (same_terms o Plus more k) refl
+same_terms o op (operator next ∷ more) k = same_terms o next more k
+same_terms o op _ k = refl
 
-module _ (o : Options) (lexemes : List (List ℕ)) (text : List ℕ) (was : WasSentenceOf o lexemes text) where
-  older : (older_terminals o lexemes ≡ map (terminal_of o) lexemes) × KeepLengths (older_terminals o lexemes)
-  older = same_terminals o None lexemes (sentence_allowed (Some Second) o.no_calc (older_terminals o lexemes) was.sentence)
+module _ (o : Options) (lexemes : List (List ℕ)) (text : List ℕ) (was : IsSentenceOf (older_rules o) lexemes text) where
+  older : (map (terminal_of (older_rules o)) lexemes ≡ map (terminal_of (rules_of o)) lexemes)
+      × KeepLengths (map (terminal_of (older_rules o)) lexemes)
+  older = same_terminals o None lexemes (sentence_allowed (older_rules o) (map (terminal_of (older_rules o)) lexemes) was.0)
 
-  older_sentence : IsSentenceOf o lexemes text
-  older_sentence = (rw older.0 at was.sentence, was.spells)
+  older_sentence : IsSentenceOf (rules_of o) lexemes text
+  older_sentence = (rw older.0 at was.0, was.1)
 
-  older_terms_same : older_terms o lexemes ≡ terms_of (Some Second) (map (terminal_of o) lexemes)
-  older_terms_same = same_terms Plus (older_terminals o lexemes) older.1 ∙ ap (terms_of (Some Second)) older.0
+  older_terms_same : written_terms (older_rules o) lexemes ≡ written_terms (rules_of o) lexemes
+  older_terms_same =
+      same_terms o Plus (map (terminal_of (older_rules o)) lexemes) older.1 ∙ ap (terms_of (rules_of o)) older.0
 
 -- ---- Values and causes
 
-older_value : (o : Options) (text : List ℕ) (nanos : ℕ) → WasRead o text nanos → IsRead o text nanos
+older_value : (o : Options) (text : List ℕ) (nanos : ℕ) → IsRead (older_rules o) text nanos → IsRead (rules_of o) text nanos
 older_value o text nanos was =
     let same = older_terms_same o was.lexemes text was.spells in record {
       lexemes = was.lexemes;
@@ -85,15 +89,16 @@ older_value o text nanos was =
     }
 
 -- A sentence whose evaluation has this fault is refused for it, at whatever byte the sentence ends.
-refused_at : (no_calc : Bool) (place : ℕ) (terminals : List Terminal) (cause : Cause) → IsSentence (Some Second) no_calc terminals
-    → sentence_fault no_calc (terms_of (Some Second) terminals) ≡ Some cause → IsRefusedAt row_of (Some Second) no_calc place terminals [] cause
-refused_at no_calc place terminals cause s e = search (rules, append-nil)
+refused_at : (o : Options) (place : ℕ) (terminals : List Terminal) (cause : Cause) → IsSentence (rules_of o) terminals
+    → sentence_fault o (terms_of (rules_of o) terminals) ≡ Some cause
+    → IsRefusedAt (rules_of o) place terminals [] cause
+refused_at o place terminals cause s e = search (rules, append-nil)
 
-older_cause : (o : Options) (text : List ℕ) (cause : Cause) → WasRefused o text cause → IsRefused o text cause
+older_cause : (o : Options) (text : List ℕ) (cause : Cause) → WasRefused o text cause → IsRefused (rules_of o) text cause
 older_cause o text cause was =
     let s = older_sentence o was.lexemes text was.spells in
-    sentence_refused {rows = row_of} o text was.lexemes cause s
-    (λ place. refused_at o.no_calc place _ cause s.0
+    sentence_refused (rules_of o) text was.lexemes cause s
+    (λ place. refused_at o place _ cause s.0
     (rw (older_terms_same o was.lexemes text was.spells) at was.refused))
 
 pub older_texts_hold : OlderTexts

@@ -1,48 +1,59 @@
 -- `lowercase` changes nothing for a text without ASCII capitals, and `cn_unit` changes nothing for a text without the
 -- Chinese characters of the units.
-use Rattle.duration_str.proofs.Common.{Bool, Cause, HasNoCapital, HasNoChinese, IsIdle, IsReadWith, IsRefusedWith, IsTrue, List, Option, Options, OptionsIdle, TimeUnit, [], and_parts, arith, bytes_eq, false, goes_on, if◌then◌else◌, is_chinese, is_unit_letter, list_all, list_any, map, not, not-true, refl, rules, sym, terminal_of, terminals_of, to_ascii_lowercase, tokens_from, tokens_of, true, unit_of_word, width, ℕ, ◌+◌, ◌∷◌, ◌≡◌}
+use Rattle.duration_str.proofs.Common.{[], and_parts, answer, answer_at, ap, arith, Bool, byte_len, bytes_eq, Cause, drop, false, front_of, goes_on, HasNoCapital, HasNoChinese, if◌then◌else◌, is_ascii_uppercase, is_chinese, is_unit_letter, IsIdle, IsRead, IsRefused, IsTrue, lexemes_of, List, list_all, list_any, map, not, not-true, off, Option, Options, OptionsIdle, refl, Result, Rules, rules, rules_with, start_after, sym, take, Terminal, terminal_of, terminals_of, TimeUnit, to_ascii_lowercase, Token, tokens_from, tokens_of, true, unit_of_word, width, with_lowercase, ℕ, ◌+◌, ◌∙◌, ◌∷◌, ◌≡◌}
 use Rattle.duration_str.proofs.Characters.UnitLemmas.{named_passes}
 use Rattle.duration_str.proofs.Sentences.SpellingLemmas.{EachPasses, lexemes_pass, tokens_spell}
-use Rattle.duration_str.proofs.Sentences.AnswerLemmas.{read_terminals, terminals_read}
+use Rattle.duration_str.proofs.Sentences.AnswerLemmas.{answer_read, answer_refused}
 
 -- ---- Options that give the same tokens and terminals give the same answer
 
+abbrev under : Rules → Options → Rules
+under r o = record r { options = o }
+
 -- Under both choices of options the text has the same grammar, tokens and terminals.
-record AreAlike (o p : Options) (text : List ℕ) : Type 0 where
+record AreAlike (r : Rules) (o p : Options) (text : List ℕ) : Type 0 where
   grammar : o.no_calc ≡ p.no_calc
   tokens : tokens_of o text ≡ tokens_of p text
-  terminals : terminals_of o text ≡ terminals_of p text
+  terminals : terminals_of (under r o) text ≡ terminals_of (under r p) text
 
-read_alike : {default_unit : Option TimeUnit} {o p : Options} {text : List ℕ} (nanos : ℕ) → AreAlike o p text
-    → IsReadWith default_unit o text nanos → IsReadWith default_unit p text nanos
-read_alike {default_unit} {p = p} {text = text} nanos h r =
-    terminals_read default_unit p text nanos (rw (h.grammar, h.terminals) at (read_terminals r))
+-- the answer to a text of `len` bytes with these tokens and terminals
+abbrev answer_by : Rules → ℕ → Bool → List Token → List Terminal → Result ℕ Cause
+answer_by r len no_calc tokens terminals =
+    let q = under r (record off { no_calc = no_calc }) in
+    let n = front_of q terminals in
+    answer_at q (start_after n len tokens) (take n terminals) (drop n terminals)
 
-refused_alike : (default_unit : Option TimeUnit) {o p : Options} (text : List ℕ) (cause : Cause) → AreAlike o p text
-    → IsRefusedWith default_unit o text cause
-    → IsRefusedWith default_unit p text cause
-refused_alike default_unit [] cause h r = r
-refused_alike default_unit (c ∷ text) cause h r =
-    (r.0, r.1, rw (h.grammar, h.terminals) at r.2, rw (h.grammar, h.tokens) at r.3)
+same_answer : (r : Rules) (o p : Options) (text : List ℕ) → AreAlike r o p text
+    → answer (under r o) text ≡ answer (under r p) text
+same_answer r o p [] h = refl
+same_answer r o p (c ∷ text) h =
+    λ i. answer_by r (byte_len (c ∷ text)) (h.grammar i) (h.tokens i) (h.terminals i)
 
-idle : (default_unit : Option TimeUnit) (choice : Bool → Options) (text : List ℕ)
-    → AreAlike (choice true) (choice false) text → IsIdle default_unit choice text
-idle default_unit choice text h =
-    let back : AreAlike (choice false) (choice true) text =
-    record { grammar = sym h.grammar; tokens = sym h.tokens; terminals = sym h.terminals } in record {
-      value = λ nanos. (read_alike nanos h, read_alike nanos back);
-      cause = λ cause. (refused_alike default_unit text cause h, refused_alike default_unit text cause back);
+read_alike : (r q : Rules) (text : List ℕ) (nanos : ℕ) → answer r text ≡ answer q text → IsRead r text nanos
+    → IsRead q text nanos
+read_alike r q text nanos same h = (answer_read q text nanos).0 (sym same ∙ (answer_read r text nanos).1 h)
+
+refused_alike : (r q : Rules) (text : List ℕ) (cause : Cause) → answer r text ≡ answer q text → IsRefused r text cause
+    → IsRefused q text cause
+refused_alike r q text cause same h = (answer_refused q text cause).0 (sym same ∙ (answer_refused r text cause).1 h)
+
+idle : (choice : Bool → Rules) (text : List ℕ) → answer (choice true) text ≡ answer (choice false) text
+    → IsIdle choice text
+idle choice text same =
+    let (on, off) : Rules × Rules = (choice true, choice false) in record {
+      value = λ nanos. (read_alike on off text nanos same, read_alike off on text nanos (sym same));
+      cause = λ cause. (refused_alike on off text cause same, refused_alike off on text cause (sym same));
     }
 
 -- ---- Options that agree on characters and words give the same tokens and terminals
 
 -- Both choices of options agree on which characters that pass the test are unit letters, and on the units of words of
 -- such characters.
-record Agree (test : ℕ → Bool) (o p : Options) : Type 0 where
+record Agree (r : Rules) (test : ℕ → Bool) (o p : Options) : Type 0 where
   letter : (c : ℕ) → test c ≡ true → is_unit_letter o c ≡ is_unit_letter p c
-  unit : (w : List ℕ) → IsTrue (list_all test w) → unit_of_word o w ≡ unit_of_word p w
+  unit : (w : List ℕ) → IsTrue (list_all test w) → unit_of_word (under r o) w ≡ unit_of_word (under r p) w
 
-module _ (test : ℕ → Bool) (o p : Options) (same : Agree test o p) where
+module _ (r : Rules) (test : ℕ → Bool) (o p : Options) (same : Agree r test o p) where
   goes_on_alike : (c : ℕ) (text : List ℕ) → IsTrue (list_all test (c ∷ text)) → goes_on o c text ≡ goes_on p c text
   goes_on_alike c [] h = refl
   goes_on_alike c (d ∷ text) h = grind (arith, and_parts)
@@ -56,16 +67,23 @@ module _ (test : ℕ → Bool) (o p : Options) (same : Agree test o p) where
   letters_alike [] h = refl
   letters_alike (c ∷ w) h = let parts = and_parts _ _ h in rw (same.letter c parts.0, letters_alike w parts.1)
 
-  terminal_alike : (w : List ℕ) → IsTrue (list_all test w) → terminal_of o w ≡ terminal_of p w
+  terminal_alike : (w : List ℕ) → IsTrue (list_all test w) → terminal_of (under r o) w ≡ terminal_of (under r p) w
   terminal_alike w h = search (rules, letters_alike)
 
   lexemes_alike : (lexemes : List (List ℕ)) → EachPasses test lexemes
-      → map (terminal_of o) lexemes ≡ map (terminal_of p) lexemes
+      → map (terminal_of (under r o)) lexemes ≡ map (terminal_of (under r p)) lexemes
   lexemes_alike [] h = refl
   lexemes_alike (w ∷ lexemes) h = rw (terminal_alike w h.0, lexemes_alike lexemes h.1)
 
-  agree_alike : (text : List ℕ) → o.no_calc ≡ p.no_calc → IsTrue (list_all test text) → AreAlike o p text
-  agree_alike text grammar h = search (rules, tokens_alike, lexemes_alike, lexemes_pass, tokens_spell)
+  agree_alike : (text : List ℕ) → o.no_calc ≡ p.no_calc → IsTrue (list_all test text) → AreAlike r o p text
+  agree_alike text grammar h =
+      let tokens : tokens_of o text ≡ tokens_of p text = tokens_alike 0 text h in
+      let pass = lexemes_pass test (lexemes_of (tokens_of o text)) text h (tokens_spell o text) in record {
+        grammar = grammar;
+        tokens = tokens;
+        terminals = lexemes_alike (lexemes_of (tokens_of o text)) pass
+            ∙ ap (λ ts. map (terminal_of (under r p)) (lexemes_of ts)) tokens;
+      }
 
 -- ---- ASCII capitals
 
@@ -95,11 +113,32 @@ other_names : (w : List ℕ) (names : List (List ℕ)) → HasNoChinese w → Is
     → list_any (bytes_eq w) names ≡ false
 other_names w names h k = search (rules, named_passes)
 
-cn_unit_unit : (o : Options) (w : List ℕ) → HasNoChinese w
-    → unit_of_word (record o { cn_unit = true }) w ≡ unit_of_word (record o { cn_unit = false }) w
-cn_unit_unit o w h = search (rules, form_not_chinese, other_names)
+cn_unit_unit : (default_unit : Option TimeUnit) (o : Options) (w : List ℕ) → HasNoChinese w
+    → unit_of_word (rules_with (record o { cn_unit = true }) default_unit) w
+    ≡ unit_of_word (rules_with (record o { cn_unit = false }) default_unit) w
+cn_unit_unit default_unit o w h = search (rules, form_not_chinese, other_names)
+
+lowercase_unit : (r : Rules) (w : List ℕ) → HasNoCapital w
+    → unit_of_word (with_lowercase r true) w ≡ unit_of_word (with_lowercase r false) w
+lowercase_unit r w h = rw (all_lower w h) refl
 
 -- ---- The law
 
+lowercase_idle : (r : Rules) (text : List ℕ) → HasNoCapital text → IsIdle (with_lowercase r) text
+lowercase_idle r text h =
+    let (o, p) : Options × Options = (record (r.options) { lowercase = true }, record (r.options) { lowercase = false }) in
+    let agree : Agree r (λ c. not (is_ascii_uppercase c)) o p = record { letter = λ c e. refl; unit = lowercase_unit r } in
+    idle (with_lowercase r) text (same_answer r o p text (agree_alike r (λ c. not (is_ascii_uppercase c)) o p agree text refl h))
+
+cn_unit_idle : (default_unit : Option TimeUnit) (o : Options) (text : List ℕ) → HasNoChinese text
+    → IsIdle (λ on. rules_with (record o { cn_unit = on }) default_unit) text
+cn_unit_idle default_unit o text h =
+    let r : Rules = rules_with o default_unit in
+    let (on, off) : Options × Options = (record o { cn_unit = true }, record o { cn_unit = false }) in
+    let agree : Agree r (λ c. not (is_chinese c)) on off =
+    record { letter = chinese_letter o; unit = cn_unit_unit default_unit o } in
+    idle (λ b. rules_with (record o { cn_unit = b }) default_unit) text
+    (same_answer r on off text (agree_alike r (λ c. not (is_chinese c)) on off agree text refl h))
+
 pub options_idle_holds : OptionsIdle
-options_idle_holds = search (rules, idle, agree_alike, all_lower, chinese_letter, cn_unit_unit)
+options_idle_holds = record { lowercase = lowercase_idle; cn_unit = cn_unit_idle }

@@ -1,8 +1,8 @@
 -- Sums whose terms have the same values, maybe in another order, are equal.
-use Rattle.duration_str.proofs.Common.{List, Reorder, Some, Term, [], arith, cases_Bool, common_steps, cond-true, eq-eqb, eqb-true, find, if◌then◌else◌, map, refl, sum_by, sum_by-cons, sum_of, times_in, value_of_term, ℕ, ◌+◌, ◌==◌, ◌∷◌, ◌≡◌, ◌≤◌}
+use Rattle.duration_str.proofs.Common.{[], arith, cases_Bool, cond-true, eq-eqb, eqb-true, find, if◌then◌else◌, List, map, refl, Reorder, Rules, rules_with, Some, sum_by, sum_by-cons, sum_of, Term, times_in, value_of_term, written_terms, ℕ, ◌+◌, ◌==◌, ◌∷◌, ◌≡◌, ◌≤◌}
 use Rattle.std.specs.Set.{remove_key}
 use Rattle.std.proofs.lemmas.Map.Made.{sum_by-remove_key}
-use Rattle.duration_str.proofs.Sentences.AnswerLemmas.{read_below, read_sum, sum_read, terms_of_lexemes}
+use Rattle.duration_str.proofs.Sentences.AnswerLemmas.{IsSumOf, read_below, read_sum, sum_read}
 
 -- 1 if x is n, and otherwise 0
 abbrev is_times : ℕ → ℕ → ℕ
@@ -44,7 +44,11 @@ sum_total [] = refl
 sum_total (t ∷ terms) = rw (sum_by-cons (λ n. n) (value_of_term t) (map value_of_term terms), sum_total terms)
 
 pub reorder_holds : Reorder
-reorder_holds default_unit o a b lexemes others nanos s t plus other_plus counts r =
-    let (xs, ys) : List Term × List Term = (terms_of_lexemes default_unit o lexemes, terms_of_lexemes default_unit o others) in
+reorder_holds default_unit o a b lexemes others nanos s t plus other_plus counts read =
+    let r : Rules = rules_with o default_unit in
+    let (xs, ys) : List Term × List Term = (written_terms r lexemes, written_terms r others) in
     let same = same_total (map value_of_term xs) (map value_of_term ys) counts in
-    grind (arith, common_steps, sum_total, sum_read, read_sum, read_below)
+    let (first, second) : IsSumOf r lexemes a × IsSumOf r others b =
+    (record { sentence = s; plus = plus }, record { sentence = t; plus = other_plus }) in
+    let total : sum_of ys ≡ nanos = cc (sum_total xs, sum_total ys, same, read_sum first read) in
+    sum_read second total (read_below read)

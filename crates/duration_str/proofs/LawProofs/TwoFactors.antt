@@ -1,33 +1,33 @@
 -- A product of two terms is accepted exactly if both terms and their product are below 2^64, also with the terms
 -- exchanged.
-use Rattle.duration_str.proofs.Common.{IsReadWith, IsSentenceWith, List, Option, Options, Some, Star, Term, TimeUnit, TwoFactors, [], arith, mul-div_cancel, mul_comm, refl, second, value_of, value_of_term, ℕ, ◌*◌, ◌/◌, ◌<◌, ◌^◌, ◌↔◌, ◌∷◌, ◌≡◌}
+use Rattle.duration_str.proofs.Common.{[], arith, IsRead, IsSentenceOf, List, mul-div_cancel, mul_comm, refl, Rules, one_second, Some, Star, Term, TwoFactors, value_of, value_of_term, written_terms, ℕ, ◌*◌, ◌/◌, ◌<◌, ◌^◌, ◌↔◌, ◌∷◌, ◌≡◌}
 use Rattle.duration_str.proofs.Sentences.SumLemmas.{no_fault}
-use Rattle.duration_str.proofs.Sentences.AnswerLemmas.{read_sentence, terms_of_lexemes}
+use Rattle.duration_str.proofs.Sentences.AnswerLemmas.{read_sentence}
 
 -- The numbers of both terms, the values of both terms, and the product, which is `nanos`, are below 2^64.
 abbrev Fit : Term → Term → ℕ → Type 0
 Fit t u nanos =
     (t.number < 2 ^ 64) × (value_of_term t < 2 ^ 64) × (u.number < 2 ^ 64) × (value_of_term u < 2 ^ 64)
-    × (nanos < 2 ^ 64) × (nanos ≡ value_of_term t * value_of_term u / second)
+    × (nanos < 2 ^ 64) × (nanos ≡ value_of_term t * value_of_term u / one_second)
 
 -- The first step of a product is the value of the later term.
-one_step : (x : ℕ) → second * x / second ≡ x
+one_step : (x : ℕ) → one_second * x / one_second ≡ x
 one_step x = rw mul_comm (mul-div_cancel x (omega arith))
 
 product_value : (t u : Term) → u.operator ≡ Star
-    → value_of (t ∷ u ∷ []) ≡ Some (value_of_term t * value_of_term u / second)
+    → value_of (t ∷ u ∷ []) ≡ Some (value_of_term t * value_of_term u / one_second)
 product_value t u e = rw (e, one_step (value_of_term u))
 
-product : (default_unit : Option TimeUnit) (o : Options) (text : List ℕ) (lexemes : List (List ℕ)) (t u : Term)
+product : (r : Rules) (text : List ℕ) (lexemes : List (List ℕ)) (t u : Term)
     (nanos : ℕ)
-    → IsSentenceWith default_unit o lexemes text → terms_of_lexemes default_unit o lexemes ≡ t ∷ u ∷ []
+    → IsSentenceOf r lexemes text → written_terms r lexemes ≡ t ∷ u ∷ []
     → u.operator ≡ Star
-    → (IsReadWith default_unit o text nanos ↔ Fit t u nanos)
-product default_unit o text lexemes t u nanos s terms e = (
-  λ r. let read = read_sentence lexemes s r in
+    → (IsRead r text nanos ↔ Fit t u nanos)
+product r text lexemes t u nanos s terms e = (
+  λ is_read. let read = read_sentence lexemes s is_read in
       let first = simp no_fault at (rw terms at read.evaluates).0 in
       let later = simp (no_fault, one_step) at (rw (terms, e) at read.evaluates).1 in
-      let value : nanos ≡ value_of_term t * value_of_term u / second =
+      let value : nanos ≡ value_of_term t * value_of_term u / one_second =
       cc (rw terms at read.value, product_value t u e) in
       (first.0, first.1, later.0.0.0, later.0.0.1, rw value later.1, value),
   λ f. record {
@@ -45,8 +45,8 @@ pub two_factors_hold : TwoFactors
 two_factors_hold = record {
   product = product;
   exchanged =
-      λ default_unit o a b lexemes others t u v w nanos s s' terms e terms' e' number length other_number other_length r.
-      let f = (product default_unit o a lexemes t u nanos s terms e).0 r in
-      (product default_unit o b others v w nanos s' terms' e').1
+      λ r a b lexemes others t u v w nanos s s' terms e terms' e' number length other_number other_length read.
+      let f = (product r a lexemes t u nanos s terms e).0 read in
+      (product r b others v w nanos s' terms' e').1
       (rw (number, length, other_number, other_length, mul_comm (value_of_term u)) (f.2, f.3, f.0, f.1, f.4, f.5));
 }

@@ -1,5 +1,5 @@
 -- Combining the later terms one by one finds the same first fault as looking at the whole list.
-use Rattle.duration_str.proofs.Common.{append-nil, append_assoc, arith, Bool, cases_Bool, Cause, checked_combination, checked_term, combination, CondUnit, Err, evaluation_fault, false, fault_of_terms, fault_or, first_fault, fits, fold-append, if◌then◌else◌, inl, inr, IsTrue, later_total, List, lt-ltb, None, Ok, ok_or, Option, or_else, Overflow, Plus, refl, Result, rules, running_fault, Some, sum_of, Term, term_fault, total_with, true, u64_from, unless, unwrap_or, value_of, value_of_term, [], ℕ, ◌++◌, ◌<◌, ◌^◌, ◌∷◌, ◌≡◌}
+use Rattle.duration_str.proofs.Common.{[], append-nil, append_assoc, arith, Bool, cases_Bool, Cause, checked_combination, checked_term, combination, CondUnit, Err, evaluation_fault, false, fault_of_terms, fault_or, first_fault, fits, fold-append, if◌then◌else◌, inl, inr, IsTrue, later_total, List, lt-ltb, None, Ok, ok_or, Option, or_else, Overflow, Plus, refl, Result, rules, running_fault, Some, sum_of, Term, term_fault, total_with, true, u64_from, unless, unwrap_or, value_of, value_of_term, ℕ, ◌++◌, ◌<◌, ◌^◌, ◌∷◌, ◌≡◌}
 use Rattle.duration_str.proofs.Sentences.SumLemmas.{AreAdded, no_fault, running_below, sum-append, value_is_sum}
 use Rattle.duration_str.proofs.Sentences.AnswerLemmas.{later_value}
 
@@ -135,5 +135,5 @@ one_by_one true f later syntax added =
     let below = simp no_fault at e in
     let own : sum_of (f ∷ []) < 2 ^ 64 = omega arith in
     let alone : sum_of (f ∷ []) ≡ value_of_term f = omega arith in
-    let all = rw alone at (no_calc_left f [] later syntax own (added refl).2) in
+    let all = rw alone at (no_calc_left f [] later syntax own (added refl).1) in
     rw (lt-ltb (sum_of (f ∷ [])) _ own, value_is_sum (f ∷ later) (omega arith) (added refl), all)))

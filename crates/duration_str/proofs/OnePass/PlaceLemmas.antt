@@ -1,5 +1,5 @@
 -- Lemmas about the place of a fault, the token there, and the answer to a whole text.
-use Rattle.duration_str.proofs.Common.{and_parts, answer_in, answer_left, ap, append-nil, append_assoc, AreTokens, arith, Bool, Bor, byte_len, cases_Bool, Cause, chars, chars-append, chars-nil, UnitTable, common_steps, CondUnit, drop, drop-nil, early, early_fault, Empty, encodes, encodes-append, encodes-chars, eq-eqb, Err, evaluation_fault, false, fault_of_terms, ForSome, found_token, IfSome, IsCharBoundary, IsCharBoundary-at_seam, IsCharBoundary-start, IsLexeme, IsMissingAtEnd, IsNone, IsRefusedIn, IsSliceOf, IsUtf8, IsUtf8-take, late, late_fault, length, length-append, length-encode, lexemes_of, List, map, ne_eqb, None, Option, Options, options_of, or_else, place_of, refl, rest_from, rest_of, Result, row_of, rows_of, running_fault, scalars, scalars-chars, source, start_after, start_left, suc, sym, Syntax, syntax_fault, Table, take, take-add, Term, Terminal, terminal_in, terminals_left, TimeUnit, Token, token_at, Tokens, tokens_left, tokens_of, true, unless, zero, [], ℕ, ◌++◌, ◌+◌, ◌-◌, ◌<◌, ◌==◌, ◌↔◌, ◌∙◌, ◌∷◌, ◌≡◌, ◌≤◌}
+use Rattle.duration_str.proofs.Common.{[], and_parts, answer, answer_left, ap, append-nil, append_assoc, AreTokens, arith, Bool, Bor, byte_len, cases_Bool, Cause, chars, chars-append, chars-nil, common_steps, CondUnit, drop, drop-nil, early, early_fault, Empty, encodes, encodes-append, encodes-chars, eq-eqb, Err, evaluation_fault, false, fault_of_terms, ForSome, found_token, IfSome, IsCharBoundary, IsCharBoundary-at_seam, IsCharBoundary-start, IsLexeme, IsMissingAtEnd, IsNone, IsRefused, IsSliceOf, IsUtf8, IsUtf8-take, late, late_fault, length, length-append, length-encode, lexemes_of, List, map, ne_eqb, None, Option, Options, options_of, or_else, place_of, refl, rest_from, rest_of, Result, Rules, running_fault, scalars, scalars-chars, source, start_after, start_left, suc, sym, Syntax, syntax_fault, take, take-add, Term, Terminal, terminal_of, terminals_left, Token, token_at, Tokens, tokens_left, tokens_of, true, unless, zero, ℕ, ◌++◌, ◌+◌, ◌-◌, ◌<◌, ◌==◌, ◌↔◌, ◌∙◌, ◌∷◌, ◌≡◌, ◌≤◌}
 use Rattle.duration_str.specs.OtherResults.{ReachesPlace}
 use Rattle.duration_str.specs.Internal.Rest.{IsPlacedUpTo}
 use Rattle.duration_str.proofs.Characters.CharacterLemmas.{byte_len-append}
@@ -35,25 +35,25 @@ module _ (P : ℕ → Type 0) where
   running_stands [] (t ∷ terms) = search (stands, running_stands (t ∷ []) terms) depth 8
   running_stands (b ∷ before) (t ∷ terms) = search (stands, running_stands (b ∷ before ++ t ∷ []) terms) depth 8
 
-  pub early_stands : (rows : Table) (default_unit : Option TimeUnit) (no_calc : Bool) (front rest : List Terminal)
-      → IfSome (early_fault rows default_unit no_calc front rest) (Stands P)
-  early_stands rows default_unit no_calc front rest = grind (arith, running_stands)
+  pub early_stands : (r : Rules) (front rest : List Terminal)
+      → IfSome (early_fault r front rest) (Stands P)
+  early_stands r front rest = grind (arith, running_stands)
 
-  pub late_stands : (rows : Table) (default_unit : Option TimeUnit) (no_calc : Bool) (terminals : List Terminal)
-      → IfSome (late_fault rows default_unit no_calc terminals) (Stands P)
-  late_stands rows default_unit no_calc terminals = grind (arith, evaluation_stands)
+  pub late_stands : (r : Rules) (terminals : List Terminal)
+      → IfSome (late_fault r terminals) (Stands P)
+  late_stands r terminals = grind (arith, evaluation_stands)
 
   -- A syntax fault is at the start of a token, or at the end of the text.
-  pub refused_stands : (rows : Table) (default_unit : Option TimeUnit) (o : Options) (text : List ℕ) (cause : Cause)
-      → IsRefusedIn rows default_unit o text cause
-      → ((n : ℕ) → P (start_after n (byte_len text) (tokens_of o text))) → Stands P cause
-  refused_stands rows default_unit o [] cause empty starts = rw empty tt
-  refused_stands rows default_unit o (c ∷ text) cause (front, rest, is, early e) starts =
-      rw e at (early_stands rows default_unit o.no_calc front rest)
-  refused_stands rows default_unit o (c ∷ text) cause (front, rest, is, syntax_fault expected none not kinds same) starts =
+  pub refused_stands : (r : Rules) (text : List ℕ) (cause : Cause)
+      → IsRefused r text cause
+      → ((n : ℕ) → P (start_after n (byte_len text) (tokens_of r.options text))) → Stands P cause
+  refused_stands r [] cause empty starts = rw empty tt
+  refused_stands r (c ∷ text) cause (front, rest, is, early e) starts =
+      rw e at (early_stands r front rest)
+  refused_stands r (c ∷ text) cause (front, rest, is, syntax_fault expected none not kinds same) starts =
       grind arith
-  refused_stands rows default_unit o (c ∷ text) cause (front, rest, is, late none whole e) starts =
-      rw e at (late_stands rows default_unit o.no_calc (front ++ rest))
+  refused_stands r (c ∷ text) cause (front, rest, is, late none whole e) starts =
+      rw e at (late_stands r (front ++ rest))
 
 -- ---- Bytes and boundaries
 
@@ -95,14 +95,12 @@ pub starts_placed : (o : Options) (bs : List ℕ) (n : ℕ) → IsUtf8 bs
 starts_placed o bs n utf8 = start_placed o bs [] (chars bs) n 0 _ utf8 refl refl (tokens_are o 0 (chars bs))
 
 -- The place of the answer's fault is a character boundary.
-pub fault_placed : (table : UnitTable) (default_unit : Option TimeUnit) {c : Cause} (o : Options) (bs : List ℕ)
-    → IsUtf8 bs → answer_in (rows_of table) default_unit o (chars bs) ≡ Err c
+pub fault_placed : (r : Rules) {c : Cause} (bs : List ℕ) → IsUtf8 bs → answer r (chars bs) ≡ Err c
     → ForSome (place_of c) (IsCharBoundary bs)
-fault_placed table default_unit {c} o bs utf8 e =
+fault_placed r {c} bs utf8 e =
     stands_at (IsCharBoundary bs) (IsCharBoundary-start bs utf8) c
-    (refused_stands (IsCharBoundary bs) (rows_of table) default_unit o (chars bs) c
-    ((answer_refused table default_unit o (chars bs) c).0 e)
-    (λ n. starts_placed o bs n utf8))
+    (refused_stands (IsCharBoundary bs) r (chars bs) c ((answer_refused r (chars bs) c).0 e)
+    (λ n. starts_placed r.options bs n utf8))
 
 -- Before an earlier place there are at most as many characters as before a later place.
 pub chars_before : (bs : List ℕ) (place at : ℕ) → IsUtf8 bs → IsCharBoundary bs place → place ≤ at
@@ -114,12 +112,11 @@ chars_before bs place at utf8 boundary order =
 
 -- If a text is looked at up to a byte, and refused for a fault at or before that byte, the looks reach the fault's
 -- place.
-pub reaches_place : (table : UnitTable) (default_unit : Option TimeUnit) (o : Options) (bs : List ℕ) (at looks : ℕ)
-    (cause : Cause) → IsUtf8 bs
-    → answer_in (rows_of table) default_unit o (chars bs) ≡ Err cause → IsPlacedUpTo at cause → length (chars (take at bs)) ≤ looks
+pub reaches_place : (r : Rules) (bs : List ℕ) (at looks : ℕ) (cause : Cause) → IsUtf8 bs
+    → answer r (chars bs) ≡ Err cause → IsPlacedUpTo at cause → length (chars (take at bs)) ≤ looks
     → ReachesPlace bs cause looks
-reaches_place table default_unit o bs at looks cause utf8 is placed least place expected e =
-    let boundary = fault_placed table default_unit o bs utf8 is place (ap place_of e) in
+reaches_place r bs at looks cause utf8 is placed least place expected e =
+    let boundary = fault_placed r bs utf8 is place (ap place_of e) in
     let before = chars_before bs place at utf8 boundary (placed place (ap place_of e)) in
     omega (arith, before, least)
 
@@ -149,43 +146,45 @@ missing_token bytes token slice h = grind arith
 
 pub missing_at_end : (o : Options) (bytes : List ℕ) (cause : Cause) (slice : Option (Bor (List ℕ))) → IsUtf8 bytes
     → IsSliceOf bytes (found_token o (chars bytes) cause) slice → IsMissingAtEnd o bytes cause slice
-missing_at_end o bytes cause slice utf8 is default_unit place expected e refused =
+missing_at_end o bytes cause slice utf8 is r place expected e refused =
     let text = chars bytes in
     let tokens = tokens_of o text in
     let end : byte_len text ≡ length bytes = byte_count bytes utf8 in
     let none = none_at o (length bytes) 0 text tokens (omega (arith, end)) (tokens_are o 0 text) in
     let stands : (token_at place tokens ≡ None) ↔ (place ≡ length bytes) =
-    refused_stands (λ at. (token_at at tokens ≡ None) ↔ (at ≡ length bytes)) row_of default_unit o text (Syntax place expected)
+    refused_stands (λ at. (token_at at tokens ≡ None) ↔ (at ≡ length bytes)) (record r { options = o }) text (Syntax place expected)
     (rw e at refused) (λ n. (λ lost. found_at n (byte_len text) tokens lost ∙ end, λ same. rw same none)) in
     let missing = missing_token bytes (token_at place tokens) slice (rw e at is) in
     (λ none. stands.0 (missing.0 none), λ same. missing.1 (stands.1 same))
 
 -- ---- The result of reading everything from the start of a text is the text's answer
 
-all_terminals : (rows : Table) (o : Options) (len : ℕ) (tokens : List Token)
-    → terminals_left (rest_from rows o len tokens) ≡ map (terminal_in rows o) (lexemes_of tokens)
-all_terminals rows o len [] = refl
-all_terminals rows o len (p ∷ tokens) = rw (all_terminals rows o len tokens)
+all_terminals : (r : Rules) (len : ℕ) (tokens : List Token)
+    → terminals_left (rest_from r len tokens) ≡ map (terminal_of r) (lexemes_of tokens)
+all_terminals r len [] = refl
+all_terminals r len (p ∷ tokens) = rw (all_terminals r len tokens)
 
-pub same_start : (rows : Table) (o : Options) (n len : ℕ) (tokens : List Token)
-    → start_left n (rest_from rows o len tokens) ≡ start_after n len tokens
-same_start rows o n len [] = rw drop-nil
-same_start rows o zero len (p ∷ tokens) = refl
-same_start rows o (suc n) len (p ∷ tokens) = same_start rows o n len tokens
+pub same_start : (r : Rules) (n len : ℕ) (tokens : List Token)
+    → start_left n (rest_from r len tokens) ≡ start_after n len tokens
+same_start r n len [] = rw drop-nil
+same_start r zero len (p ∷ tokens) = refl
+same_start r (suc n) len (p ∷ tokens) = same_start r n len tokens
 
-nonempty_answer : (rows : Table) (default_unit : Option TimeUnit) (o : Options) (text : List ℕ) → 0 < byte_len text
-    → answer_in rows default_unit o text
-    ≡ answer_left rows default_unit o.no_calc (rest_from rows o (byte_len text) (tokens_of o text))
-nonempty_answer rows default_unit o text h = grind (arith, all_terminals, same_start)
+nonempty_answer : (r : Rules) (text : List ℕ) → 0 < byte_len text
+    → answer r text ≡ answer_left r (rest_from r (byte_len text) (tokens_of r.options text))
+nonempty_answer r text h = grind (arith, all_terminals, same_start)
 
-pub text_answer : (rows : Table) (default_unit : Option TimeUnit) {o : Options} {bs : List ℕ} {r : Result ℕ Cause} (tokens : Tokens)
-    → IsUtf8 bs
-    → false ≡ (length bs == 0) → source tokens ≡ bs → options_of tokens ≡ o
-    → tokens_left tokens ≡ tokens_of o (chars bs)
-    → r ≡ answer_left rows default_unit o.no_calc (rest_of rows tokens) → answer_in rows default_unit o (chars bs) ≡ r
-text_answer rows default_unit {o} {bs} tokens utf8 filled text options all is =
-    grind (arith, byte_count, eqb-false, nonempty_answer)
+pub text_answer : (r : Rules) {bs : List ℕ} {result : Result ℕ Cause} (tokens : Tokens) → IsUtf8 bs
+    → false ≡ (length bs == 0) → source tokens ≡ bs → options_of tokens ≡ r.options
+    → tokens_left tokens ≡ tokens_of r.options (chars bs) → result ≡ answer_left r (rest_of r tokens)
+    → answer r (chars bs) ≡ result
+text_answer r {bs} tokens utf8 filled text options all is =
+    let count : byte_len (chars bs) ≡ length bs = byte_count bs utf8 in
+    let some : 0 < byte_len (chars bs) = grind (arith, eqb-false) in
+    let len : byte_len (chars bs) ≡ length (source tokens) = count ∙ ap length (sym text) in
+    let same : rest_from r (byte_len (chars bs)) (tokens_of r.options (chars bs)) ≡ rest_of r tokens =
+    λ i. rest_from (record r { options = (sym options) i }) (len i) ((sym all) i) in
+    nonempty_answer r (chars bs) some ∙ ap (answer_left r) same ∙ sym is
 
-pub empty_answer : (rows : Table) (default_unit : Option TimeUnit) (o : Options) (bs : List ℕ) → length bs ≡ 0
-    → answer_in rows default_unit o (chars bs) ≡ Err Empty
-empty_answer rows default_unit o bs h = grind (arith, common_steps, chars-nil)
+pub empty_answer : (r : Rules) (bs : List ℕ) → length bs ≡ 0 → answer r (chars bs) ≡ Err Empty
+empty_answer r bs h = grind (arith, common_steps, chars-nil)

@@ -1,17 +1,18 @@
 -- Lemmas about the reader's steps: what comes next, by the sort of the token ahead, and what is left after it.
-use Rattle.duration_str.proofs.Common.{arith, CondUnit, cut_place, end_at, expected_at_start, if◌then◌else◌, is_number, length, LooksAhead, None, number, number_fault, operator, Option, options_of, other, refl, Rest, rest_from, rest_of, rules, Some, sort_of, source, sym, Syntax, Table, TakesToken, Terminal, terminal_at, terminal_in, TimeUnit, Tokens, TokenStart, word, ℕ, ◌≡◌}
+use Rattle.duration_str.proofs.Common.{[], answer_left, arith, Bool, cases_Bool, Cause, CondUnit, cut_place, early_fault, end_at, Err, expected_at_start, false, if◌then◌else◌, inl, inr, is_number, is_some, leaving, length, List, LooksAhead, None, not, number, number_fault, Ok, ok_or, operator, operator_read, Option, other, refl, Rest, rest_from, rest_of, Rules, rules, rules_at, Some, sort_of, source, sym, Syntax, TakesToken, Terminal, terminal_at, terminal_of, terminals_left, TimeUnit, Tokens, TokenStart, true, unit_read, word, ℕ, ◌∷◌, ◌≡◌}
+use Rattle.duration_str.specs.Answer.{expected_after_number, expected_after_unit}
 use Rattle.duration_str.proofs.Cutting.StepLemmas.{first_left, none_left}
 use Rattle.duration_str.specs.declared.token.TokenStart.TheVariants as sorts
 
-pub same_rest : (rows : Table) {s m : Tokens} {sort : Option TokenStart} → LooksAhead s m sort
-    → rest_of rows m ≡ rest_of rows s
-same_rest rows look = (λ i. rest_from rows (look.kept.options i) (length (look.kept.text i)) (look.same_left i))
+pub same_rest : (r : Rules) {s m : Tokens} {sort : Option TokenStart} → LooksAhead s m sort
+    → rest_of r m ≡ rest_of r s
+same_rest r look = (λ i. rest_from (record r { options = look.kept.options i }) (length (look.kept.text i)) (look.same_left i))
 
 -- If nothing is ahead, nothing is left and the whole text is cut.
-pub at_end : (rows : Table) {s m : Tokens} → LooksAhead s m None
-    → (rest_of rows s ≡ end_at (cut_place m)) × (cut_place m ≡ length (source m))
-at_end rows {s} {m} look =
-    let none = none_left m look.ahead in (rw (← same_rest rows look, none.0, ← none.1), none.1)
+pub at_end : (r : Rules) {s m : Tokens} → LooksAhead s m None
+    → (rest_of r s ≡ end_at (cut_place m)) × (cut_place m ≡ length (source m))
+at_end r {s} {m} look =
+    let none = none_left m look.ahead in (rw (← same_rest r look, none.0, ← none.1), none.1)
 
 -- The rest starts at this byte, with a terminal of this sort.
 abbrev pub StartsWith : TokenStart → ℕ → Rest → Type 0
@@ -27,25 +28,65 @@ by_terminal (word u) at rest more is = (u, more, is)
 by_terminal (operator op) at rest more is = (more, is)
 by_terminal other at rest more is = (more, is)
 
-pub starts : (rows : Table) {s m : Tokens} {ahead : Option TokenStart} {sort : TokenStart} → LooksAhead s m ahead
-    → ahead ≡ Some sort → StartsWith sort (cut_place m) (rest_of rows s)
-starts rows {s} {m} {sort = sort} look is =
-    let (cs, rest, left_is, sort_is) = first_left rows m sort (rw is at look.ahead) in
-    let here = rw left_is at (sym (same_rest rows look)) in
-    rw sort_is (by_terminal (terminal_in rows (options_of m) cs) (cut_place m) (rest_of rows s) _ here)
+pub starts : (r : Rules) {s m : Tokens} {ahead : Option TokenStart} {sort : TokenStart} → LooksAhead s m ahead
+    → ahead ≡ Some sort → StartsWith sort (cut_place m) (rest_of r s)
+starts r {s} {m} {sort = sort} look is =
+    let (cs, rest, left_is, sort_is) = first_left r m sort (rw is at look.ahead) in
+    let here = rw left_is at (sym (same_rest r look)) in
+    rw sort_is (by_terminal (terminal_of (rules_at r m) cs) (cut_place m) (rest_of r s) _ here)
 
 -- A number is ahead, or there is a syntax fault at the place.
-pub number_comes : (rows : Table) {s m : Tokens} {sort : Option TokenStart} → LooksAhead s m sort
-    → number_fault (rest_of rows s) ≡ (if is_number sort then None else Some (Syntax (cut_place m) expected_at_start))
-number_comes rows {sort = None} look = rw (at_end rows look).0
-number_comes rows {sort = Some sorts.Number} look = rw (starts rows look refl).2
-number_comes rows {sort = Some sorts.Word} look = rw (starts rows look refl).2
-number_comes rows {sort = Some (sorts.Operator op)} look = rw (starts rows look refl).1
-number_comes rows {sort = Some sorts.Other} look = rw (starts rows look refl).1
+pub number_comes : (r : Rules) {s m : Tokens} {sort : Option TokenStart} → LooksAhead s m sort
+    → number_fault (rest_of r s) ≡ (if is_number sort then None else Some (Syntax (cut_place m) expected_at_start))
+number_comes r {sort = None} look = rw (at_end r look).0
+number_comes r {sort = Some sorts.Number} look = rw (starts r look refl).2
+number_comes r {sort = Some sorts.Word} look = rw (starts r look refl).2
+number_comes r {sort = Some (sorts.Operator op)} look = rw (starts r look refl).1
+number_comes r {sort = Some sorts.Other} look = rw (starts r look refl).1
 
-pub after_token : {rows : Table} {s t : Tokens} {terminal : Terminal} → TakesToken rows s t terminal
-    → rest_of rows s ≡ terminal_at (cut_place s) terminal (rest_of rows t)
-after_token {rows} {s} {t} taken = search arith
+pub after_token : {r : Rules} {s t : Tokens} {terminal : Terminal} → TakesToken r s t terminal
+    → rest_of r s ≡ terminal_at (cut_place s) terminal (rest_of r t)
+after_token {r} {s} {t} taken = search arith
+
+pub is_on : (b : Bool) → not b ≡ false → b ≡ true
+is_on true h = refl
+is_on false h = cc h
+
+none_early : (r : Rules) (rest : List Terminal) → early_fault r [] rest ≡ None
+none_early r [] = elim (cases_Bool r.options.no_calc) [
+  | inl calc ↦ elim (cases_Bool (is_some r.default_unit)) [ inl some ↦ rw (calc, some) refl | inr none ↦ rw (calc, none) refl ]
+  | inr calc ↦ elim (cases_Bool (is_some r.default_unit)) [ inl some ↦ rw (calc, some) refl | inr none ↦ rw (calc, none) refl ]
+]
+none_early r (t ∷ rest) = elim (cases_Bool r.options.no_calc) [ inl calc ↦ rw calc refl | inr calc ↦ rw calc refl ]
+
+-- If the rest does not start with a number, the fault of that is the answer.
+pub no_number : (r : Rules) (rest : Rest) (cause : Cause) → number_fault rest ≡ Some cause
+    → Err cause ≡ answer_left r rest
+no_number r (terminal_at at (number n) rest) cause h = cc h
+no_number r (terminal_at at (word u) rest) cause h = rw (none_early r (word u ∷ terminals_left rest)) (cc h)
+no_number r (terminal_at at (operator op) rest) cause h = rw (none_early r (operator op ∷ terminals_left rest)) (cc h)
+no_number r (terminal_at at other rest) cause h = rw (none_early r (other ∷ terminals_left rest)) (cc h)
+no_number r (end_at at) cause h = rw (none_early r []) (cc h)
+
+-- What is read before an operator, with and without `no_calc`: the unit after a number, and the operator.
+module _ (r : Rules) (rest after : Rest) (at : ℕ) (op : CondUnit) (is : rest ≡ terminal_at at (operator op) after) where
+  pub unit_omitted : r.options.no_calc ≡ false
+      → unit_read r rest ≡ leaving rest (ok_or r.default_unit (Syntax at (expected_after_number r)))
+  unit_omitted calc = rw (is, calc) refl
+
+  pub unit_refused : r.options.no_calc ≡ true → unit_read r rest ≡ Err (Syntax at (expected_after_number r))
+  unit_refused calc = rw (is, calc) refl
+
+  pub operator_taken : r.options.no_calc ≡ false → number_fault after ≡ None
+      → operator_read r rest ≡ leaving after (Ok (Some op))
+  operator_taken calc none = rw (is, calc, none) refl
+
+  pub operator_fault : (cause : Cause) → r.options.no_calc ≡ false → number_fault after ≡ Some cause
+      → operator_read r rest ≡ Err cause
+  operator_fault cause calc fault = rw (is, calc, fault) refl
+
+  pub operator_refused : r.options.no_calc ≡ true → operator_read r rest ≡ Err (Syntax at (expected_after_unit r))
+  operator_refused calc = rw (is, calc) refl
 
 -- A terminal with the sort of an operator is that operator.
 pub operator_of_sort : (terminal : Terminal) (op : CondUnit) → sorts.Operator op ≡ sort_of terminal

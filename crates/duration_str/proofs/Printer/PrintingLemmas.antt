@@ -1,8 +1,8 @@
 -- A printed text is spelled by a sum whose total is the duration.
-use Rattle.duration_str.proofs.Common.{AllPlus, append-nil, ap₂, arith, between, Bool, cases_Bool, common_steps, Compact, counts_of, decimal, drop, eqb-true, false, FitsDuration, flat_map, IsBlank, IsPrintedIn, IsSentence, joined_parts, List, Long, map, name_in, nanos_of, nonzero, number, Option, Options, printed_counts, printed_part, refl, row_of, rules, Second, Short, Some, Spells, Style, sum_of, Terminal, terminal_of, terms_of, TimeUnit, true, unit_lengths, units, weighted_sum, word, Year, [], ℕ, ⊤, ◌%◌, ◌++◌, ◌<◌, ◌==◌, ◌^◌, ◌∷◌, ◌≡◌, inl, inr}
+use Rattle.duration_str.proofs.Common.{[], AllPlus, append-nil, ap₂, arith, between, Bool, cases_Bool, common_steps, Compact, counts_of, decimal, drop, eqb-true, false, FitsDuration, flat_map, inl, inr, IsBlank, IsPrintedIn, IsSentence, joined_parts, List, Long, map, name_in, nanos_of, nonzero, number, Option, Options, printed_counts, printed_part, refl, row_of, Rules, rules, rules_with, Second, Short, Some, Spells, Style, sum_of, Terminal, terminal_of, terms_of, TimeUnit, true, unit_lengths, units, weighted_sum, word, written_terms, Year, ℕ, ⊤, ◌%◌, ◌++◌, ◌<◌, ◌==◌, ◌^◌, ◌∷◌, ◌≡◌}
 use Rattle.duration_str.proofs.Characters.NumberLemmas.{decimal_terminal}
 use Rattle.duration_str.proofs.LawProofs.GreatestBreakdown.{greatest_breakdown_holds, one_greatest}
-use Rattle.duration_str.proofs.Sentences.AnswerLemmas.{IsSumOf, terms_of_lexemes}
+use Rattle.duration_str.proofs.Sentences.AnswerLemmas.{IsSumOf}
 
 -- the counts, or a count of 0 of this unit if there are none
 abbrev pub or_zero : TimeUnit → List (TimeUnit × ℕ) → List (TimeUnit × ℕ)
@@ -47,63 +47,62 @@ all_spelled style u (p ∷ ps) = part_spelled style [] _ p ps refl (later_spelle
 
 -- ---- The lexemes have these terminals
 
-short_terminal : (o : Options) (lowercase cn_unit : Bool) (u : TimeUnit)
-    → terminal_of (record o { lowercase = lowercase; cn_unit = cn_unit }) ((row_of u).printed) ≡ word (Some u)
-short_terminal o lowercase cn_unit u = search rules
+short_terminal : (default_unit : Option TimeUnit) (o : Options) (lowercase cn_unit : Bool) (u : TimeUnit)
+    → terminal_of (rules_with (record o { lowercase = lowercase; cn_unit = cn_unit }) default_unit) ((row_of u).printed) ≡ word (Some u)
+short_terminal default_unit o lowercase cn_unit u = search rules
 
-one_terminal : (o : Options) (lowercase cn_unit : Bool) (u : TimeUnit)
-    → terminal_of (record o { lowercase = lowercase; cn_unit = cn_unit }) (name_in Long true u) ≡ word (Some u)
-one_terminal o lowercase cn_unit u = search rules
+one_terminal : (default_unit : Option TimeUnit) (o : Options) (lowercase cn_unit : Bool) (u : TimeUnit)
+    → terminal_of (rules_with (record o { lowercase = lowercase; cn_unit = cn_unit }) default_unit) (name_in Long true u) ≡ word (Some u)
+one_terminal default_unit o lowercase cn_unit u = search rules
 
-long_terminal : (o : Options) (lowercase cn_unit : Bool) (u : TimeUnit)
-    → terminal_of (record o { lowercase = lowercase; cn_unit = cn_unit }) (name_in Long false u) ≡ word (Some u)
-long_terminal o lowercase cn_unit u = search rules
+long_terminal : (default_unit : Option TimeUnit) (o : Options) (lowercase cn_unit : Bool) (u : TimeUnit)
+    → terminal_of (rules_with (record o { lowercase = lowercase; cn_unit = cn_unit }) default_unit) (name_in Long false u) ≡ word (Some u)
+long_terminal default_unit o lowercase cn_unit u = search rules
 
 -- Each printed name is a name of its unit under all options.
-pub printed_terminal : (o : Options) (style : Style) (one : Bool) (u : TimeUnit)
-    → terminal_of o (name_in style one u) ≡ word (Some u)
-printed_terminal o Short one = short_terminal o o.lowercase o.cn_unit
-printed_terminal o Compact one = short_terminal o o.lowercase o.cn_unit
-printed_terminal o Long true = one_terminal o o.lowercase o.cn_unit
-printed_terminal o Long false = long_terminal o o.lowercase o.cn_unit
+pub printed_terminal : (default_unit : Option TimeUnit) (o : Options) (style : Style) (one : Bool) (u : TimeUnit)
+    → terminal_of (rules_with o default_unit) (name_in style one u) ≡ word (Some u)
+printed_terminal default_unit o Short one = short_terminal default_unit o o.lowercase o.cn_unit
+printed_terminal default_unit o Compact one = short_terminal default_unit o o.lowercase o.cn_unit
+printed_terminal default_unit o Long true = one_terminal default_unit o o.lowercase o.cn_unit
+printed_terminal default_unit o Long false = long_terminal default_unit o o.lowercase o.cn_unit
 
 abbrev pub EachBelow : List ℕ → Type 0
 EachBelow [] = ⊤
 EachBelow (n ∷ counts) = (n < 2 ^ 64) × EachBelow counts
 
-pub terminals_kept : (o : Options) (style : Style) (us : List TimeUnit) (counts : List ℕ) → EachBelow counts
-    → map (terminal_of o) (lexemes style (nonzero us counts)) ≡ terminals (nonzero us counts)
-terminals_kept o style (u ∷ us) (n ∷ counts) small = elim (cases_Bool (n == 0)) [
-  | inl none ↦ rw none (terminals_kept o style us counts small.1)
-  | inr some ↦ rw some (ap₂ ◌∷◌ (decimal_terminal o n small.0)
-      (ap₂ ◌∷◌ (printed_terminal o style (n == 1) u) (terminals_kept o style us counts small.1)))
+pub terminals_kept : (default_unit : Option TimeUnit) (o : Options) (style : Style) (us : List TimeUnit) (counts : List ℕ) → EachBelow counts
+    → map (terminal_of (rules_with o default_unit)) (lexemes style (nonzero us counts)) ≡ terminals (nonzero us counts)
+terminals_kept default_unit o style (u ∷ us) (n ∷ counts) small = elim (cases_Bool (n == 0)) [
+  | inl none ↦ rw none (terminals_kept default_unit o style us counts small.1)
+  | inr some ↦ rw some (ap₂ ◌∷◌ (decimal_terminal (rules_with o default_unit) n small.0)
+      (ap₂ ◌∷◌ (printed_terminal default_unit o style (n == 1) u) (terminals_kept default_unit o style us counts small.1)))
 ]
-terminals_kept o style _ _ small = refl
+terminals_kept default_unit o style _ _ small = refl
 
-pub terminals_or_zero : (o : Options) (style : Style) (u : TimeUnit) (ps : List (TimeUnit × ℕ))
-    → map (terminal_of o) (lexemes style ps) ≡ terminals ps
-    → map (terminal_of o) (lexemes style (or_zero u ps)) ≡ terminals (or_zero u ps)
-terminals_or_zero o style u [] h =
-    ap₂ ◌∷◌ (decimal_terminal o 0 (omega arith)) (ap₂ ◌∷◌ (printed_terminal o style false u) refl)
-terminals_or_zero o style u (p ∷ ps) h = h
+pub terminals_or_zero : (default_unit : Option TimeUnit) (o : Options) (style : Style) (u : TimeUnit) (ps : List (TimeUnit × ℕ))
+    → map (terminal_of (rules_with o default_unit)) (lexemes style ps) ≡ terminals ps
+    → map (terminal_of (rules_with o default_unit)) (lexemes style (or_zero u ps)) ≡ terminals (or_zero u ps)
+terminals_or_zero default_unit o style u [] h =
+    ap₂ ◌∷◌ (decimal_terminal (rules_with o default_unit) 0 (omega arith)) (ap₂ ◌∷◌ (printed_terminal default_unit o style false u) refl)
+terminals_or_zero default_unit o style u (p ∷ ps) h = h
 
 counts_below : (lengths : List ℕ) (nanos : ℕ) → nanos < 2 ^ 64 → EachBelow (counts_of lengths nanos)
 counts_below [] nanos h = tt
 counts_below (l ∷ lengths) nanos h = (omega arith, counts_below lengths (nanos % l) (omega arith))
 
-pub terminals_of_duration : (o : Options) (style : Style) (nanos : ℕ) → FitsDuration nanos
-    → map (terminal_of o) (duration_lexemes style nanos) ≡ terminals (printed nanos)
-terminals_of_duration o style nanos h =
-    terminals_or_zero o style Second _ (terminals_kept o style units (counts_of unit_lengths nanos)
+pub terminals_of_duration : (default_unit : Option TimeUnit) (o : Options) (style : Style) (nanos : ℕ) → FitsDuration nanos
+    → map (terminal_of (rules_with o default_unit)) (duration_lexemes style nanos) ≡ terminals (printed nanos)
+terminals_of_duration default_unit o style nanos h =
+    terminals_or_zero default_unit o style Second _ (terminals_kept default_unit o style units (counts_of unit_lengths nanos)
     (omega arith, counts_below (drop 1 unit_lengths) (nanos % nanos_of Year) (omega arith)))
 
 -- ---- The terminals are a sentence without operators
 
-pub units_sentence : (default_unit : Option TimeUnit) (no_calc : Bool) (u : TimeUnit) (ps : List (TimeUnit × ℕ))
-    → IsSentence default_unit no_calc (terminals (or_zero u ps))
-units_sentence default_unit no_calc u [] = tt
-units_sentence default_unit no_calc u (p ∷ []) = tt
-units_sentence default_unit no_calc u (p ∷ q ∷ ps) = units_sentence default_unit no_calc u (q ∷ ps)
+pub units_sentence : (r : Rules) (u : TimeUnit) (ps : List (TimeUnit × ℕ)) → IsSentence r (terminals (or_zero u ps))
+units_sentence r u [] = tt
+units_sentence r u (p ∷ []) = tt
+units_sentence r u (p ∷ q ∷ ps) = units_sentence r u (q ∷ ps)
 
 pub units_plus : (ps : List (TimeUnit × ℕ)) → AllPlus (terminals ps)
 units_plus [] = tt
@@ -117,32 +116,32 @@ counts_are style nanos text p =
 
 pub printed_is_sum : (default_unit : Option TimeUnit) (o : Options) (style : Style) (nanos : ℕ) (text : List ℕ)
     → FitsDuration nanos
-    → IsPrintedIn style nanos text → IsSumOf default_unit o (duration_lexemes style nanos) text
+    → IsPrintedIn style nanos text → IsSumOf (rules_with o default_unit) (duration_lexemes style nanos) text
 printed_is_sum default_unit o style nanos text h p =
     let counts : List ℕ = counts_of unit_lengths nanos in
     record {
       sentence = (
-        rw (terminals_of_duration o style nanos h) (units_sentence default_unit o.no_calc Second (nonzero units counts)),
+        rw (terminals_of_duration default_unit o style nanos h) (units_sentence (rules_with o default_unit) Second (nonzero units counts)),
         rw (counts_are style nanos text p)
             (all_spelled style Second (nonzero units counts)),
       );
-      plus = rw (terminals_of_duration o style nanos h) (units_plus (printed nanos));
+      plus = rw (terminals_of_duration default_unit o style nanos h) (units_plus (printed nanos));
     }
 
 -- ---- The total is the duration
 
-pub sum_kept : (default_unit : Option TimeUnit) (us : List TimeUnit) (counts : List ℕ)
-    → sum_of (terms_of default_unit (terminals (nonzero us counts))) ≡ weighted_sum (map nanos_of us) counts
-sum_kept default_unit (u ∷ us) (n ∷ counts) = search (rules, eqb-true, sum_kept default_unit us counts)
-sum_kept default_unit _ _ = refl
+pub sum_kept : (default_unit : Option TimeUnit) (o : Options) (us : List TimeUnit) (counts : List ℕ)
+    → sum_of (terms_of (rules_with o default_unit) (terminals (nonzero us counts))) ≡ weighted_sum (map nanos_of us) counts
+sum_kept default_unit o (u ∷ us) (n ∷ counts) = search (rules, eqb-true, sum_kept default_unit o us counts)
+sum_kept default_unit o _ _ = refl
 
-pub sum_or_zero : (default_unit : Option TimeUnit) (u : TimeUnit) (ps : List (TimeUnit × ℕ))
-    → sum_of (terms_of default_unit (terminals (or_zero u ps))) ≡ sum_of (terms_of default_unit (terminals ps))
-sum_or_zero default_unit u ps = search rules
+pub sum_or_zero : (r : Rules) (u : TimeUnit) (ps : List (TimeUnit × ℕ))
+    → sum_of (terms_of r (terminals (or_zero u ps))) ≡ sum_of (terms_of r (terminals ps))
+sum_or_zero r u ps = search rules
 
 pub duration_sum : (default_unit : Option TimeUnit) (o : Options) (style : Style) (nanos : ℕ) → FitsDuration nanos
-    → sum_of (terms_of_lexemes default_unit o (duration_lexemes style nanos)) ≡ nanos
+    → sum_of (written_terms (rules_with o default_unit) (duration_lexemes style nanos)) ≡ nanos
 duration_sum default_unit o style nanos h =
     let counts : List ℕ = counts_of unit_lengths nanos in
-    rw (terminals_of_duration o style nanos h, sum_or_zero default_unit Second (nonzero units counts), sum_kept default_unit units counts)
+    rw (terminals_of_duration default_unit o style nanos h, sum_or_zero (rules_with o default_unit) Second (nonzero units counts), sum_kept default_unit o units counts)
     (greatest_breakdown_holds nanos).breakdown.whole

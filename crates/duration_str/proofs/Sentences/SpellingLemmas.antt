@@ -1,5 +1,5 @@
 -- A sentence spells a text exactly if its lexemes are those of the text's tokens.
-use Rattle.duration_str.proofs.Common.{allows, and_parts, are_of_one_run, AreTokens, BeginsWith, Bool, byte_len, EndsRun, Expected, expected_after, false, false_from_ne_true, goes_on, is_blank, IsBlank, IsLexeme, IsSentenceIn, IsTrue, lexemes_of, List, list_all, list_all-append, map, None, Option, Options, refl, rules, Some, sort_of, Spells, sym, Table, Terminal, terminal_in, terminals_in, TimeUnit, Token, tokens_of, true, [], ℕ, ⊤, ◌++◌, ◌+◌, ◌∙◌, ◌∷◌, ◌≡◌}
+use Rattle.duration_str.proofs.Common.{[], allows, and_parts, are_of_one_run, AreTokens, BeginsWith, Bool, byte_len, EndsRun, Expected, expected_after, false, false_from_ne_true, goes_on, is_blank, IsBlank, IsLexeme, IsSentenceOf, IsTrue, lexemes_of, List, list_all, list_all-append, map, None, Option, Options, refl, Rules, rules, Some, sort_of, Spells, sym, Terminal, terminal_of, terminals_of, Token, tokens_of, true, ℕ, ⊤, ◌++◌, ◌+◌, ◌∙◌, ◌∷◌, ◌≡◌}
 use Rattle.duration_str.proofs.Characters.CharacterLemmas.{operator-not_blank, run-not_blank}
 use Rattle.duration_str.proofs.Cutting.TokenLemmas.{tokens_are, tokens_once}
 use Rattle.duration_str.proofs.Cutting.SortLemmas.{digits_are_lexeme, letters_are_lexeme, lexeme_sort, run_sort, terminal_cases}
@@ -10,18 +10,18 @@ pub begins_with : {lexeme text : List ℕ} {IsRest : List ℕ → Type 0} (blank
 begins_with blanks rest blank parts is_rest = search (rules)
 
 -- Characters whose terminal is of an expected kind are a lexeme.
-allowed_is_lexeme : (rows : Table) (o : Options) (expected : Expected) (w : List ℕ)
-    → IsTrue (allows expected (terminal_in rows o w))
-    → IsLexeme o w
-allowed_is_lexeme rows o expected = terminal_cases rows o (λ w t. IsTrue (allows expected t) → IsLexeme o w)
-    (λ h. cc) (λ c cs digits h. digits_are_lexeme o c cs digits) (λ c cs letters h. letters_are_lexeme o c cs letters)
+allowed_is_lexeme : (r : Rules) (expected : Expected) (w : List ℕ)
+    → IsTrue (allows expected (terminal_of r w))
+    → IsLexeme r.options w
+allowed_is_lexeme r expected = terminal_cases r (λ w t. IsTrue (allows expected t) → IsLexeme r.options w)
+    (λ h. cc) (λ c cs digits h. digits_are_lexeme r.options c cs digits) (λ c cs letters h. letters_are_lexeme r.options c cs letters)
     (λ c op _ _ sign h. (operator-not_blank c op sign, refl)) (λ c cs _ _ h. cc)
 
 -- The table allows no terminal after one of its own sort.
-sorts_apart : (default_unit : Option TimeUnit) (no_calc : Bool) (s t : Terminal)
-    → IsTrue (allows (expected_after default_unit no_calc (Some s)) t)
+sorts_apart : (r : Rules) (s t : Terminal)
+    → IsTrue (allows (expected_after r (Some s)) t)
     → sort_of s ≡ sort_of t → ⊥
-sorts_apart default_unit no_calc s t a e = search rules
+sorts_apart r s t a e = search rules
 
 module _ (o : Options) where
   stops_at_blank : (c d : ℕ) → is_blank d ≡ true → are_of_one_run o c d ≡ false
@@ -37,35 +37,35 @@ module _ (o : Options) where
   pub tokens_spell : (text : List ℕ) → Spells (lexemes_of (tokens_of o text)) text
   tokens_spell text = tokens_spell_at 0 text (tokens_of o text) (tokens_are o 0 text)
 
-module _ (rows : Table) (default_unit : Option TimeUnit) (o : Options) where
+module _ (r : Rules) where
   -- Two lexemes are not of one run if the table allows one after the other.
-  stops_before : (c : ℕ) (cs blanks w rest : List ℕ) → IsBlank blanks → IsLexeme o (c ∷ cs) → IsLexeme o w
-      → IsTrue (allows (expected_after default_unit o.no_calc (Some (terminal_in rows o (c ∷ cs)))) (terminal_in rows o w))
-      → goes_on o c (blanks ++ (w ++ rest)) ≡ false
-  stops_before c cs (b ∷ blanks) w rest h p q a = stops_at_blank o c b (and_parts _ _ h).0
+  stops_before : (c : ℕ) (cs blanks w rest : List ℕ) → IsBlank blanks → IsLexeme r.options (c ∷ cs) → IsLexeme r.options w
+      → IsTrue (allows (expected_after r (Some (terminal_of r (c ∷ cs)))) (terminal_of r w))
+      → goes_on r.options c (blanks ++ (w ++ rest)) ≡ false
+  stops_before c cs (b ∷ blanks) w rest h p q a = stops_at_blank r.options c b (and_parts _ _ h).0
   stops_before c cs [] [] rest h p q a = absurd q
   stops_before c cs [] (d ∷ ds) rest h p q a = false_from_ne_true _ (λ run.
-      sorts_apart default_unit o.no_calc _ _ a (sym (lexeme_sort rows o c cs p) ∙ run_sort o c d run ∙ lexeme_sort rows o d ds q))
+      sorts_apart r _ _ a (sym (lexeme_sort r c cs p) ∙ run_sort r.options c d run ∙ lexeme_sort r d ds q))
 
   -- A lexeme of a sentence is as long as possible: its run of characters ends where the lexeme ends.
-  ends_in_sentence : (w rest : List ℕ) (ws : List (List ℕ)) → IsLexeme o w
-      → AreAllowed default_unit o.no_calc (Some (terminal_in rows o w)) (map (terminal_in rows o) ws) → Spells ws rest
-      → EndsRun o w rest
+  ends_in_sentence : (w rest : List ℕ) (ws : List (List ℕ)) → IsLexeme r.options w
+      → AreAllowed r (Some (terminal_of r w)) (map (terminal_of r) ws) → Spells ws rest
+      → EndsRun r.options w rest
   ends_in_sentence [] rest ws p a s = tt
   ends_in_sentence (c ∷ cs) [] [] p a s = refl
-  ends_in_sentence (c ∷ cs) (d ∷ rest) [] p a s = stops_at_blank o c d (and_parts _ _ s).0
-  ends_in_sentence (c ∷ cs) rest (v ∷ ws) p a s = search (rules, stops_before, allowed_is_lexeme rows)
+  ends_in_sentence (c ∷ cs) (d ∷ rest) [] p a s = stops_at_blank r.options c d (and_parts _ _ s).0
+  ends_in_sentence (c ∷ cs) rest (v ∷ ws) p a s = search (rules, stops_before, allowed_is_lexeme r)
 
   -- The lexemes of a sentence that spells the text are the characters of its tokens.
   spelled_tokens : (at : ℕ) (last : Option Terminal) (lexemes : List (List ℕ)) (text : List ℕ)
-      → AreAllowed default_unit o.no_calc last (map (terminal_in rows o) lexemes) → Spells lexemes text
-      → (tokens : List Token) × AreTokens o at text tokens × (lexemes_of tokens ≡ lexemes)
+      → AreAllowed r last (map (terminal_of r) lexemes) → Spells lexemes text
+      → (tokens : List Token) × AreTokens r.options at text tokens × (lexemes_of tokens ≡ lexemes)
   spelled_tokens at last [] text a s = ([], s, refl)
   spelled_tokens at last (w ∷ ws) text a s =
       let start = at + byte_len s.blanks in
-      let p = allowed_is_lexeme rows o (expected_after default_unit o.no_calc last) w a.0 in
+      let p = allowed_is_lexeme r (expected_after r last) w a.0 in
       let ends = ends_in_sentence w s.rest ws p a.1 s.is_rest in
-      let more = spelled_tokens (start + byte_len w) (Some (terminal_in rows o w)) ws s.rest a.1 s.is_rest in (
+      let more = spelled_tokens (start + byte_len w) (Some (terminal_of r w)) ws s.rest a.1 s.is_rest in (
         record { start = start; characters = w } ∷ more.0,
         (
           s.rest,
@@ -75,18 +75,18 @@ module _ (rows : Table) (default_unit : Option TimeUnit) (o : Options) where
         rw more.2,
       )
 
-  pub sentence_tokens : (text : List ℕ) (lexemes : List (List ℕ)) → IsSentenceIn rows default_unit o lexemes text
-      → lexemes ≡ lexemes_of (tokens_of o text)
+  pub sentence_tokens : (text : List ℕ) (lexemes : List (List ℕ)) → IsSentenceOf r lexemes text
+      → lexemes ≡ lexemes_of (tokens_of r.options text)
   sentence_tokens text lexemes s =
       let found =
-      spelled_tokens 0 None lexemes text (sentence_allowed default_unit o.no_calc (map (terminal_in rows o) lexemes) s.0) s.1 in
-      rw (← tokens_once o 0 text found.0 (tokens_of o text) found.1 (tokens_are o 0 text), found.2)
+      spelled_tokens 0 None lexemes text (sentence_allowed r (map (terminal_of r) lexemes) s.0) s.1 in
+      rw (← tokens_once r.options 0 text found.0 (tokens_of r.options text) found.1 (tokens_are r.options 0 text), found.2)
 
-  pub sentence_terminals : (text : List ℕ) (lexemes : List (List ℕ)) → IsSentenceIn rows default_unit o lexemes text
-      → map (terminal_in rows o) lexemes ≡ terminals_in rows o text
+  pub sentence_terminals : (text : List ℕ) (lexemes : List (List ℕ)) → IsSentenceOf r lexemes text
+      → map (terminal_of r) lexemes ≡ terminals_of r text
   sentence_terminals text lexemes s = rw (sentence_tokens text lexemes s)
 
-  pub empty_no_sentence : (lexemes : List (List ℕ)) → IsSentenceIn rows default_unit o lexemes [] → ⊥
+  pub empty_no_sentence : (lexemes : List (List ℕ)) → IsSentenceOf r lexemes [] → ⊥
   empty_no_sentence lexemes s = rw (sentence_terminals [] lexemes s) at s.0
 
 -- All characters of each lexeme pass the test.

@@ -1,5 +1,5 @@
 -- Terms that are added evaluate exactly if their sum is below 2^64, and the sum is their value.
-use Rattle.duration_str.proofs.Common.{AllPlus, ap, append-nil, append_assoc, arith, Bool, cases_lt, Cause, UnitTable, combination, CondUnit, Evaluates, evaluation_fault, fault_of_terms, first_fault, fits, is_same_operator, IsSentence, later_total, Humantime, le-ltb, leb, leb-true, length, List, list_all, lt-ltb, ltb-true, nanos_in, nanos_of, None, number, operator, Option, or_else, Overflow, Own, Plus, refl, rows_of, rules, running_fault, Second, Some, sum_of, Table, Term, term_fault, Terminal, terms_after, terms_in, TimeUnit, true, unless, unwrap_or, value_of, value_of_term, word, [], ℕ, ⊤, ◌++◌, ◌+◌, ◌<◌, ◌^◌, ◌↔◌, ◌∷◌, ◌≡◌, ◌≤◌}
+use Rattle.duration_str.proofs.Common.{[], AllPlus, ap, append-nil, append_assoc, arith, Bool, cases_lt, Cause, combination, CondUnit, Evaluates, evaluation_fault, fault_of_terms, first_fault, fits, is_same_operator, IsSentence, later_total, le-ltb, leb, leb-true, length, List, list_all, lt-ltb, ltb-true, Mixed, nanos_of, None, number, operator, Option, Options, or_else, Overflow, place_after, Plus, refl, Rules, rules, rules_with, running_fault, Second, Some, sum_of, Term, term_fault, Terminal, terms_after, terms_of, TimeUnit, true, unless, unwrap_or, value_of, value_of_term, word, ℕ, ⊤, ◌++◌, ◌+◌, ◌<◌, ◌^◌, ◌↔◌, ◌∷◌, ◌≡◌, ◌≤◌}
 use Rattle.duration_str.proofs.Characters.UnitLemmas.{all_units}
 
 -- ---- When there is no fault: a set of equivalences for `simp`
@@ -19,54 +19,63 @@ is_same_operator-true op next = grind arith
 -- rules that turn "there is no fault" into "each number is below 2^64, and the operators are the same"
 pub ruleset no_fault = (or_else-none, unless-none, fits-true, is_same_operator-true)
 
-pub term_below_no_fault : (place : Option ℕ) (t : Term) → 1 ≤ t.length → value_of_term t < 2 ^ 64
+pub term_below_no_fault : (place : Option ℕ) (t : Term) → t.number < 2 ^ 64 → value_of_term t < 2 ^ 64
     → term_fault place t ≡ None
-term_below_no_fault place t l h = simp no_fault (grind arith)
+term_below_no_fault place t l h = simp no_fault (l, h)
 
 -- ---- Terms that are added
 
--- Each term has the operator plus and a length above 0.
+-- Each term has the operator plus.
 abbrev pub AreAdded : List Term → Type 0
 AreAdded [] = ⊤
-AreAdded (t ∷ terms) = (t.operator ≡ Plus) × (1 ≤ t.length) × AreAdded terms
+AreAdded (t ∷ terms) = (t.operator ≡ Plus) × AreAdded terms
 
-unit_above_zero : (table : UnitTable) (u : TimeUnit) → 1 ≤ nanos_in (rows_of table) u
-unit_above_zero Own u = leb-true 1 (nanos_of u) (all_units (λ v. leb 1 (nanos_of v)) refl u)
-unit_above_zero Humantime u =
-    let rows = rows_of Humantime in
-    leb-true 1 (nanos_in rows u) (all_units (λ v. leb 1 (nanos_in rows v)) refl u)
+terms_added_after : (r : Rules) (op : CondUnit) (terminals : List Terminal) → op ≡ Plus → AllPlus terminals
+    → AreAdded (terms_after r op terminals)
+terms_added_after r op (number n ∷ word (Some u) ∷ more) e a = (e, terms_added_after r Plus more refl a)
+terms_added_after r op (number n ∷ more) e a = (e, terms_added_after r Plus more refl a)
+terms_added_after r op (operator next ∷ more) e a = terms_added_after r next more a.0 a.1
+terms_added_after r op _ e a = tt
 
-terms_added_after : (table : UnitTable) (default_unit : Option TimeUnit) (op : CondUnit) (terminals : List Terminal) → op ≡ Plus
-    → AllPlus terminals
-    → AreAdded (terms_after (rows_of table) default_unit op terminals)
-terms_added_after table default_unit op (number n ∷ word (Some u) ∷ more) e a =
-    (e, unit_above_zero table u, terms_added_after table default_unit Plus more refl a)
-terms_added_after table default_unit op (number n ∷ more) e a =
-    (e, unit_above_zero table (unwrap_or default_unit Second), terms_added_after table default_unit Plus more refl a)
-terms_added_after table default_unit op (operator next ∷ more) e a = terms_added_after table default_unit next more a.0 a.1
-terms_added_after table default_unit op _ e a = tt
+pub terms_added : (r : Rules) (terminals : List Terminal) → AllPlus terminals → AreAdded (terms_of r terminals)
+terms_added r terminals a = terms_added_after r Plus terminals refl a
 
-pub terms_added : (table : UnitTable) (default_unit : Option TimeUnit) (terminals : List Terminal) → AllPlus terminals
-    → AreAdded (terms_in (rows_of table) default_unit terminals)
-terms_added table default_unit terminals a = terms_added_after table default_unit Plus terminals refl a
+-- Each term has a length above 0.
+abbrev pub AreLong : List Term → Type 0
+AreLong [] = ⊤
+AreLong (t ∷ terms) = (1 ≤ t.length) × AreLong terms
 
-pub has_terms : (rows : Table) (default_unit : Option TimeUnit) (no_calc : Bool) (terminals : List Terminal)
-    → IsSentence default_unit no_calc terminals
-    → 1 ≤ length (terms_in rows default_unit terminals)
-has_terms rows default_unit no_calc terminals h = search rules
+unit_above_zero : (u : TimeUnit) → 1 ≤ nanos_of u
+unit_above_zero u = leb-true 1 (nanos_of u) (all_units (λ v. leb 1 (nanos_of v)) refl u)
+
+-- With the library's own table, each term has a length above 0.
+pub terms_long : (default_unit : Option TimeUnit) (o : Options) (op : CondUnit) (terminals : List Terminal)
+    → AreLong (terms_after (rules_with o default_unit) op terminals)
+terms_long default_unit o op (number n ∷ word (Some u) ∷ more) = (unit_above_zero u, terms_long default_unit o Plus more)
+terms_long default_unit o op (number n ∷ more) =
+    (unit_above_zero (unwrap_or default_unit Second), terms_long default_unit o Plus more)
+terms_long default_unit o op (operator next ∷ more) = terms_long default_unit o next more
+terms_long default_unit o op _ = tt
+
+pub has_terms : (r : Rules) (terminals : List Terminal) → IsSentence r terminals → 1 ≤ length (terms_of r terminals)
+has_terms r terminals h = search rules
 
 pub sum-append : (xs ys : List Term) → sum_of (xs ++ ys) ≡ sum_of xs + sum_of ys
 sum-append [] ys = omega arith
 sum-append (x ∷ xs) ys = rw (sum-append xs ys) (omega arith)
 
--- Each term's value is below 2^64.
+-- Each term's number and value are below 2^64.
 abbrev pub EachFits : List Term → Type 0
 EachFits [] = ⊤
-EachFits (t ∷ terms) = (value_of_term t < 2 ^ 64) × EachFits terms
+EachFits (t ∷ terms) = (t.number < 2 ^ 64) × (value_of_term t < 2 ^ 64) × EachFits terms
 
-pub sum_fits_each : (terms : List Term) → sum_of terms < 2 ^ 64 → EachFits terms
-sum_fits_each [] h = tt
-sum_fits_each (t ∷ terms) h = (omega arith, sum_fits_each terms (omega arith))
+number_below : (t : Term) → 1 ≤ t.length → value_of_term t < 2 ^ 64 → t.number < 2 ^ 64
+number_below t l h = grind arith
+
+pub sum_fits_each : (terms : List Term) → AreLong terms → sum_of terms < 2 ^ 64 → EachFits terms
+sum_fits_each [] l h = tt
+sum_fits_each (t ∷ terms) l h =
+    (number_below t l.0 (omega arith), omega arith, sum_fits_each terms l.1 (omega arith))
 
 -- ---- The only fault of terms that fit is that of their sum
 
@@ -89,30 +98,54 @@ added_overflow [] a f = (refl, refl)
 added_overflow (t ∷ []) a f = search (rules, lt-ltb, term_below_no_fault)
 added_overflow (t ∷ u ∷ later) a f =
     let plus = ap (λ op. or_else (fault_of_terms op [] (u ∷ later))
-    (unless (fits (combination op (value_of_term t) (later_total op (u ∷ later)))) (Overflow None))) a.2.0 in (
-      term_below_no_fault (Some 0) t a.1 f.0,
-      rw (plus, (running_overflow [] (u ∷ later) a.2 f.1).1) (overflow_grows (sum_of (u ∷ later)) _ (omega arith)),
+    (unless (fits (combination op (value_of_term t) (later_total op (u ∷ later)))) (Overflow None))) a.1.0 in (
+      term_below_no_fault (Some 0) t f.0 f.1,
+      rw (plus, (running_overflow [] (u ∷ later) a.1 f.2).1) (overflow_grows (sum_of (u ∷ later)) _ (omega arith)),
     )
 
-pub running_none : (terms : List Term) → AreAdded terms → sum_of terms < 2 ^ 64 → running_fault [] terms ≡ None
-running_none terms a h = rw ((running_overflow [] terms a (sum_fits_each terms h)).0, lt-ltb _ _ h)
+pub running_none : (terms : List Term) → AreAdded terms → EachFits terms → sum_of terms < 2 ^ 64
+    → running_fault [] terms ≡ None
+running_none terms a f h = rw ((running_overflow [] terms a f).0, lt-ltb _ _ h)
 
 pub running_below : (before terms : List Term) → sum_of before < 2 ^ 64 → running_fault before terms ≡ None
     → sum_of (before ++ terms) < 2 ^ 64
 running_below before [] b h = rw append-nil b
 running_below before (t ∷ later) b h = search (rules, append_assoc, running_below (before ++ t ∷ []) later)
 
-pub below_evaluate : (terms : List Term) → 1 ≤ length terms → AreAdded terms → sum_of terms < 2 ^ 64 → Evaluates terms
-below_evaluate terms l a h = grind (arith, sum_fits_each, added_overflow)
+pub running_fits : (before terms : List Term) → running_fault before terms ≡ None → EachFits terms
+running_fits before [] h = tt
+running_fits before (t ∷ later) h =
+    let parts = (or_else-none (term_fault (place_after before) t) _).0 h in
+    let own = simp no_fault at parts.0 in
+    (own.0, own.1, running_fits (before ++ t ∷ []) later ((or_else-none _ _).0 parts.1).1)
+
+later_fits : (op : CondUnit) (before terms : List Term) → fault_of_terms op before terms ≡ None → EachFits terms
+later_fits op before [] h = tt
+later_fits op before (t ∷ later) h =
+    let parts = (or_else-none (unless (is_same_operator op t.operator) (Mixed op t.operator)) _).0 h in
+    let own = (or_else-none (term_fault None t) _).0 parts.1 in
+    let below = simp no_fault at own.0 in
+    (below.0, below.1, later_fits op (before ++ t ∷ []) later ((or_else-none _ _).0 own.1).1)
+
+pub evaluate_fits : (terms : List Term) → Evaluates terms → EachFits terms
+evaluate_fits [] e = tt
+evaluate_fits (t ∷ []) e = let own = simp no_fault at e.0 in (own.0, own.1, tt)
+evaluate_fits (t ∷ u ∷ later) e =
+    let own = simp no_fault at e.0 in
+    (own.0, own.1, later_fits u.operator [] (u ∷ later) ((or_else-none _ _).0 e.1).0)
+
+pub below_evaluate : (terms : List Term) → 1 ≤ length terms → AreAdded terms → EachFits terms → sum_of terms < 2 ^ 64
+    → Evaluates terms
+below_evaluate terms l a f h = grind (arith, added_overflow)
 
 pub evaluate_below : (terms : List Term) → AreAdded terms → Evaluates terms → sum_of terms < 2 ^ 64
 evaluate_below terms a h = search rules
 
 all_plus : (later : List Term) → AreAdded later → list_all (λ v. is_same_operator Plus v.operator) later ≡ true
 all_plus [] a = refl
-all_plus (t ∷ later) a = rw (a.0, all_plus later a.2)
+all_plus (t ∷ later) a = rw (a.0, all_plus later a.1)
 
 pub value_is_sum : (terms : List Term) → 1 ≤ length terms → AreAdded terms → value_of terms ≡ Some (sum_of terms)
 value_is_sum [] l a = absurd (omega arith)
 value_is_sum (t ∷ []) l a = ap Some (omega arith)
-value_is_sum (t ∷ u ∷ later) l a = rw (a.2.0, all_plus later a.2.2)
+value_is_sum (t ∷ u ∷ later) l a = rw (a.1.0, all_plus later a.1.1)

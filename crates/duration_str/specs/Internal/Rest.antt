@@ -1,7 +1,6 @@
 -- What is left of a text while it is read: the next thing to read, and the answer.
-use Rattle.std.specs.Prelude.{◌≡◌, ℕ, zero, suc, ◌≤◌, Bool, false, List, [], ◌∷◌, length, take, drop, Option, Some, None, Result, Ok, Err, IfErr}
+use Rattle.std.specs.Prelude.{◌≡◌, ℕ, zero, suc, ◌≤◌, List, [], ◌∷◌, length, take, drop, Option, Some, None, Result, Ok, Err, IfErr, if◌then◌else◌}
 use Rattle.std.specs.Option.{ForSome, ok_or}
-use Rattle.duration_str.specs.declared.options.Options.{Options}
 use Rattle.duration_str.specs.declared.unit.TimeUnit.{TimeUnit}
 use Rattle.duration_str.specs.declared.operator.CondUnit.{CondUnit}
 use Rattle.duration_str.specs.declared.operator.CondUnit.TheVariants.{Plus}
@@ -9,16 +8,16 @@ use Rattle.duration_str.specs.declared.cause.Cause.{Cause}
 use Rattle.duration_str.specs.declared.cause.Cause.TheVariants.{Syntax, Overflow, Mixed}
 use Rattle.duration_str.specs.declared.cause.Expected.{Expected}
 use Rattle.duration_str.specs.declared.token.Tokens.{Tokens}
-use Rattle.duration_str.specs.Grammar.{Terminal, number, word, operator, terminal_in}
+use Rattle.duration_str.specs.Rules.{Rules}
+use Rattle.duration_str.specs.Grammar.{Terminal, number, word, operator, terminal_of}
 use Rattle.duration_str.specs.Tokens.{Token}
-use Rattle.duration_str.specs.Units.{Table}
 use Rattle.duration_str.specs.Value.{combination, is_same_operator, unless}
 use Rattle.duration_str.specs.OneTerm.{fault_or}
 use Rattle.duration_str.specs.Internal.Numbers.{u64_from, checked_term}
 use Rattle.duration_str.specs.Answer.{answer_at, expected_at_start, expected_after_number, expected_after_unit, front_of}
 use Rattle.duration_str.specs.Faults.{place_of}
-use Rattle.duration_str.specs.Iteration.{source, options_of, cut_place, tokens_left}
-use Rattle.duration_str.specs.Internal.Steps.{IsAhead}
+use Rattle.duration_str.specs.Iteration.{source, cut_place, tokens_left}
+use Rattle.duration_str.specs.Internal.Steps.{IsAhead, rules_at}
 use Rattle.duration_str.specs.declared.token.TokenStart.TheVariants.{Number}
 
 -- ---- What is left, and what is read next
@@ -29,14 +28,13 @@ pub data Rest : Type 0 where
   end_at : ℕ → Rest
 
 -- what is left of a text of `len` bytes, given the tokens that are left
-abbrev pub rest_from : Table → Options → ℕ → List Token → Rest
-rest_from rows o len [] = end_at len
-rest_from rows o len (p ∷ tokens) =
-    terminal_at p.start (terminal_in rows o p.characters) (rest_from rows o len tokens)
+abbrev pub rest_from : Rules → ℕ → List Token → Rest
+rest_from r len [] = end_at len
+rest_from r len (p ∷ tokens) = terminal_at p.start (terminal_of r p.characters) (rest_from r len tokens)
 
 -- what is left to read
-abbrev pub rest_of : Table → Tokens → Rest
-rest_of rows s = rest_from rows (options_of s) (length (source s)) (tokens_left s)
+abbrev pub rest_of : Rules → Tokens → Rest
+rest_of r s = rest_from (rules_at r s) (length (source s)) (tokens_left s)
 
 -- the byte at which terminal n of the rest starts, counted from 0, or at which the text ends if there is no such
 -- terminal
@@ -71,22 +69,23 @@ number_fault rest = Some (misplacement expected_at_start rest)
 
 -- the unit after a number. Before an operator and at the end the unit can be left out, and is then the default unit if
 -- there is one
-abbrev pub unit_read : Option TimeUnit → Bool → Rest → Result (ReadItem TimeUnit) Cause
-unit_read default_unit no_calc (terminal_at at (word (Some u)) rest) = leaving rest (Ok u)
-unit_read default_unit false (terminal_at at (operator op) rest) =
-    leaving (terminal_at at (operator op) rest)
-    (ok_or default_unit (Syntax at (expected_after_number default_unit false)))
-unit_read default_unit no_calc (end_at at) =
-    leaving (end_at at) (ok_or default_unit (Syntax at (expected_after_number default_unit no_calc)))
-unit_read default_unit no_calc rest = Err (misplacement (expected_after_number default_unit no_calc) rest)
+abbrev pub unit_read : Rules → Rest → Result (ReadItem TimeUnit) Cause
+unit_read r (terminal_at at (word (Some u)) rest) = leaving rest (Ok u)
+unit_read r (terminal_at at (operator op) rest) =
+    if r.options.no_calc then Err (Syntax at (expected_after_number r))
+    else leaving (terminal_at at (operator op) rest) (ok_or r.default_unit (Syntax at (expected_after_number r)))
+unit_read r (end_at at) = leaving (end_at at) (ok_or r.default_unit (Syntax at (expected_after_number r)))
+unit_read r rest = Err (misplacement (expected_after_number r) rest)
 
 -- the operator after a unit. A number must follow it. If the operator is left out, it is plus, and at the end it is
 -- `None`
-abbrev pub operator_read : Bool → Rest → Result (ReadItem (Option CondUnit)) Cause
-operator_read no_calc (terminal_at at (number n) rest) = leaving (terminal_at at (number n) rest) (Ok (Some Plus))
-operator_read false (terminal_at at (operator op) rest) = leaving rest (fault_or (number_fault rest) (Ok (Some op)))
-operator_read no_calc (end_at at) = leaving (end_at at) (Ok None)
-operator_read no_calc rest = Err (misplacement (expected_after_unit no_calc) rest)
+abbrev pub operator_read : Rules → Rest → Result (ReadItem (Option CondUnit)) Cause
+operator_read r (terminal_at at (number n) rest) = leaving (terminal_at at (number n) rest) (Ok (Some Plus))
+operator_read r (terminal_at at (operator op) rest) =
+    if r.options.no_calc then Err (Syntax at (expected_after_unit r))
+    else leaving rest (fault_or (number_fault rest) (Ok (Some op)))
+operator_read r (end_at at) = leaving (end_at at) (Ok None)
+operator_read r rest = Err (misplacement (expected_after_unit r) rest)
 
 -- ---- Places
 
@@ -101,11 +100,11 @@ IsPlaceless cause = place_of cause ≡ None
 -- ---- The answer
 
 -- the answer to a text when this rest is left and must start with a number
-abbrev pub answer_left : Table → Option TimeUnit → Bool → Rest → Result ℕ Cause
-answer_left rows default_unit no_calc rest =
+abbrev pub answer_left : Rules → Rest → Result ℕ Cause
+answer_left r rest =
     let terminals = terminals_left rest in
-    let n = front_of default_unit no_calc terminals in
-    answer_at rows default_unit no_calc (start_left n rest) (take n terminals) (drop n terminals)
+    let n = front_of r terminals in
+    answer_at r (start_left n rest) (take n terminals) (drop n terminals)
 
 -- ---- Values, or the first fault
 
@@ -137,9 +136,9 @@ with_term (Err cause) next n length = Err cause
 -- ---- Steps of the reader
 
 -- The result is what `f` reads from the rest, and the rest after it is left.
-abbrev pub ReadsItem : {A : Type 0} → Table → (Rest → Result (ReadItem A) Cause) → Tokens → Tokens → Result A Cause
+abbrev pub ReadsItem : {A : Type 0} → Rules → (Rest → Result (ReadItem A) Cause) → Tokens → Tokens → Result A Cause
     → Type 0
-ReadsItem rows f old new result = leaving (rest_of rows new) result ≡ f (rest_of rows old)
+ReadsItem r f old new result = leaving (rest_of r new) result ≡ f (rest_of r old)
 
 -- The source stays the same, and the place of a fault is not beyond the place reached.
 pub record CutsOn {A : Type 0} (old new : Tokens) (result : Result A Cause) : Type 0 where

@@ -6,9 +6,9 @@ use Rattle.duration_str.specs.declared.token.TokenStart.{TokenStart}
 use Rattle.duration_str.specs.declared.token.TokenStart.TheVariants as sorts
 use Rattle.duration_str.specs.declared.token.Tokens.{Tokens}
 use Rattle.duration_str.specs.Text.{Characters, is_blank, is_digit, is_unit_letter, operator_of}
-use Rattle.duration_str.specs.Grammar.{Terminal, number, word, operator, other, terminal_in}
+use Rattle.duration_str.specs.Rules.{Rules}
+use Rattle.duration_str.specs.Grammar.{Terminal, number, word, operator, other, terminal_of}
 use Rattle.duration_str.specs.Iteration.{source, options_of, cut_place, tokens_left, KeepsInput}
-use Rattle.duration_str.specs.Units.{Table}
 use Rattle.duration_str.specs.Internal.Numbers.{u64_from}
 use Rattle.duration_str.specs.Internal.Positions.{Between}
 
@@ -70,30 +70,33 @@ IsSign _ = ⊤
 
 -- ---- What is taken
 
--- The first token that is left is taken. It starts at the place and stands for this terminal, by this table of units.
-pub record TakesToken (rows : Table) (old new : Tokens) (terminal : Terminal) : Type 0 where
+-- these rules with the options under which the text is cut
+abbrev pub rules_at : Rules → Tokens → Rules
+rules_at r s = record r { options = options_of s }
+
+-- The first token that is left is taken. It starts at the place and stands for this terminal, by these rules.
+pub record TakesToken (r : Rules) (old new : Tokens) (terminal : Terminal) : Type 0 where
   pub characters : Characters
   pub kept : KeepsInput old new
   pub first : tokens_left old ≡ record { start = cut_place old; characters = characters } ∷ tokens_left new
   pub between : Between (source old) (cut_place old) (cut_place new) characters
-  pub is_terminal : terminal ≡ terminal_in rows (options_of old) characters
+  pub is_terminal : terminal ≡ terminal_of (rules_at r old) characters
 
--- The first token that is left is taken. By every table of units it is a number, and `value` is `None` if it is 2^64 or
--- more.
+-- The first token that is left is taken. By all rules it is a number, and `value` is `None` if it is 2^64 or more.
 pub record TakesNumber (old new : Tokens) (value : Option ℕ) : Type 0 where
   pub n : ℕ
   pub kept : KeepsInput old new
-  pub token : (rows : Table) → TakesToken rows old new (number n)
+  pub token : (r : Rules) → TakesToken r old new (number n)
   pub is_value : value ≡ u64_from n
 
 -- The first token that is left is taken. It stands for a terminal for which `Has` holds.
-pub record TakesTokenWith (rows : Table) (old new : Tokens) (Has : Terminal → Type 0) : Type 0 where
+pub record TakesTokenWith (r : Rules) (old new : Tokens) (Has : Terminal → Type 0) : Type 0 where
   pub terminal : Terminal
-  pub token : TakesToken rows old new terminal
+  pub token : TakesToken r old new terminal
   pub has : Has terminal
 
 -- If a token of a single character is ahead, it is taken. It stands for a terminal of its sort.
 abbrev pub TakesSign : Tokens → Tokens → Type 0
 TakesSign old new =
-    (rows : Table) (sort : TokenStart) → IsSign sort → IsAhead old (Some sort)
-    → TakesTokenWith rows old new (λ terminal. sort ≡ sort_of terminal)
+    (r : Rules) (sort : TokenStart) → IsSign sort → IsAhead old (Some sort)
+    → TakesTokenWith r old new (λ terminal. sort ≡ sort_of terminal)

@@ -7,7 +7,9 @@ use Rattle.duration_str.specs.declared.unit.TimeUnit.{TimeUnit}
 use Rattle.duration_str.specs.Text.{Bytes, Characters}
 use Rattle.duration_str.specs.Format.{chosen}
 use Rattle.duration_str.specs.Humantime.{humantime_row_of}
-use Rattle.duration_str.specs.Units.{nanos_of, row_of, Table, units}
+use Rattle.duration_str.specs.Units.{nanos_of, row_of, UnitRow, units}
+use Rattle.duration_str.specs.Rules.{Rules}
+use Rattle.duration_str.specs.declared.settings.Settings.{Settings}
 use Rattle.duration_str.specs.declared.table.UnitTable.{UnitTable}
 use Rattle.duration_str.specs.declared.table.UnitTable.TheVariants.{Own, Humantime}
 use Rattle.duration_str.specs.Options.{off}
@@ -28,14 +30,22 @@ printed_row u = record {
 abbrev pub units_of : ℕ → List TimeUnit
 units_of bits = chosen (record { bits = bits }) units
 
+-- a table of units
+abbrev pub Table : Type 0
+Table = TimeUnit → UnitRow
+
 -- the table that the code names so
-abbrev pub rows_of : UnitTable → Table
-rows_of Own = row_of
-rows_of Humantime = humantime_row_of
+abbrev pub table_of : UnitTable → Table
+table_of Own = row_of
+table_of Humantime = humantime_row_of
+
+-- the rules that the reader's settings mean
+abbrev pub meaning_of : Settings → Rules
+meaning_of s = record { table = table_of s.table; default_unit = s.default_unit; options = s.options }
 
 -- all names of a unit in a table
 abbrev pub all_names_in : Table → TimeUnit → List Characters
-all_names_in rows u = (rows u).names ++ (rows u).chinese
+all_names_in table u = (table u).names ++ (table u).chinese
 
 -- all names of a unit
 abbrev pub all_names : TimeUnit → List Characters
@@ -47,7 +57,7 @@ packs_to n name = packed_number (record off { lowercase = true }) name == n
 
 -- the unit with a name in this table whose packed number is n
 unfoldable pub unit_of_packed : Table → ℕ → Option TimeUnit
-unit_of_packed rows n = find (λ u. list_any (packs_to n) (all_names_in rows u)) units
+unit_of_packed table n = find (λ u. list_any (packs_to n) (all_names_in table u)) units
 
 -- the bytes without the spaces at their end
 abbrev pub trimmed : Bytes → Bytes

@@ -1,10 +1,10 @@
 use Rattle.duration_str.proofs.Sentences.AnswerLemmas.{parses_text, same_on_err}
-use Rattle.duration_str.proofs.Common.{Second, Some}
+use Rattle.duration_str.proofs.Common.{rules_of}
 use Rattle.duration_str.specs.OtherResults.{ReachesPlace}
 use Rattle.duration_str.proofs.parser.parse_looked.Goals as goal
 
 pub returns-clause-parsed : goal.returns-clause-parsed
-returns-clause-parsed c = parses_text (Some Second) c.args.o c.args.input.now _ _ c.map.ensures.cases c.read_text-looks.ensures.reads
+returns-clause-parsed c = parses_text (rules_of c.args.o) c.args.input.now _ _ c.map.ensures.cases (rw c.of.ensures at c.read_text-looks.ensures.reads)
 
 pub returns-clause-reaches : goal.returns-clause-reaches
 returns-clause-reaches c =

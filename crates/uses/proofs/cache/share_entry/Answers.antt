@@ -1,15 +1,15 @@
+use Rattle.duration_str.specs.Rules.{rules_of}
 use Rattle.duration_str.proofs.Common.{as_nanos, FitsDuration, off}
-use Rattle.std.proofs.Common.{arith, Some, sym, ◌∙◌, ◌≡◌}
+use Rattle.std.proofs.Common.{arith, sym, ◌∙◌, ◌≡◌}
 use Rattle.uses.proofs.CacheLemmas.{equal_by_chars, key_is_printed}
 use Rattle.duration_str.specs.declared.format.Style.TheVariants.{Compact}
 use Rattle.uses.proofs.cache.share_entry.Goals as goal
-use Rattle.duration_str.specs.declared.unit.TimeUnit.TheVariants.{Second}
 
 pub returns-clause-same : goal.returns-clause-same
 returns-clause-same c m n read other_read =
     let law = c.one_sentence.ensures.reading in
-    let m_is : m ≡ as_nanos c.in_ok-length.length = law.one_value (Some Second) off _ _ _ read c.in_ok-length.ensures.read in
-    let n_is : n ≡ as_nanos c.in_ok-other_length.other_length = law.one_value (Some Second) off _ _ _ other_read
+    let m_is : m ≡ as_nanos c.in_ok-length.length = law.one_value (rules_of off) _ _ _ read c.in_ok-length.ensures.read in
+    let n_is : n ≡ as_nanos c.in_ok-other_length.other_length = law.one_value (rules_of off) _ _ _ other_read
     c.in_ok-other_length.ensures.read in
     let fits : FitsDuration (as_nanos c.in_ok-length.length) = omega (arith, c.in_ok-length.ensures.fits) in
     let other_fits : FitsDuration (as_nanos c.in_ok-other_length.other_length) = omega

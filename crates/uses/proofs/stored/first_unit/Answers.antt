@@ -1,5 +1,5 @@
 use Rattle.std.proofs.Common.{ap, chars, sym, [], ◌∙◌, ◌∷◌}
-use Rattle.duration_str.proofs.Common.{terminal_of, what_of}
+use Rattle.duration_str.proofs.Common.{terminal_of, what_of, rules_of}
 use Rattle.uses.proofs.Common.{token_of}
 use Rattle.uses.proofs.StoredLemmas.{first_kept}
 use Rattle.uses.proofs.stored.first_unit.Goals as goal
@@ -22,6 +22,6 @@ returns c lexemes was =
     let rest = ap (λ ts. token_of c.in_ok-next.field-0 ∷ ts) next.first in
     let named = chars c.in_ok-next-2.field-0.text.now in
     let options = c.in_ok-next.ensures.steps.kept.options ∙ c.new-tokens.ensures.options in
-    c.unit_named.ensures _ (next.token.sort ∙ ap (λ o. what_of (terminal_of o named)) options)
+    c.unit_named.ensures _ (next.token.sort ∙ ap (λ o. what_of (terminal_of (rules_of o) named)) options)
     ∙ first_kept c.one_sentence.ensures.sentence c.older_texts.ensures c.args.o lexemes _ _ was
     (sym c.new-tokens.ensures.left ∙ c.in_ok-next.ensures.steps.first ∙ rest)

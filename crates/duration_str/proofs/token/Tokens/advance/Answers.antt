@@ -12,4 +12,4 @@ look-self-requires c =
     (looks_fit (s.eye.place + width head) _ (IsUtf8-had s.eye.text.now s.eye.utf8) s.eye.short counted)
 
 pub returns-in-Some-clause-sign : goal.returns-in-Some-clause-sign
-returns-in-Some-clause-sign c rows sort sign ahead = takes_sign rows sort sign ahead (search rules) (search rules)
+returns-in-Some-clause-sign c r sort sign ahead = takes_sign r sort sign ahead (search rules) (search rules)

@@ -1,17 +1,17 @@
-use Rattle.duration_str.proofs.Common.{number, refl, row_of}
+use Rattle.duration_str.proofs.Common.{number, options_of, refl, rules_of}
 use Rattle.duration_str.proofs.Cutting.StepLemmas.{other_what, sign_what}
 use Rattle.duration_str.proofs.token.Tokens.take_token.Goals as goal
 
 pub returns-in-Operator : goal.returns-in-Operator
 returns-in-Operator c =
-    let taken = c.advance.ensures.sign row_of _ tt (rw c.in-Operator.is at c.requires) in
+    let taken = c.advance.ensures.sign (rules_of (options_of c.args.self.now)) _ tt (rw c.in-Operator.is at c.requires) in
     record { terminal = taken.terminal; token = taken.token; has = sign_what taken.terminal _ taken.has }
 
 pub returns-in-Other : goal.returns-in-Other
 returns-in-Other c =
-    let taken = c.advance-in-Other.ensures.sign row_of _ tt (rw c.in-Other.is at c.requires) in
+    let taken = c.advance-in-Other.ensures.sign (rules_of (options_of c.args.self.now)) _ tt (rw c.in-Other.is at c.requires) in
     record { terminal = taken.terminal; token = taken.token; has = other_what taken.terminal taken.has }
 
 pub returns-in-Number : goal.returns-in-Number
 returns-in-Number c =
-    let taken = c.take_number.ensures in record { terminal = number taken.n; token = taken.token row_of; has = refl }
+    let taken = c.take_number.ensures in record { terminal = number taken.n; token = taken.token (rules_of (options_of c.args.self.now)); has = refl }

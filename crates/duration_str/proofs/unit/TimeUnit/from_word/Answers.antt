@@ -1,5 +1,5 @@
-use Rattle.duration_str.proofs.Common.{arith, chars, chars_past_char, IsUtf8-past_char, Own, refl, rules, ◌∙◌}
-use Rattle.duration_str.proofs.Characters.PackedLemmas.{no_long_name, numbered_letter, unnumbered}
+use Rattle.duration_str.proofs.Common.{arith, chars, chars_past_char, IsUtf8-past_char, refl, rules, ◌∙◌}
+use Rattle.duration_str.proofs.Characters.PackedLemmas.{no_long_name, numbered_letter, own_settings, unnumbered}
 use Rattle.duration_str.proofs.Cutting.PositionLemmas.{packs_more, packs_none, packs_other, packs_unit}
 use Rattle.duration_str.proofs.OnePass.PlaceLemmas.{byte_count}
 use Rattle.duration_str.proofs.Printer.OneLineLemmas.{chars_of_none}
@@ -7,7 +7,7 @@ use Rattle.duration_str.proofs.unit.TimeUnit.from_word.Goals as goal
 
 pub returns-then-word-gt-MOST_BYTES-clause-unit : goal.returns-then-word-gt-MOST_BYTES-clause-unit
 returns-then-word-gt-MOST_BYTES-clause-unit c =
-    no_long_name Own c.args.o (chars c.args.word.now)
+    no_long_name (own_settings c.args.o) (chars c.args.word.now)
     (omega (arith, c.if-word-gt-MOST_BYTES.true, byte_count c.args.word.now c.utf8.word))
 
 pub loop-c-init : goal.loop-c-init
