@@ -21,7 +21,7 @@
 //!   return or a line feed, such as a form feed
 //!
 //! As in humantime, a number without a unit is refused. Unlike humantime, this module reads `+`,
-//! `*`, `mon` and the quarter of 91 days. `docs/MIGRATING.md` in the repository lists all
+//! `*`, `mon` and the quarter of 91 days. `docs/MIGRATING.md` in the repository lists the
 //! differences.
 //!
 //! All items and traits of humantime 2.4 that are about durations are here, except the variants of
