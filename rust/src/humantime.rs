@@ -79,8 +79,8 @@ pub(crate) fn read(text: &str) -> Result<StdDuration, Fault<'_>> {
     }
 }
 
-/// Reads a text again, also with operators, or refuses it. Most texts are sums without operators, and
-/// were read before.
+/// Reads a text with operators, or refuses it. Most texts have no operators, and are read before
+/// this is called.
 #[cold]
 #[inline(never)]
 fn read_other(text: &str) -> Result<StdDuration, Fault<'_>> {
