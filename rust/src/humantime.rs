@@ -2,9 +2,9 @@
 //! crate, change one import: `use duration_str::humantime;`.
 //!
 //! A text that both humantime and this module read is the same duration in both. So a text that
-//! humantime printed and a program stored is read as it was meant. For this, a month has 30.44 days
-//! here, by whatever name, and a year has 365.25 days. In the rest of this crate a month has 30
-//! days and a year 365.
+//! humantime printed and a program stored is read as it was meant, up to 584 years. For this, a
+//! month has 30.44 days here, by whatever name, and a year has 365.25 days. In the rest of this
+//! crate a month has 30 days and a year 365.
 //!
 //! This module also reads the names of units that only humantime has: `M` is a month, and `secs`,
 //! `mins`, `hrs`, `millis` and `nanos` are units, and so are `yr`, `yrs`, `wk` and `wks` of
