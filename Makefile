@@ -283,7 +283,8 @@ uninstall: installable
 	    [ ! -e "$$library" ] ||
 	        echo "uninstall: left for programs that were linked with it: $$library"
 	done
-	# Below DESTDIR nothing says which folders were made, so all empty ones are removed.
+	# Below DESTDIR nothing says which folders were made. So each folder that had an installed file
+	# is removed if it is empty, and so are the folders around it.
 	if [ -n "$$DESTDIR" ]; then
 	    [ -d "$$DESTDIR" ] || exit 0
 	    cd "$$DESTDIR"

@@ -292,7 +292,8 @@ export function parse(text: string, options?: Options): number;
 export function parse(value: string | number | bigint, options: NumberOptions): number;
 
 /**
- * Returns what `parse` returns, or what is wrong with the text. It makes no error and no stack.
+ * Returns an object with the value that `parse` returns, or with what is wrong with the text. It
+ * makes no error and no stack.
  *
  * @throws TypeError, RangeError as `parse` does
  */
@@ -308,7 +309,7 @@ export function tryParse(value: string | number | bigint, options: NumberOptions
 export function parseNs(text: string, options?: Options): bigint;
 export function parseNs(value: string | number | bigint, options: NumberOptions): bigint;
 
-/** Returns what `parseNs` returns, or what is wrong with the text, as `tryParse` does. */
+/** Returns an object as `tryParse` does, with the value that `parseNs` returns. */
 export function tryParseNs(text: string, options?: Options): Result<bigint>;
 export function tryParseNs(
     value: string | number | bigint, options: NumberOptions,

@@ -9,7 +9,8 @@
   other programs and speed, have one sentence that leads there, and no other about proofs.
 - The helps in docs/GRAMMAR.md are those of lines in the vectors. In tables of README.md, GRAMMAR.md
   and MIGRATING.md each text is answered as the reference parser answers it, and each duration
-  printed as it prints it.
+  printed as it prints it. (Nothing in MIGRATING's table of humantime is checked, since the
+  reference parser has other units.)
 - The contracts that CALLING.md quotes are those of the sources, and the oldest versions of Rust,
   Python and Node are those that the packages name.
 - docs/MIGRATING.md has no code in its prose, since people paste code, and tests/documents only runs

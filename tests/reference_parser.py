@@ -409,7 +409,7 @@ def value_of(terms):
 
 
 def evaluation_fault(terms):
-    """The first fault of the later terms, in order, or, if there is none, that of the value."""
+    """The first fault of the later terms, in order, or if they have none, that of the last step."""
     later = terms[1:]
     for count, term in enumerate(later, 1):
         if term.operator != later[0].operator:

@@ -11,8 +11,8 @@
 // - texts.json has texts in this notation with their values, and similar texts that mean something
 //   else.
 //
-// If people type a notation that is left out, it has a row in REFUSED, with a sentence that says
-// why.
+// If people type a notation that is left out, it should have a row in REFUSED, with a sentence that
+// says why.
 import { tryParseNs } from "../js/dist/duration-str.js";
 import { defaultUnitOf, terms, UNITS, unitOf } from "./units.js";
 import { say } from "./sentences.js";

@@ -1,4 +1,4 @@
-"""The file vectors.json, by which the tests of all packages check how texts are read and refused,
+"""The file vectors.json, by which tests of several packages check how texts are read and refused,
 and how durations are printed.
 """
 

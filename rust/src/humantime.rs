@@ -2,9 +2,9 @@
 //! crate, change one import: `use duration_str::humantime;`.
 //!
 //! A text that both humantime and this module read is the same duration in both. So a text that
-//! humantime printed and a program stored is read as it was meant. For this, a month has 30.44 days
-//! here, by whatever name, and a year has 365.25 days. In the rest of this crate a month has 30
-//! days and a year 365.
+//! humantime printed and a program stored is read as it was meant, up to 584 years. For this, a
+//! month has 30.44 days here, by whatever name, and a year has 365.25 days. In the rest of this
+//! crate a month has 30 days and a year 365.
 //!
 //! This module also reads the names of units that only humantime has: `M` is a month, and `secs`,
 //! `mins`, `hrs`, `millis` and `nanos` are units, and so are `yr`, `yrs`, `wk` and `wks` of
@@ -21,7 +21,7 @@
 //!   return or a line feed, such as a form feed
 //!
 //! As in humantime, a number without a unit is refused. Unlike humantime, this module reads `+`,
-//! `*`, `mon` and the quarter of 91 days. `docs/MIGRATING.md` in the repository lists all
+//! `*`, `mon` and the quarter of 91 days. `docs/MIGRATING.md` in the repository lists the
 //! differences.
 //!
 //! All items and traits of humantime 2.4 that are about durations are here, except the variants of
@@ -79,8 +79,8 @@ pub(crate) fn read(text: &str) -> Result<StdDuration, Fault<'_>> {
     }
 }
 
-/// Reads a text again, also with operators, or refuses it. Most texts are sums without operators, and
-/// were read before.
+/// Reads a text with operators, or refuses it. Most texts have no operators, and are read before
+/// this is called.
 #[cold]
 #[inline(never)]
 fn read_other(text: &str) -> Result<StdDuration, Fault<'_>> {

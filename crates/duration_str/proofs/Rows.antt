@@ -405,7 +405,7 @@ ranges largest = each_unit (IsRange largest) (each_range largest)
 
 -- ---- Faults in one line
 
--- a word of 41 letters, each of four bytes
+-- 41 characters of four bytes, which are letters in a line
 abbrev long_word : List ℕ
 long_word = replicate 41 0x1F600
 

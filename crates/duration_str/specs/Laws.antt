@@ -210,8 +210,8 @@ abbrev pub EqualTexts : Type 0
 EqualTexts = (style : Style) (m n : ℕ) (a b : Characters) → FitsDuration m → FitsDuration n
     → IsPrintedIn style m a → IsPrintedIn style n b → (a ≡ b ↔ m ≡ n)
 
--- By the library's own table, a duration below 2^64 ns, printed in any style, is read back as itself. The text of any other duration is refused as
--- an overflow, from 585 years on in its first term.
+-- By the library's own table, a duration below 2^64 ns, printed in any style, is read back as itself. The text of any
+-- other duration is refused as an overflow, from 585 years on in its first term.
 pub record ReadsBack : Type 0 where
   pub below : (default_unit : Option TimeUnit) (o : Options) (style : Style) (nanos : ℕ) (text : Characters)
       → nanos < 2 ^ 64

@@ -23,8 +23,8 @@ without_last_number [] = []
 without_last_number (number n ∷ []) = []
 without_last_number (terminal ∷ terminals) = terminal ∷ without_last_number terminals
 
--- the terminals of the complete terms of the front. A number at the end of the front is a complete term only if there
--- is a default unit and the front is the whole text
+-- the terminals of the complete terms of the front. A number at the end of the front has no unit, so it is a complete
+-- term only if there is a default unit and the front is the whole text
 abbrev pub complete_terminals : Rules → List Terminal → List Terminal → List Terminal
 complete_terminals r front [] = if is_some r.default_unit then front else without_last_number front
 complete_terminals r front (terminal ∷ rest) = without_last_number front
@@ -38,7 +38,7 @@ abbrev pub place_after : List Term → Option ℕ
 place_after [] = Some 0
 place_after (t ∷ before) = None
 
--- the fault of the first of these terms
+-- the fault of the first of these terms, with the place 0
 abbrev pub first_fault : List Term → Option Cause
 first_fault [] = None
 first_fault (t ∷ terms) = term_fault (place_after []) t
@@ -71,8 +71,8 @@ pub data IsRefusedAt (r : Rules) (place : ℕ) (front rest : List Terminal) (cau
   late : early_fault r front rest ≡ None → IsSentence r (front ++ rest) → late_fault r (front ++ rest) ≡ Some cause
       → IsRefusedAt r place front rest cause
 
--- The text is refused for this cause. The empty text is refused as `Empty`, and any other text by its front and the rest
--- after it.
+-- The text is refused for this cause. The empty text is refused as `Empty`, and any other text by its front and the
+-- rest after it.
 abbrev pub IsRefused : Rules → Characters → Cause → Type 0
 IsRefused r [] cause = cause ≡ Empty
 IsRefused r (c ∷ text) cause =

@@ -187,8 +187,8 @@ pub fn parse_nanos_specialized(
 /// Reads a text by the names and the lengths of the units of the crate humantime, and returns the duration in
 /// nanoseconds.
 ///
-/// A month has 30.44 days and a year 365.25. Each number needs a unit. The library's own names are read too, and `+` and
-/// `*`. For humantime's texts turn on `lowercase`, so that `1M` is a month and `1m` a minute. As with
+/// A month has 30.44 days and a year 365.25. Each number needs a unit. The library's own names are read too, and `+`
+/// and `*`. For humantime's texts turn on `lowercase`, so that `1M` is a month and `1m` a minute. As with
 /// `parse_nanos_specialized`, the whole reader is compiled into each place in the source that calls this.
 ///
 /// # Errors

@@ -19,8 +19,9 @@ fn owns<A: Allocator>(error: &DError<A>, line: &str) -> bool {
     }
 }
 
-/// How many requests for memory it takes to make the fault's error if this request is refused.
-/// `None` if the error has another line, or if the call goes on after the refusal.
+/// Makes the fault's error, while the request for memory with the number `refused` is refused.
+/// Returns how many requests were made, or `None` if the error has another line, or if the call
+/// goes on after the refusal.
 fn requests(
     alloc: Global,
     fault: Fault<'_>,

@@ -10,9 +10,10 @@ use duration_str::{CondUnit, Options};
 
 /// Returns whether a text certainly keeps its value when a program changes its options from `before` to `after`. If so,
 /// both choices read it as the same value, or both refuse it; and if `no_calc` does not change, they refuse it for the
-/// same cause. This holds with each default unit, and if units are required. The call looks only at the characters. It returns true if the text has none of the characters that the
-/// changed options are about: operators for `no_calc`, ASCII capitals for `lowercase`, and the Chinese characters of
-/// the units for `cn_unit`. If it returns false, the text may keep its value or not.
+/// same cause. This holds with each default unit, and if units are required. The call looks only at the characters. It
+/// returns true if the text has none of the characters that the changed options are about: operators for `no_calc`,
+/// ASCII capitals for `lowercase`, and the Chinese characters of the units for `cn_unit`. If it returns false, the text
+/// may keep its value or not.
 ///
 /// ```text
 /// let off = Options::off();

@@ -14,8 +14,9 @@ Errors = Literal["raise", "coerce"]
 
 
 def keeps_types(values: Any) -> bool:
-    """Whether the values of a column must keep NumPy's types. As values of Python, dates and
-    lengths of time can be ints, and floats of 32 bits are floats. These would be read as numbers.
+    """Whether the values of a column must keep NumPy's types. Converted to Python's types, dates
+    and lengths of time can become ints, and floats of 32 bits become floats of 64 bits. Both would
+    be read as numbers.
     """
     dtype = getattr(values, "dtype", None)
     # A column of categories has the values of these categories.

@@ -762,8 +762,8 @@ struct list {
     PyObject *function; /* for timedelta64: called for values that have no text; otherwise NULL */
 };
 
-/* How many values the list still has room and items for, since a function that is called may change
- * the list. */
+/* How many values are read: at most as many as there is room for. A function that is called may
+ * have made the list shorter. */
 static Py_ssize_t length_of(const struct list *list) {
     const Py_ssize_t length = PyList_Size(list->values);
     return length < list->room ? length : list->room;

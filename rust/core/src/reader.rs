@@ -7,8 +7,8 @@ use crate::settings::Settings;
 use crate::token::{TokenStart, Tokens};
 use crate::unit::TimeUnit;
 
-/// The later terms, which are all but the first: the operator between them and their total, or `None` if there are no
-/// later terms, or their first fault.
+/// What is known of the later terms, which are all terms except the first: the operator between them and their total.
+/// It is `None` if there are no later terms, and their first fault if they have one.
 type Later = Result<Option<(CondUnit, u64)>, Cause>;
 
 /// Reads the tokens. Returns their value in nanoseconds, or the cause of their refusal.

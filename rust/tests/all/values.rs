@@ -43,7 +43,7 @@ fn check(group: &Group, options: Options, is_read: bool) {
 
 /// Checks a text in which a number without a unit counts seconds. The calls that take no default
 /// unit must return what the call with a default unit returns for the second. The calls that take
-/// no options must return what that call returns under the features' options.
+/// no options must return what `parse_with` returns under the features' options.
 fn check_seconds(text: &str, options: Options) {
     let wanted = parse_with_default_unit(text, options, Some(TimeUnit::Second));
     assert_eq!(parse_with(text, options), wanted, "{text:?}");
