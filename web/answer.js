@@ -6,7 +6,6 @@ import {
     changedOptions, choose, chosenFormat, chosenOptions, switches,
 } from "./choices.js";
 import { LANGUAGES } from "./code.js";
-import { elsewhere } from "./elsewhere.js";
 import { button, element, make, MOST_LINES, parts, text, write } from "./elements.js";
 import { AROUND, lineOf } from "./sentences.js";
 import { LONG } from "./units.js";
@@ -130,14 +129,6 @@ function showValue(line) {
     showOffers(offers);
 }
 
-/** Shows what the text means to other programs that differ from the library. For a long text it
- * shows nothing. */
-function showElsewhere({ words, ok, value }) {
-    const rows = words.length <= LONG ? elsewhere(words, ok ? value : null) : [];
-    element("elsewhere").hidden = rows.length === 0;
-    fill(element("elsewhere"), rows);
-}
-
 function showCode(isShown) {
     element("no-code").hidden = isShown;
     for (const id of ["how", "codes"]) element(id).hidden = !isShown;
@@ -218,9 +209,7 @@ export function showAnswer() {
     for (const id of ["sentence", "line"]) element(id).replaceChildren();
     if (!isOne || isRead) text.removeAttribute("aria-describedby");
     else text.setAttribute("aria-describedby", "sentence");
-    element("elsewhere").hidden = true;
     if (!isOne) return showLines(lines);
-    showElsewhere(line);
     if (isRead) {
         showValue(line);
         const notes = Array.from(element("notes").children, (note) => note.textContent);

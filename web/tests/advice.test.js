@@ -7,7 +7,6 @@ import test from "node:test";
 
 import { formatNs, parseNs, tryParseNs } from "../../js/dist/duration-str.js";
 import { markedParts, notesOn, offersFor, sentence } from "../advice.js";
-import { elsewhere } from "../elsewhere.js";
 import { lineOf, shorten } from "../sentences.js";
 import { counts, decimal, groupDigits, iso, seconds, termRows } from "../values.js";
 
@@ -98,13 +97,6 @@ test("marks the fault, and has a sentence or the library's line", () => {
         const said = sentence(text, fault.code, options);
         if (words) assert.equal(wordsOf(said ?? lineOf(fault)), words, text);
         else assert.ok(!said, `${text}: ${JSON.stringify(said)}`);
-    }
-});
-
-test("says what other programs read", () => {
-    for (const [text, rows] of TEXTS.elsewhere) {
-        const { value = null } = tryParseNs(text);
-        assert.deepEqual(elsewhere(text, value).flat(), rows, text);
     }
 });
 

@@ -3,13 +3,13 @@ web/check calls it.
 
 texts.json has texts and what the page shows for them, worked out by hand from docs/GRAMMAR.md:
 "values", printed and in nanoseconds, milliseconds, seconds and ISO 8601; the rows of their "terms";
-"notes" on them; the mark and the sentence of "faults", if that is not the library's line; what
-texts mean "elsewhere"; the answers to "lines"; and what is offered if an option is "switched".
-"meant" has the values in seconds that people mean by texts. There are several if people use a text
-with several meanings, and null if nothing may be offered. advice.test.js tries all of this except
-the "lines" without a browser. "typed" texts are typed character by character. "hostile" texts must
-be shown and do nothing else, and "hostile links" must choose nothing. Of the rows that
-advice.test.js tries, one of each kind is tried here. page.js runs in the page.
+"notes" on them; the mark and the sentence of "faults", if that is not the library's line; the
+answers to "lines"; and what is offered if an option is "switched". "meant" has the values in
+seconds that people mean by texts. There are several if people use a text with several meanings, and
+null if nothing may be offered. advice.test.js tries all of this except the "lines" without a
+browser. "typed" texts are typed character by character. "hostile" texts must be shown and do
+nothing else, and "hostile links" must choose nothing. Of the rows that advice.test.js tries, one of
+each kind is tried here. page.js runs in the page.
 """
 import ast
 import base64
@@ -253,19 +253,6 @@ def try_faults(page):
     page.same("a mark of no width", 1, len(page.words("mark.thin")))
     page.put("1h -x" + "😀" * 1_500)
     page.same("a part of a long text", ["1h -x" + "😀" * 20], page.words("#excerpt"))
-
-
-def try_elsewhere(page):
-    """Other programs are named if they read a text in another way."""
-    page.open()
-    for text, rows in one_of_each(TEXTS["elsewhere"], lambda row: bool(row[1])):
-        page.put(text)
-        got = page.words("#elsewhere th, #elsewhere td")
-        page.same(
-            f"{text} elsewhere", [rows, bool(rows)], [got, page.find("elsewhere").is_displayed()]
-        )
-    page.put("1.5h\n1y")
-    page.same("nothing elsewhere of several lines", False, page.find("elsewhere").is_displayed())
 
 
 def try_lines(page):
