@@ -7,8 +7,6 @@ at once.
 
 import random
 import time
-from array import array
-from itertools import accumulate
 
 import dask.dataframe
 import duration_str
@@ -62,7 +60,6 @@ def main():
         pytimeparse.parse(text) * 10**9 for text in whole
     ]:
         raise SystemExit("columns: pytimeparse reads the texts otherwise")
-    data, offsets = "".join(texts).encode(), array("q", accumulate(map(len, texts), initial=0))
     # Each text is a str of its own.
     same = [f"{1}h {30}m" for _ in range(FEW)]
 
@@ -76,11 +73,10 @@ def main():
         ),
         ("`format_many` of a Series of timedelta64", duration_str.format_many, lengths[:FEW]),
         (
-            "`parse_buffers` of texts such as `3m 13s 29ms`",
-            lambda _: duration_str.parse_buffers(data, offsets),
-            texts,
+            "`to_timedelta` of a Series of texts such as `3m 13s 29ms`",
+            duration_str.to_timedelta,
+            series,
         ),
-        ("`to_timedelta` of a Series of such texts", duration_str.to_timedelta, series),
         ("`pandas.to_timedelta` of such a Series", pandas.to_timedelta, series[:FEW]),
         (
             "`to_timedelta` of such a Series by Dask, in four processes, elapsed time",

@@ -51,7 +51,7 @@ class Documentation(unittest.TestCase):
                 f"(text, /, *, {options}, default_unit='s')",
                 str(inspect.signature(getattr(duration_str, name))),
             )
-        for name in ["parse_many", "parse_buffers", "to_timedelta", "DurationField"]:
+        for name in ["parse_many", "to_timedelta", "DurationField"]:
             signature = inspect.signature(getattr(duration_str, name))
             told = [*map(str, signature.parameters.values())]
             self.assertEqual(told[-5], "no_calc: 'bool' = False")

@@ -1,19 +1,14 @@
-"""Tests calls with wrong types, with subclasses that say something else than they hold, with
-buffers of the wrong kind or order, and with values that change while they are read. Each call must
-give an error, or the answer for the values that are there.
+"""Tests calls with wrong types, with subclasses that say something else than they hold, and with
+values that change while they are read. Each call must give an error, or the answer for the values
+that are there.
 """
 
 import concurrent.futures
-import ctypes
 import datetime
 import gc
 import importlib
-import itertools
-import mmap
 import os
 import sys
-import tempfile
-import time
 import tracemalloc
 import unittest
 from array import array
@@ -26,7 +21,6 @@ from duration_str import (
     format,
     format_many,
     parse,
-    parse_buffers,
     parse_many,
     parse_ns,
 )
@@ -72,15 +66,6 @@ class Number(int):
 
     def __lt__(self, other):
         return False
-
-
-def parse_any(data, offsets):
-    """Reads a column with both choices of `errors`, and returns its values."""
-    try:
-        parse_buffers(data, offsets)
-    except (DurationError, RuntimeError):
-        pass
-    return parse_buffers(data, offsets, errors="coerce")[0]
 
 
 class Hostile(unittest.TestCase):
@@ -159,49 +144,6 @@ class Hostile(unittest.TestCase):
             ]:
                 self.assertRaises(error, call)
 
-    def test_leaves_the_buffers_of_a_kept_error(self):
-        data, offsets = bytearray(b"1x"), array("q", [0, 2])
-        try:
-            parse_buffers(data, offsets)
-        except DurationError as error:
-            kept = error
-        data.extend(b"2s")
-        offsets.append(4)
-        self.assertIsNotNone(kept.__traceback__)
-
-    def test_refuses_other_buffers(self):
-        wide = memoryview(bytes(24)).cast("q")
-        table, none = memoryview(bytes(16)).cast("q", [2, 1]), memoryview(bytes(8)).cast("q", [])
-        other = (
-            ctypes.c_int64.__ctype_be__
-            if sys.byteorder == "little"
-            else ctypes.c_int64.__ctype_le__
-        )
-        codes = [
-            array("d", [0, 2]),
-            array("H", [0, 2]),
-            b"\0\2",
-            *(memoryview(bytes(16)).cast(code) for code in "d?P"),
-        ]
-        codes.append((other * 2)(0, 2))
-        rows = [(TypeError, data, wide) for data in ("1s", None, 5)]
-        rows += [(TypeError, b"1s", offsets) for offsets in (table, none, *codes, [0, 2], None, 5)]
-        rows += [
-            (BufferError, memoryview(b"1s2s")[::2], wide),
-            (BufferError, b"1s", wide[::2]),
-            (BufferError, b"1s", wide[::-1]),
-        ]
-        for error, data, offsets in rows:
-            with self.subTest(data=data, offsets=offsets), self.assertRaises(error):
-                parse_buffers(data, offsets)
-        self.assertEqual(
-            parse_buffers(
-                b"1s", memoryview(b"\0" + bytes(array("q", [0, 2])))[1:].cast("q")
-            ).tolist(),
-            [SECOND],
-        )
-        self.assertEqual(parse_buffers(b"1s", memoryview(array("q", [0]))[1:]), array("Q"))
-
     def test_prints_what_changes_while_it_is_printed(self):
         values = []
 
@@ -243,29 +185,6 @@ class Hostile(unittest.TestCase):
                     [Odd()], array("Q", [0]), (0, False), True, 0, lambda value, index: kept
                 )
 
-    def test_reads_what_threads_overwrite(self):
-        """Reads for two seconds, while threads write to the bytes without the interpreter's
-        lock."""
-        texts = 20_000
-        offsets = array("q", range(0, 4 * texts + 1, 4))
-        # The second column has a character of four bytes, and the third bytes that are not UTF-8,
-        # where the first has a number and its unit.
-        columns = [encoded * texts for encoded in ["1µs".encode(), "😀".encode(), b"1\xc2 1"]]
-        with tempfile.TemporaryFile() as written, tempfile.TemporaryFile() as source:
-            for file, data in [(written, columns[0]), (source, b"".join(columns))]:
-                file.write(data)
-                file.flush()
-            under = bytearray(columns[0])
-
-            def write():
-                for place, data in enumerate(columns):
-                    os.preadv(source.fileno(), [under], place * len(data))
-                    os.pwrite(written.fileno(), data, 0)
-
-            with mmap.mmap(written.fileno(), len(under), access=mmap.ACCESS_READ) as mapped:
-                views = [under, memoryview(under).toreadonly(), mapped]
-                self.read_while(write, lambda place: parse_any(views[place % 3], offsets))
-
     @unittest.skipUnless(
         sys.version_info >= (3, 12), "interpreters share a lock before CPython 3.12"
     )
@@ -294,29 +213,8 @@ class Hostile(unittest.TestCase):
         with concurrent.futures.ThreadPoolExecutor(4) as pool:
             self.assertEqual(list(pool.map(serve, range(8))), [None] * 8)
 
-    def read_while(self, write, read):
-        """Reads for two seconds, while two threads write."""
-        end = time.monotonic() + 2
-
-        def write_on():
-            while time.monotonic() < end:
-                write()
-
-        with concurrent.futures.ThreadPoolExecutor(2) as pool:
-            writers = [pool.submit(write_on), pool.submit(write_on)]
-            for place in itertools.count():
-                self.assertLessEqual({*read(place)}, {0, 1000})
-                if time.monotonic() > end:
-                    break
-        for writer in writers:
-            writer.result()
-
     @unittest.skipIf(os.environ.get("DURATION_STR_SLOW") == "no", "it is slow")
     def test_keeps_no_memory(self):
-        # The last of 2,000 texts needs more room for its copy.
-        column = bytearray(b"1s" * 2_000 + b" " * 70_000)
-        offsets = array("i", [*range(0, 4_000, 2), 74_000])
-
         def all_calls(rounds):
             for _ in range(rounds):
                 parse_ns("1m 3s")
@@ -335,7 +233,6 @@ class Hostile(unittest.TestCase):
                 parse_many(["1s", "x", None, "\ud800"] * 200, errors="coerce")
                 mixed = ["1s", 1_500, 1.5, 2e3, None, True, 10**5_000, -1_000]
                 parse_many(mixed * 20, errors="coerce", default_unit="ms")
-                parse_buffers(column, offsets)
                 missing = [b"x" * 10_000, b"y" * 10_000]
                 duration_str._native.read_list(
                     missing, array("Q", [0, 0]), (0, False), True, 0, lambda *_: -(2**63)
@@ -345,7 +242,6 @@ class Hostile(unittest.TestCase):
                 for call in (
                     lambda: parse_many(["1s", "x"]),
                     lambda: format_many(numbers),
-                    lambda: parse_buffers(b"1s2x", array("i", [0, 2, 4])),
                 ):
                     try:
                         call()

@@ -14,7 +14,6 @@ import subprocess
 import sys
 import typing
 import unittest
-from array import array
 
 import duration_str
 import duration_str.argparse
@@ -23,7 +22,6 @@ from duration_str import (
     DurationTypeError,
     Unit,
     parse,
-    parse_buffers,
     parse_many,
     parse_ns,
     parse_seconds,
@@ -79,7 +77,6 @@ for _errors in ("raise", "coerce"):
     CALLS += [
         functools.partial(parse_many, ["1s"], errors=_errors),
         functools.partial(to_timedelta, None, errors=_errors),
-        functools.partial(parse_buffers, b"", array("q"), errors=_errors),
     ]
 
 

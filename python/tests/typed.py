@@ -45,10 +45,10 @@ style: duration_str.Style = "long"
 assert_type(duration_str.format(5, largest=unit, style=style), str)
 assert_type(duration_str.format(5, units=["years", "d"]), str)
 assert_type(duration_str.parse("1500", default_unit="ms"), datetime.timedelta)
-assert_type(duration_str.parse_many(["1500"], default_unit="ms"), "array[int]")
+assert_type(duration_str.parse_many(["1500"], default_unit="ms"), array[int])
 assert_type(duration_str.parse(1500, default_unit="ms"), datetime.timedelta)
 assert_type(duration_str.parse_ns(numpy.int64(1500), default_unit="s"), int)
-assert_type(duration_str.parse_many([1500, "2h"], default_unit="ms"), "array[int]")
+assert_type(duration_str.parse_many([1500, "2h"], default_unit="ms"), array[int])
 assert_type(duration_str.pattern(no_calc=True, default_unit="ms"), str)
 duration_str.pattern(default_unit="mins")  # type: ignore[arg-type]
 duration_str.parse("1500", default_unit="mins")  # type: ignore[call-overload]
@@ -66,9 +66,8 @@ duration_str.format(1.5)  # type: ignore[arg-type]
 duration_str.format(None)  # type: ignore[arg-type]
 duration_str.format(numpy.float64(5))  # type: ignore[arg-type]
 duration_str.format(numpy.datetime64(5, "s"))  # type: ignore[arg-type]
-assert_type(duration_str.parse_many(["1m"]), "array[int]")
-assert_type(duration_str.parse_many(["1m", None], errors="coerce"), "tuple[array[int], array[int]]")
-assert_type(duration_str.parse_buffers(b"1m", array("q", [0, 2])), "array[int]")
+assert_type(duration_str.parse_many(["1m"]), array[int])
+assert_type(duration_str.parse_many(["1m", None], errors="coerce"), tuple[array[int], array[int]])
 duration_str.parse_many(["1m"], errors="ignore")  # type: ignore[call-overload]
 assert_type(duration_str.to_timedelta(["1m"]), "NDArray[numpy.timedelta64]")
 duration_str.to_timedelta(["1m"], errors="ignore")  # type: ignore[call-overload]

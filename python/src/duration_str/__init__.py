@@ -63,10 +63,9 @@ Python's own `format`. `Unit` and `Style` are types of options, and
 
 For a column:
 
-  parse_many     reads texts into an array of nanoseconds
-  parse_buffers  reads texts that are in buffers
-  to_timedelta   reads texts for NumPy or pandas
-  format_many    prints durations
+  parse_many    reads texts into an array of nanoseconds
+  to_timedelta  reads texts for NumPy or pandas
+  format_many   prints durations
 
 For a validator that takes a regular expression, `pattern` returns one.
 
@@ -85,7 +84,7 @@ a value, call `parse`.
 from __future__ import annotations
 
 from ._arrays import format_many, to_timedelta
-from ._columns import parse_buffers, parse_many
+from ._columns import parse_many
 from ._models import Duration, DurationField, DurationRequireUnit
 from ._native import format as format
 from ._native import breakdown, parse, parse_ns, parse_seconds
@@ -120,7 +119,6 @@ __all__ += [
     "breakdown",
     "format_many",
     "parse",
-    "parse_buffers",
     "parse_many",
     "parse_ns",
     "parse_seconds",

@@ -338,7 +338,7 @@ static int read_call(struct state *state, const char *call, PyObject *const *arg
 }
 
 /* reading(*, no_calc, lowercase, cn_unit, require_unit, default_unit): returns how values are read,
- * in the form that read_list and read_buffers take */
+ * in the form that read_list takes */
 static PyObject *reading(
     PyObject *self, PyObject *const *arguments, Py_ssize_t count, PyObject *keywords) {
     struct reading reading;
@@ -901,138 +901,6 @@ static PyObject *read_list(PyObject *self, PyObject *arguments) {
     return refused;
 }
 
-/* Copies one offset more than there are texts. A negative offset becomes a very large one, which
- * lies beyond all bytes. Returns whether the offsets are signed, or -1 with an error if the buffer
- * holds something else. */
-static int copy_offsets(PyObject *given, size_t *offsets, Py_ssize_t texts) {
-    Py_buffer row;
-    if (PyObject_GetBuffer(given, &row, PyBUF_ND | PyBUF_FORMAT))
-        return -1;
-    const char *format = row.format ? row.format : "B";
-    const char *letter = format + (*format && strchr(PY_BIG_ENDIAN ? "@=>" : "@=<", *format));
-    int are_signed = *letter && strchr("ilqnILQN", *letter) && !letter[1] ? *letter >= 'a' : -1;
-    if (row.ndim != 1 || (row.itemsize != 4 && row.itemsize != 8))
-        are_signed = -1;
-    if (are_signed < 0)
-        PyErr_Format(
-            PyExc_TypeError, "offsets must be a row of integers of 4 or 8 bytes, not '%s'", format);
-    for (Py_ssize_t at = 0; are_signed >= 0 && at <= texts && at < row.len / row.itemsize; at++) {
-        uint32_t narrow = 0;
-        uint64_t wide = 0;
-        memcpy(row.itemsize == 4 ? (void *)&narrow : (void *)&wide,
-            (char *)row.buf + at * row.itemsize, (size_t)row.itemsize);
-        if (row.itemsize == 4)
-            wide = are_signed ? (uint64_t)(int64_t)(int32_t)narrow : narrow;
-        offsets[at] = wide > SIZE_MAX ? SIZE_MAX : (size_t)wide;
-    }
-    PyBuffer_Release(&row);
-    return are_signed;
-}
-
-/* Whether the text between two offsets lies within this many bytes. */
-static bool is_within(const size_t *offsets, Py_ssize_t length) {
-    return offsets[0] <= offsets[1] && offsets[1] <= (size_t)length;
-}
-
-static void raise_between(struct state *state, const Py_buffer *data, const size_t *offsets,
-    int are_signed, uint32_t options, Py_ssize_t index) {
-    const size_t start = offsets[0], end = offsets[1];
-    if (!is_within(offsets, data->len)) {
-        const char *format =
-            are_signed ? "at index %zd: the offsets %zd and %zd decrease or lie beyond %zd bytes"
-                       : "at index %zd: the offsets %zu and %zu decrease or lie beyond %zd bytes";
-        PyErr_Format(PyExc_ValueError, format, index, start, end, data->len);
-        return;
-    }
-    PyObject *copy =
-        PyBytes_FromStringAndSize((const char *)data->buf + start, (Py_ssize_t)(end - start));
-    if (!copy)
-        return;
-    struct duration_str_answer answer;
-    const struct text text = {PyBytes_AsString(copy), end - start};
-    PyObject *report = report_of(text, options, &answer);
-    if (answer.cause == DURATION_STR_CAUSE_READ) {
-        PyErr_Format(PyExc_RuntimeError, "at index %zd: the text changed while it was read", index);
-    } else {
-        PyObject *given =
-            PyUnicode_DecodeUTF8(text.bytes, (Py_ssize_t)text.length, "surrogateescape");
-        raise_error(state, report, given, &answer, text.bytes, index);
-    }
-    Py_DECREF(copy);
-}
-
-/* Reads the texts between the offsets, and marks the texts that are read. An object whose type is
- * exactly `bytes` can't change, and is read in place while other threads run. Other buffers are
- * read from copies, so a thread that writes to them meanwhile, even without the interpreter's lock,
- * changes nothing that is being read. Returns -1 with an error if there is no memory. */
-static int read_column(const Py_buffer *data, const size_t *offsets, size_t texts, uint32_t options,
-    uint64_t *nanos, char *are_read) {
-    struct duration_str_answer answer;
-    PyThreadState *thread = PyBytes_CheckExact(data->obj) ? PyEval_SaveThread() : NULL;
-    size_t room = 256;
-    char *copy = thread ? NULL : PyMem_Malloc(room);
-    for (size_t at = 0; (thread || copy) && at < texts; at++) {
-        if (!is_within(offsets + at, data->len))
-            continue;
-        const char *text = (const char *)data->buf + offsets[at];
-        const size_t length = offsets[at + 1] - offsets[at];
-        if (!thread && length > room) {
-            PyMem_Free(copy);
-            copy = PyMem_Malloc(room = length);
-        }
-        if (!thread)
-            text = copy && length ? memcpy(copy, text, length) : copy;
-        if (text)
-            are_read[at] = options ? duration_str_parse_with(text, length, options, &answer)
-                                   : duration_str_parse(text, length, nanos + at);
-        if (are_read[at] && options)
-            nanos[at] = answer.nanos;
-    }
-    PyMem_Free(copy);
-    if (thread)
-        PyEval_RestoreThread(thread);
-    if (thread || copy)
-        return 0;
-    PyErr_NoMemory();
-    return -1;
-}
-
-/* read_buffers(data, offsets, nanos, reading, raises): does what read_list does, for the texts
- * between the offsets into the data */
-static PyObject *read_buffers(PyObject *self, PyObject *arguments) {
-    PyObject *given, *refused = NULL;
-    Py_buffer data, nanos;
-    unsigned int options;
-    int takes_numbers, raises;
-    if (!PyArg_ParseTuple(
-            arguments, "y*Ow*(Ip)p", &data, &given, &nanos, &options, &takes_numbers, &raises))
-        return NULL;
-    const size_t texts = (size_t)nanos.len / 8;
-    size_t *offsets = PyMem_Calloc(texts + 1, sizeof *offsets);
-    char *are_read = PyMem_Calloc(texts + 1, 1);
-    int are_signed = -1;
-    if (offsets && are_read)
-        are_signed = copy_offsets(given, offsets, (Py_ssize_t)texts);
-    else
-        PyErr_NoMemory();
-    if (are_signed >= 0 && !read_column(&data, offsets, texts, options, nanos.buf, are_read))
-        refused = PyList_New(0);
-    for (size_t at = 0; refused && at < texts; at++) {
-        if (are_read[at])
-            continue;
-        if (raises)
-            raise_between(
-                PyModule_GetState(self), &data, offsets + at, are_signed, options, (Py_ssize_t)at);
-        if (raises || add_position(refused, (Py_ssize_t)at))
-            Py_CLEAR(refused);
-    }
-    PyMem_Free(are_read);
-    PyMem_Free(offsets);
-    PyBuffer_Release(&data);
-    PyBuffer_Release(&nanos);
-    return refused;
-}
-
 #define OPTIONS_DOC                                                                                \
     "($module, text, /, *, no_calc=False, lowercase=False, cn_unit=False, "                        \
     "require_unit=False, default_unit='s')\n--\n\n"
@@ -1117,7 +985,6 @@ static PyMethodDef methods[] = {
     {"limits", FAST(limits), NULL},
     {"format_list", format_list, METH_VARARGS, NULL},
     {"read_list", read_list, METH_VARARGS, NULL},
-    {"read_buffers", read_buffers, METH_VARARGS, NULL},
     {NULL, NULL, 0, NULL},
 };
 

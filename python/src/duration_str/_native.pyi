@@ -123,6 +123,3 @@ def read_list(
     function: Callable[[Any, int], int] | None,
     /,
 ) -> list[int]: ...
-def read_buffers(
-    data: Any, offsets: memoryview, nanos: array[int], reading: tuple[int, bool], raises: bool, /
-) -> list[int]: ...
