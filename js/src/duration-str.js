@@ -1,13 +1,7 @@
 // Reads and prints durations as people write them. index.d.ts documents the exports.
-//
-// A page may have changed the prototypes of arrays and of objects. So loops go over arrays by
-// index, and don't use their methods. Tables of names and descriptions of properties have no
-// prototype, and a field is defined before it is assigned. All files of this folder do so.
+import { ANSWER, calls, fields, output, start, TEXT, write, WRITTEN } from "./memory.js";
 import {
-    ANSWER, calls, fields, output, placesFor, start, TEXT, write, WRITTEN,
-} from "./memory.js";
-import {
-    ALL_UNITS, bitsOf, COUNTED_UNITS, COUNTED_WHOLE, countOf, formatOf, indexIn, PARTS,
+    ALL_UNITS, bitsOf, COUNTED_UNITS, COUNTED_WHOLE, countOf, formatOf, PARTS,
     PRINTED_WHOLE, READS_NUMBERS, styleOf, typeOf, UNITS, unitsLeft,
 } from "./options.js";
 import { DurationError, faultOf, loneSurrogateAt } from "./refusals.js";
@@ -217,11 +211,9 @@ function isCounted(unit) {
 
 export function breakdown(value, options = {}) {
     breakDown(value, options, ALL_UNITS, "y");
-    let length = 0;
-    for (let unit = 0; unit < UNITS.length; unit++) length += isCounted(unit);
-    const counted = placesFor(length);
-    for (let unit = 0, place = 0; place < length; unit++) {
-        if (isCounted(unit)) counted[place++] = { count: countAt(unit), unit: UNITS[unit] };
+    const counted = [];
+    for (let unit = 0; unit < UNITS.length; unit++) {
+        if (isCounted(unit)) counted.push({ count: countAt(unit), unit: UNITS[unit] });
     }
     return { parts: counted, restNs: nanoseconds() };
 }
@@ -233,27 +225,18 @@ function exactly(count) {
     throw new RangeError(`no number holds ${count} exactly: choose a larger unit`);
 }
 
-/** The counts with one more count. Assigning is faster, but all objects may have a setter of this
- * name.
- */
-function withCount(counts, name, count) {
-    if (name in counts) return { ...counts, [name]: count };
-    counts[name] = count;
-    return counts;
-}
-
 export function parts(value, options = {}) {
     const left = breakDown(value, options, COUNTED_UNITS, "d");
-    let counts = {};
+    const counts = {};
     let isZero = true;
     for (let unit = 0; unit < UNITS.length; unit++) {
         if (!isCounted(unit)) continue;
-        counts = withCount(counts, PARTS[unit], exactly(countAt(unit)));
+        counts[PARTS[unit]] = exactly(countAt(unit));
         isZero = false;
     }
     if (!isZero) return counts;
     // There are no parts, so the result is 0 of the smallest unit, or 0 seconds if that unit is
     // shorter.
-    const zero = Math.min(31 - Math.clz32(left), indexIn(UNITS, "s"));
+    const zero = Math.min(31 - Math.clz32(left), UNITS.indexOf("s"));
     return { [PARTS[zero]]: 0 };
 }

@@ -78,17 +78,13 @@ export function decode(bytes) {
     return decoder.decode(bytes);
 }
 
-/** An array that has all its elements from the start. A page can give all arrays a setter for an
- * element, which is called if the array itself lacks the element. */
-export const placesFor = (length) => " ".repeat(length).split("");
-
 /** Arrays for the codes of short texts, one for each length. */
-const codesOf = { __proto__: null };
+const codesOf = [];
 
 /** The text of this length that a call has written. */
 export function output(length) {
     if (length > SHORT_WRITTEN) return decode(written.subarray(0, length));
-    const codes = codesOf[length] ??= placesFor(length);
+    const codes = codesOf[length] ??= new Array(length).fill(0);
     for (let place = 0; place < length; place++) {
         codes[place] = written[place];
         if (codes[place] > 0x7f) return decode(written.subarray(0, length));

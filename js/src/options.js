@@ -12,7 +12,7 @@ export const PARTS = [
 /** A set of units is a number with the bit `1 << unit` for each unit. These are the set of all
  * units, and the set of the units that `parts` counts. */
 export const ALL_UNITS = (1 << UNITS.length) - 1;
-export const COUNTED_UNITS = ALL_UNITS & ~(1 << indexIn(PARTS, null));
+export const COUNTED_UNITS = ALL_UNITS & ~(1 << PARTS.indexOf(null));
 /** The styles, in the order of `enum duration_str_style`. */
 const STYLES = ["short", "compact", "long"];
 /** The options of reading that are on or off, with their bits in `enum duration_str_option`. */
@@ -21,23 +21,6 @@ const OPTIONS = { __proto__: null, noCalc: 1, lowercase: 2, cnUnit: 4, requireUn
 const DEFAULT_UNIT = 16;
 /** A bit that the library doesn't know: a default unit is named, so numbers are read. */
 export const READS_NUMBERS = 1 << 30;
-
-// ---- Lists
-
-/** The index of a name in a list, or -1 if it isn't there. */
-export function indexIn(names, name) {
-    for (let index = 0; index < names.length; index++) {
-        if (names[index] === name) return index;
-    }
-    return -1;
-}
-
-/** The names in one line, with commas between them. */
-function listed(names) {
-    let line = names[0];
-    for (let index = 1; index < names.length; index++) line += `, ${names[index]}`;
-    return line;
-}
 
 // ---- Options of reading
 
@@ -70,12 +53,12 @@ function unitOf(what, name) {
         throw new TypeError(`${what} must be a string, not ${typeOf(name)}`);
     }
     // Comparing the printed names takes less time than a call.
-    const printed = indexIn(UNITS, name);
+    const printed = UNITS.indexOf(name);
     if (printed >= 0) return printed;
     if (!calls) start();
     const unit = calls.duration_str_unit(TEXT, write(name).length);
     if (unit >= 0) return unit;
-    throw new RangeError(`${what} must be one of ${listed(UNITS)}, not ${name}`);
+    throw new RangeError(`${what} must be one of ${UNITS.join(", ")}, not ${name}`);
 }
 
 /** The bits of a default unit. The second has none. Another unit turns `noCalc` on. */
@@ -94,6 +77,7 @@ export function bitsOf(options) {
     let bits = 0;
     let wantsOperators = false;
     const names = Object.keys(options);
+    // With `for..of` here, V8 compiles `parse` without options into twice the instructions.
     for (let index = 0; index < names.length; index++) {
         const name = names[index];
         const value = options[name];
@@ -129,9 +113,9 @@ export function styleOf(name) {
     if (typeof name !== "string") {
         throw new TypeError(`the option style must be a string, not ${typeOf(name)}`);
     }
-    const number = indexIn(STYLES, name);
+    const number = STYLES.indexOf(name);
     if (number >= 0) return number;
-    throw new RangeError(`the option style must be one of ${listed(STYLES)}, not ${name}`);
+    throw new RangeError(`the option style must be one of ${STYLES.join(", ")}, not ${name}`);
 }
 
 /** The set of the units that a list names. */
@@ -141,9 +125,7 @@ function unitsOf(names) {
     }
     if (names.length === 0) throw new RangeError("the option units must name a unit");
     let units = 0;
-    for (let index = 0; index < names.length; index++) {
-        units |= 1 << unitOf("a unit of the option units", names[index]);
-    }
+    for (const name of names) units |= 1 << unitOf("a unit of the option units", name);
     return units;
 }
 
@@ -172,9 +154,7 @@ export const COUNTED_WHOLE = {
 export function formatOf(options, whole) {
     checkPlain(options);
     let { units, largest, smallest, parts, style } = whole;
-    const names = Object.keys(options);
-    for (let index = 0; index < names.length; index++) {
-        const name = names[index];
+    for (const name of Object.keys(options)) {
         if (!(name in whole)) throw unknown(name);
         const value = options[name];
         if (value === undefined) continue;

@@ -47,7 +47,7 @@ class Fault {
 function hideLong(cause, name) {
     const text = cause[name];
     if (text === null || text.length <= SHOWN_LENGTH) return;
-    Object.defineProperty(cause, name, { __proto__: null, get: () => text });
+    Object.defineProperty(cause, name, { get: () => text });
 }
 
 /** The error for a refused text. Everything about the fault except its message is in `cause`, since
@@ -101,7 +101,7 @@ export class DurationError extends Error {
 
 // A plain assignment would throw if the prototype of errors is frozen.
 Object.defineProperty(DurationError.prototype, "name", {
-    __proto__: null, value: "DurationError", writable: true, configurable: true,
+    value: "DurationError", writable: true, configurable: true,
 });
 
 /** What could stand at the place, from the bits of `enum duration_str_expected`. */
