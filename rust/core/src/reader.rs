@@ -77,7 +77,10 @@ fn read_unit(tokens: &mut Tokens<'_>, settings: Settings) -> Result<TimeUnit, Ca
 /// `place`, where only a unit could stand.
 #[inline(always)]
 fn unit_left_out(place: usize, settings: Settings) -> Result<TimeUnit, Cause> {
-    settings.default_unit.ok_or(no_unit(place, settings))
+    match settings.default_unit {
+        Some(unit) => Ok(unit),
+        None => Err(no_unit(place, settings)),
+    }
 }
 
 /// The syntax fault of a token that can't follow a number.
