@@ -9,6 +9,8 @@ mod features;
 mod human;
 mod humantime_items;
 mod lengths;
+#[cfg(feature = "serde")]
+mod numbers;
 mod owned;
 mod printing;
 mod values;
