@@ -1,8 +1,8 @@
 //! The calls that are measured: the calls of the Rust crate, and those of the archive through C.
 use crate::texts::{EXPRESSION, below_day, expressions, long_text, refusal, repeat};
 use duration_str::{
-    DurationError, FORMAT_BUFFER_SIZE, Fault, Format, HumanFormat, Options, STYLED_BUFFER_SIZE,
-    TimeUnit,
+    DurationError, FORMAT_BUFFER_SIZE, Format, HumanFormat, ONE_LINE_BUFFER_SIZE, Options,
+    STYLED_BUFFER_SIZE, TimeUnit,
 };
 use duration_str::{
     parse, parse_duration, parse_in, parse_require_unit, parse_with, write_format, write_human,
@@ -11,7 +11,7 @@ use std::hint::black_box;
 use std::time::Duration;
 
 /// The size of a buffer for a line.
-pub const ROOM: usize = Fault::BUFFER_LEN;
+pub const ROOM: usize = ONE_LINE_BUFFER_SIZE;
 
 /// One way to a library.
 pub trait Library {

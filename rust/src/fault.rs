@@ -3,7 +3,7 @@ use crate::derror::DError;
 use crate::error::DurationError;
 use alloc::string::{String, ToString};
 use core::fmt;
-use duration_str_core::{self as proved, Cause, Expected, Options};
+use duration_str_core::{self as proved, Cause, Expected, ONE_LINE_BUFFER_SIZE, Options};
 
 /// Why and where a text is refused.
 ///
@@ -108,20 +108,17 @@ impl<'a> Fault<'a> {
         self.fault.found(self.options)
     }
 
-    /// The length of the buffer that [`Fault::write_one_line`] writes to.
-    pub const BUFFER_LEN: usize = duration_str_core::ONE_LINE_BUFFER_SIZE;
-
     /// Writes the line to the start of a buffer, and returns it. The call allocates nothing.
     ///
     /// ```
-    /// use duration_str::{Fault, Options, parse_with};
+    /// use duration_str::{ONE_LINE_BUFFER_SIZE, Options, parse_with};
     ///
-    /// let mut buffer = [0; Fault::BUFFER_LEN];
+    /// let mut buffer = [0; ONE_LINE_BUFFER_SIZE];
     /// let fault = parse_with("", Options::off()).unwrap_err();
     /// assert_eq!(fault.write_one_line(&mut buffer), "empty text");
     /// ```
     #[must_use]
-    pub fn write_one_line<'b>(&self, buffer: &'b mut [u8; Fault::BUFFER_LEN]) -> &'b str {
+    pub fn write_one_line<'b>(&self, buffer: &'b mut [u8; ONE_LINE_BUFFER_SIZE]) -> &'b str {
         self.fault.write_one_line(buffer)
     }
 
@@ -191,7 +188,7 @@ impl<'a> Fault<'a> {
 /// Prints the line. Width, fill and precision apply as they do for a `str`.
 impl fmt::Display for Fault<'_> {
     fn fmt(&self, f: &mut fmt::Formatter<'_>) -> fmt::Result {
-        f.pad(self.write_one_line(&mut [0; Fault::BUFFER_LEN]))
+        f.pad(self.write_one_line(&mut [0; ONE_LINE_BUFFER_SIZE]))
     }
 }
 

@@ -194,8 +194,9 @@ pub use default_unit::{parse_in, parse_require_unit, parse_with_default_unit};
 pub use derror::{DError, DResult};
 #[doc(inline)]
 pub use duration_str_core::{
-    Breakdown, Cause, CondUnit, Expected, FORMAT_BUFFER_SIZE, Format, Options, STYLED_BUFFER_SIZE,
-    Style, TimeUnit, Units, UnknownStyle, UnknownUnit, write_format, write_human,
+    Breakdown, Cause, CondUnit, Expected, FORMAT_BUFFER_SIZE, Format, ONE_LINE_BUFFER_SIZE,
+    Options, STYLED_BUFFER_SIZE, Style, TimeUnit, Units, UnknownStyle, UnknownUnit, write_format,
+    write_human,
 };
 // `MAX_LONG_LEN`, `MAX_PRINTED_LEN` and `UNITS`, below, are hidden, since they are only for the
 // core's examples. Users of this crate have the buffers' sizes and `TimeUnit::ALL`.
