@@ -165,7 +165,7 @@ impl Run<'_> {
     }
 
     fn line(&mut self, line: &[u8], number: u64) -> io::Result<()> {
-        let Some([before, text, after]) = self.parts(line) else {
+        let Some([before, text, after]) = self.cut(line) else {
             return self.refuse(Refusal::new("no such field"), [b"", line, b""], number);
         };
         match reading::read(text, self.choices) {
@@ -202,9 +202,9 @@ impl Run<'_> {
         self.put(&fields.each_ref().map(|field| field.as_bytes()))
     }
 
-    /// Divides a line into the part before the text, the text, and the part after it. The text is
-    /// the whole line, or a field without blanks and quotation marks around it.
-    fn parts<'a>(&self, line: &'a [u8]) -> Option<[&'a [u8]; 3]> {
+    /// Cuts a line into what is before the text, the text, and what is after it. The text is the
+    /// whole line, or a field without blanks and quotation marks around it.
+    fn cut<'a>(&self, line: &'a [u8]) -> Option<[&'a [u8]; 3]> {
         let Some(number) = self.choices.field else {
             return Some([b"", line, b""]);
         };
@@ -223,10 +223,10 @@ impl Run<'_> {
     }
 
     /// Says why a text is refused. If a field is converted, writes the line as it was.
-    fn refuse(&mut self, refusal: Refusal, parts: [&[u8]; 3], number: u64) -> io::Result<()> {
-        self.tell(refusal, parts[1], number)?;
+    fn refuse(&mut self, refusal: Refusal, line: [&[u8]; 3], number: u64) -> io::Result<()> {
+        self.tell(refusal, line[1], number)?;
         if self.choices.field.is_some() {
-            self.put(&parts)
+            self.put(&line)
         } else {
             Ok(())
         }
@@ -259,10 +259,11 @@ impl Run<'_> {
         io::stderr().write_all(format!("duration: {what} {number}{field}:{gap}{said}\n").as_bytes())
     }
 
-    fn put(&mut self, parts: &[&[u8]]) -> io::Result<()> {
-        parts
+    /// Writes an answer, which is given in several slices, and the end of its line.
+    fn put(&mut self, answer: &[&[u8]]) -> io::Result<()> {
+        answer
             .iter()
-            .try_for_each(|part| self.output.write_all(part))?;
+            .try_for_each(|slice| self.output.write_all(slice))?;
         // jq would take a NUL for the end of its input, without an error.
         let end = if self.choices.json { b'\n' } else { self.end };
         self.output.write_all(if self.is_open {
