@@ -67,6 +67,8 @@ struct datetime_calls {
     PyObject *(*timedelta)(int days, int seconds, int micros, int normalizes, PyTypeObject *type);
 };
 #define KNOWN_DATETIME (Py_Version < 0x030e0000)
+/* Where the type timedelta is among its types */
+#define TIMEDELTA_TYPE 3
 
 struct state {
     PyObject *kept[KEPT];
@@ -1130,12 +1132,14 @@ static PyObject *member(const char *module, const char *name) {
 }
 
 /* Finds the structure of the module datetime, if it is known. Otherwise timedelta_of does without.
- */
+ * It does so too if a program has replaced `datetime.timedelta`, such as by a mock, while it
+ * imported this module: the structure's function would take that object for a type. */
 static void find_datetime(struct state *state) {
     const char *name = "datetime.datetime_CAPI";
     PyObject *capsule = KNOWN_DATETIME ? member("datetime", "datetime_CAPI") : NULL;
-    if (capsule)
-        state->datetime = PyCapsule_GetPointer(capsule, name);
+    const struct datetime_calls *calls = capsule ? PyCapsule_GetPointer(capsule, name) : NULL;
+    if (calls && (PyObject *)calls->types[TIMEDELTA_TYPE] == state->kept[TIMEDELTA])
+        state->datetime = calls;
     PyErr_Clear();
     state->kept[DATETIME_CALLS] = capsule ? capsule : Py_NewRef(Py_None);
 }
@@ -1143,7 +1147,6 @@ static void find_datetime(struct state *state) {
 static int begin(PyObject *module) {
     struct state *state = PyModule_GetState(module);
     int is_there = 1;
-    find_datetime(state);
     for (int at = 0; at < ERROR; at++)
         state->kept[at] = PyUnicode_InternFromString(kept_names[at]);
     state->kept[ERROR] = member("duration_str._texts", "DurationError");
@@ -1155,6 +1158,7 @@ static int begin(PyObject *module) {
     state->kept[UNNAMED] = member("duration_str._texts", "UNNAMED");
     state->kept[UNSAID] = member("duration_str._texts", "UNSAID");
     state->kept[TIMEDELTA] = member("datetime", "timedelta");
+    find_datetime(state);
     if (state->kept[TIMEDELTA])
         state->kept[A_MICROSECOND] = PyObject_GetAttrString(state->kept[TIMEDELTA], "resolution");
     state->kept[A_SECOND] = PyLong_FromLong(SECOND);
