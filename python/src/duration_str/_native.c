@@ -9,6 +9,20 @@
 #include <duration_str.h>
 #include <string.h>
 
+/* The headers of CPython 3.11 count references in place. From 3.12 on, None, small ints and other
+ * objects never end, and all interpreters share them. If their counts changed, interpreters with
+ * locks of their own could free them. The functions of the running interpreter know these objects.
+ */
+#if PY_VERSION_HEX < 0x030c0000
+#undef Py_NewRef
+#undef Py_INCREF
+#undef Py_DECREF
+#undef Py_XDECREF
+#define Py_INCREF Py_IncRef
+#define Py_DECREF Py_DecRef
+#define Py_XDECREF Py_DecRef
+#endif
+
 #define SECOND 1000000000u
 
 /* The Python objects that the module keeps. First come the names of the options: the flags, in the
