@@ -226,6 +226,7 @@ class Reading(unittest.TestCase):
             pandas.Series([1.0], dtype="Float32"),
             pandas.array([1.0], dtype="Float32"),
             pandas.Series([1.0], dtype="Float32").astype("category"),
+            pandas.Series([1.0], dtype=pandas.SparseDtype("float32", 1.0)),
             pandas.Series(day, dtype="datetime64[ns]").astype("category"),
             numpy.array([True]),
             [numpy.True_],

@@ -197,6 +197,9 @@ class Hostile(unittest.TestCase):
             "for nanos in range(10_000):\n"
             "    text = duration_str.format(nanos * 10**9)\n"
             "    assert duration_str.parse_ns(text) == nanos * 10**9 and duration_str.format(duration_str.parse(text)) == text\n"
+            # All interpreters share None and small ints.
+            "    duration_str.parse_many([0, 1, 2] * 10, default_unit='ns')\n"
+            "    duration_str.format_many([0, 1, 2, None] * 10)\n"
             "    try:\n"
             "        duration_str.parse(text + '!')\n"
             "    except duration_str.DurationError as error:\n"

@@ -125,6 +125,15 @@ for nanos in [999, 1000, 86_400 * 10**9 - 1, 2**64 - 1, *map(random.getrandbits,
         for lines in [program, program.replace("del datetime.datetime_CAPI", "")]:
             subprocess.run([sys.executable, "-c", lines], check=True)
 
+    def test_makes_timedeltas_if_a_mock_stood_in_their_place(self):
+        program = """
+import datetime, unittest.mock
+with unittest.mock.patch("datetime.timedelta", resolution=datetime.timedelta.resolution):
+    from duration_str import parse
+assert parse("90s") == datetime.timedelta(seconds=90)
+"""
+        subprocess.run([sys.executable, "-c", program], check=True)
+
     def test_counts_the_default_unit(self):
         for name in typing.get_args(Unit):
             # The micro sign's capital in Unicode is a Greek letter, which no unit's name has.

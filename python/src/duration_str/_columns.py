@@ -31,7 +31,8 @@ def typed_values(values: Any) -> list[Any]:
 
     if hasattr(values.dtype, "categories"):
         values = values.astype(values.dtype.categories.dtype)
-    array = numpy.asarray(values)
+    # By itself, NumPy makes floats of 64 bits of a sparse column with gaps.
+    array = numpy.asarray(values, getattr(values.dtype, "subtype", None))
     # Iterating a column of pandas makes its floats of 32 bits floats of Python. Only in a nullable
     # column they keep their type, and there it is the array that has floats of Python.
     return list(values if array.dtype == object else array.flat)

@@ -9,6 +9,20 @@
 #include <duration_str.h>
 #include <string.h>
 
+/* The headers of CPython 3.11 count references in place. From 3.12 on, None, small ints and other
+ * objects never end, and all interpreters share them. If their counts changed, interpreters with
+ * locks of their own could free them. The functions of the running interpreter know these objects.
+ */
+#if PY_VERSION_HEX < 0x030c0000
+#undef Py_NewRef
+#undef Py_INCREF
+#undef Py_DECREF
+#undef Py_XDECREF
+#define Py_INCREF Py_IncRef
+#define Py_DECREF Py_DecRef
+#define Py_XDECREF Py_DecRef
+#endif
+
 #define SECOND 1000000000u
 
 /* The Python objects that the module keeps. First come the names of the options: the flags, in the
@@ -67,6 +81,8 @@ struct datetime_calls {
     PyObject *(*timedelta)(int days, int seconds, int micros, int normalizes, PyTypeObject *type);
 };
 #define KNOWN_DATETIME (Py_Version < 0x030e0000)
+/* Where the type timedelta is among its types */
+#define TIMEDELTA_TYPE 3
 
 struct state {
     PyObject *kept[KEPT];
@@ -997,12 +1013,14 @@ static PyObject *member(const char *module, const char *name) {
 }
 
 /* Finds the structure of the module datetime, if it is known. Otherwise timedelta_of does without.
- */
+ * It does so too if a program has replaced `datetime.timedelta`, such as by a mock, while it
+ * imported this module: the structure's function would take that object for a type. */
 static void find_datetime(struct state *state) {
     const char *name = "datetime.datetime_CAPI";
     PyObject *capsule = KNOWN_DATETIME ? member("datetime", "datetime_CAPI") : NULL;
-    if (capsule)
-        state->datetime = PyCapsule_GetPointer(capsule, name);
+    const struct datetime_calls *calls = capsule ? PyCapsule_GetPointer(capsule, name) : NULL;
+    if (calls && (PyObject *)calls->types[TIMEDELTA_TYPE] == state->kept[TIMEDELTA])
+        state->datetime = calls;
     PyErr_Clear();
     state->kept[DATETIME_CALLS] = capsule ? capsule : Py_NewRef(Py_None);
 }
@@ -1010,7 +1028,6 @@ static void find_datetime(struct state *state) {
 static int begin(PyObject *module) {
     struct state *state = PyModule_GetState(module);
     int is_there = 1;
-    find_datetime(state);
     for (int at = 0; at < ERROR; at++)
         state->kept[at] = PyUnicode_InternFromString(kept_names[at]);
     state->kept[ERROR] = member("duration_str._texts", "DurationError");
@@ -1022,6 +1039,7 @@ static int begin(PyObject *module) {
     state->kept[UNNAMED] = member("duration_str._texts", "UNNAMED");
     state->kept[UNSAID] = member("duration_str._texts", "UNSAID");
     state->kept[TIMEDELTA] = member("datetime", "timedelta");
+    find_datetime(state);
     if (state->kept[TIMEDELTA])
         state->kept[A_MICROSECOND] = PyObject_GetAttrString(state->kept[TIMEDELTA], "resolution");
     state->kept[A_SECOND] = PyLong_FromLong(SECOND);
