@@ -162,8 +162,10 @@ installed = $(addprefix $(bindir)/,durstr duration) $(addprefix $(mandir)/man1/,
 
 # `put FROM TO` installs a file as TO, and `put_program FROM TO` a program. `put_text TO` installs
 # its input, since without /proc there is no /dev/stdin. $$said has the output of `install`. It
-# names the folders that were made, which $(folders) keeps for uninstalling.
-put = said=$$(mktemp) && trap 'rm -f "$$said"*' EXIT; \
+# names the folders that were made, which $(folders) keeps for uninstalling. At the end $(owned)
+# gives what root has built to the owner of the checkout, who could otherwise not build here again.
+owned = [ -O . ] || [ ! -e out ] || [ "$$(id -u)" != 0 ] || chown -hR --reference=. out
+put = said=$$(mktemp) && trap 'rm -f "$$said"*; $(owned)' EXIT; \
     put() { LC_ALL=C $(INSTALL_DATA) -v -D "$$1" "$$DESTDIR$$2" >>"$$said"; }; \
     put_text() { cat >"$$said.text" && put "$$said.text" "$$1"; }; \
     put_program() { LC_ALL=C $(INSTALL_PROGRAM) -v -D "$$1" "$$DESTDIR$$2" >>"$$said"; }
