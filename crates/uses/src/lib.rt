@@ -17,7 +17,7 @@ pub mod stored;
 pub mod sum;
 
 pub use cache::{canonical, key, read_back, share_entry};
-pub use completion::{Completion, complete, is_unfinished};
+pub use completion::{Completion, complete, complete_humantime, is_unfinished};
 pub use configuration::configured;
 pub use cost::price;
 pub use countdown::{in_parts, not_shown, time_left};
