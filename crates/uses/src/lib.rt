@@ -25,7 +25,7 @@ pub use dates::{cut_off, due};
 pub use help::{Example, examples, humantime_examples};
 pub use line::{without_line_feed, write_line};
 pub use log::add_entry;
-pub use portable::keeps_value;
+pub use portable::{keeps_value, keeps_value_without_humantime};
 pub use product::{Part, scaled};
 pub use signed::difference;
 pub use stored::{first_unit, stored_duration};
