@@ -29,4 +29,4 @@ pub use portable::{keeps_value, keeps_value_without_humantime};
 pub use product::{Part, scaled};
 pub use signed::difference;
 pub use stored::{first_unit, stored_duration};
-pub use sum::{longest_first, total_of};
+pub use sum::{longest_first, total_of, total_of_humantime};
