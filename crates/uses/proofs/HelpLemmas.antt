@@ -1,10 +1,10 @@
--- The computed answer to a text is the text's only answer, and a word that is near a name is no unit.
+-- The computed answer to a text is the text's only answer, and a word that is near a name is replaced by it.
 use Rattle.std.proofs.Common.{encode_utf8_all, List, Result, Some, sym, ℕ, ◌∙◌, ◌≡◌}
 use Rattle.duration_str.specs.Laws.{NearWords}
 use Rattle.duration_str.specs.OneLine.{near_name}
 use Rattle.duration_str.proofs.Common.{answer, AnswerIsReading, Rules}
 use Rattle.uses.proofs.Common.{Cause, Duration}
-use Rattle.uses.specs.Help.{in_nanos, IsNoUnit, IsOnlyAnswerTo}
+use Rattle.uses.specs.Help.{in_nanos, IsOnlyAnswerTo, IsReplacedBy}
 
 pub computed_is_only : AnswerIsReading → (r : Rules) (text : List ℕ) (a : Result Duration Cause)
     → in_nanos a ≡ answer r text → IsOnlyAnswerTo r text a
@@ -13,6 +13,6 @@ computed_is_only law r text a e = record {
   refused = λ cause. (λ h. e ∙ (law.refused r text cause).1 h, λ is. (law.refused r text cause).0 (sym e ∙ is));
 }
 
--- A word that is near a name names no unit.
-pub no_unit : NearWords → (word name : List ℕ) → near_name (encode_utf8_all word) ≡ Some name → IsNoUnit word
-no_unit law word name near o = (law o word name near).unread
+-- A word that is near a name is replaced by that name.
+pub replaced : NearWords → (name word : List ℕ) → near_name (encode_utf8_all word) ≡ Some name → IsReplacedBy name word
+replaced law name word near o = law o word name near

@@ -1,7 +1,7 @@
 -- The only answer to the text of an example.
-use Rattle.std.specs.Prelude.{◌≡◌, ℕ, List, ◌↔◌, Result, Ok, Err, None}
-use Rattle.duration_str.specs.Rules.{unit_of_word}
-use Rattle.uses.specs.Common.{Duration, as_nanos, Options, Cause, IsRead, IsRefused, Rules, rules_of}
+use Rattle.std.specs.Prelude.{◌≡◌, ℕ, List, ◌↔◌, Result, Ok, Err}
+use Rattle.duration_str.specs.Laws.{IsAdvised}
+use Rattle.uses.specs.Common.{Duration, as_nanos, Options, Cause, IsRead, IsRefused, Rules}
 
 -- the answer, with the duration in nanoseconds
 abbrev pub in_nanos : Result Duration Cause → Result ℕ Cause
@@ -14,6 +14,6 @@ pub record IsOnlyAnswerTo (r : Rules) (text : List ℕ) (answer : Result Duratio
   pub read : (nanos : ℕ) → (IsRead r text nanos ↔ in_nanos answer ≡ Ok nanos)
   pub refused : (cause : Cause) → (IsRefused r text cause ↔ in_nanos answer ≡ Err cause)
 
--- The word names no unit, under any options.
-abbrev pub IsNoUnit : List ℕ → Type 0
-IsNoUnit word = (o : Options) → unit_of_word (rules_of o) word ≡ None
+-- Under all options the word names no unit, and the name is advised for it.
+abbrev pub IsReplacedBy : List ℕ → List ℕ → Type 0
+IsReplacedBy name word = (o : Options) → IsAdvised o word name

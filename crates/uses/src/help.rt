@@ -1,7 +1,7 @@
 //! The examples of a help page.
 ghost use Rattle.uses.specs.Common.{AllByRecursion, chars, rules_with};
 ghost use Rattle.duration_str.specs.Humantime.{humantime_rules};
-ghost use Rattle.uses.specs.Help.{IsNoUnit, IsOnlyAnswerTo};
+ghost use Rattle.uses.specs.Help.{IsOnlyAnswerTo, IsReplacedBy};
 
 use duration_str::laws::{near_words, one_sentence};
 use duration_str::{Cause, Expected, Options, TimeUnit};
@@ -105,15 +105,15 @@ pub fn humantime_examples() -> [(&'static str, Options, Result<Duration, Cause>)
     ]
 }
 
-/// Returns words for a help page that people write for units, but that name no unit under any options. For each of
-/// them, the line of a fault says what to write instead.
+/// Returns words for a help page that people write for units, but that name no unit under any options, each after the
+/// name to write instead. Under all options that name is the unit that people mean by the word.
 ///
 /// ```text
-/// refused_words()[1] // `mins`
+/// refused_words()[1] // `min` for `mins`
 /// ```
-pub fn refused_words() -> [&'static str; 4]
-    ensures { AllByRecursion (λ word. IsNoUnit (chars word.now)) result }
+pub fn refused_words() -> [(&'static str, &'static str); 4]
+    ensures { AllByRecursion (λ row. IsReplacedBy (chars row.0.now) (chars row.1.now)) result }
 {
     near_words();
-    ["hrs", "mins", "secs", "yrs"]
+    [("h", "hrs"), ("min", "mins"), ("s", "secs"), ("y", "yrs")]
 }

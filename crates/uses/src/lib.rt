@@ -22,7 +22,7 @@ pub use configuration::configured;
 pub use cost::price;
 pub use countdown::{in_parts, not_shown, time_left};
 pub use dates::{cut_off, due};
-pub use help::{Example, examples, humantime_examples};
+pub use help::{Example, examples, humantime_examples, refused_words};
 pub use line::{without_line_feed, write_line};
 pub use log::add_entry;
 pub use portable::{keeps_value, keeps_value_without_humantime};
