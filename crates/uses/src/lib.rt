@@ -28,5 +28,5 @@ pub use log::add_entry;
 pub use portable::{keeps_value, keeps_value_without_humantime};
 pub use product::{Part, scaled};
 pub use signed::difference;
-pub use stored::{first_unit, stored_duration};
+pub use stored::{first_unit, stored_duration, stored_unit};
 pub use sum::{longest_first, total_of, total_of_humantime};
