@@ -1,18 +1,18 @@
--- The computed answer to a text is the text's only answer, and a word that is near a name is no unit.
+-- The computed answer to a text is the text's only answer, and a word that is near a name is replaced by it.
 use Rattle.std.proofs.Common.{encode_utf8_all, List, Result, Some, sym, ℕ, ◌∙◌, ◌≡◌}
 use Rattle.duration_str.specs.Laws.{NearWords}
 use Rattle.duration_str.specs.OneLine.{near_name}
-use Rattle.duration_str.proofs.Common.{answer, AnswerIsReading, rules_of}
-use Rattle.uses.proofs.Common.{Cause, Duration, Options}
-use Rattle.uses.specs.Help.{in_nanos, IsNoUnit, IsOnlyAnswerTo}
+use Rattle.duration_str.proofs.Common.{answer, AnswerIsReading, Rules}
+use Rattle.uses.proofs.Common.{Cause, Duration}
+use Rattle.uses.specs.Help.{in_nanos, IsOnlyAnswerTo, IsReplacedBy}
 
-pub computed_is_only : AnswerIsReading → (o : Options) (text : List ℕ) (a : Result Duration Cause)
-    → in_nanos a ≡ answer (rules_of o) text → IsOnlyAnswerTo o text a
-computed_is_only law o text a e = record {
-  read = λ nanos. (λ r. e ∙ (law.read (rules_of o) text nanos).1 r, λ is. (law.read (rules_of o) text nanos).0 (sym e ∙ is));
-  refused = λ cause. (λ r. e ∙ (law.refused (rules_of o) text cause).1 r, λ is. (law.refused (rules_of o) text cause).0 (sym e ∙ is));
+pub computed_is_only : AnswerIsReading → (r : Rules) (text : List ℕ) (a : Result Duration Cause)
+    → in_nanos a ≡ answer r text → IsOnlyAnswerTo r text a
+computed_is_only law r text a e = record {
+  read = λ nanos. (λ h. e ∙ (law.read r text nanos).1 h, λ is. (law.read r text nanos).0 (sym e ∙ is));
+  refused = λ cause. (λ h. e ∙ (law.refused r text cause).1 h, λ is. (law.refused r text cause).0 (sym e ∙ is));
 }
 
--- A word that is near a name names no unit.
-pub no_unit : NearWords → (word name : List ℕ) → near_name (encode_utf8_all word) ≡ Some name → IsNoUnit word
-no_unit law word name near o = (law o word name near).unread
+-- A word that is near a name is replaced by that name.
+pub replaced : NearWords → (name word : List ℕ) → near_name (encode_utf8_all word) ≡ Some name → IsReplacedBy name word
+replaced law name word near o = law o word name near

@@ -1,10 +1,10 @@
 -- Lemmas about texts whose characters mean the same under several choices of options.
-use Rattle.std.proofs.Common.{arith, Bool, false, IsTrue, List, not, refl, subst, sym, true, ℕ, ◌&&◌, ◌||◌, ◌↔◌, ◌≡◌}
-use Rattle.duration_str.proofs.Common.{HasNoCapital, HasNoChinese, HasNoOperator, is_ascii_uppercase, is_operator, list_all, NoCalcAgrees, OptionsIdle, rules, IsRead, IsRefused, rules_with}
-use Rattle.uses.proofs.Common.{Options}
+use Rattle.std.proofs.Common.{arith, Bool, false, IsTrue, List, not, refl, subst, sym, true, ℕ, ◌&&◌, ◌||◌, ◌↔◌, ◌∙◌, ◌≡◌}
+use Rattle.duration_str.proofs.Common.{HasNoCapital, HasNoChinese, HasNoOperator, is_ascii_uppercase, is_operator, list_all, NoCalcAgrees, OneReading, OptionsIdle, rules, IsRead, IsRefused, Rules, rules_with}
+use Rattle.uses.proofs.Common.{Cause, Options}
 use Rattle.std.proofs.Math.Bool.{beq}
 use Rattle.duration_str.proofs.Characters.CharacterLemmas.{all_weaker}
-use Rattle.uses.specs.Portable.{HasSameCause, HasSameValue, is_unaffected}
+use Rattle.uses.specs.Portable.{HasSameCause, HasSameCauseByAll, HasSameValue, HasSameValueByAll, is_unaffected, IsReadAlike}
 
 -- If `b` and `d` are equal, or if the property holds for both values of Bool or for neither, it holds for `b` exactly
 -- if it holds for `d`.
@@ -56,3 +56,50 @@ module _ (o p : Options) (text : List ℕ) (h : IsTrue (list_all (is_unaffected 
       subst (λ (b : Bool). IsRefused (rules_with (record o { no_calc = b }) default_unit) text cause ↔ IsRefused (rules_with p default_unit) text cause) (sym same)
       (others_changed (λ (q : Options). IsRefused (rules_with q default_unit) text cause)
       (λ q plain. (idle.lowercase (rules_with q default_unit) text plain).cause cause) (λ q plain. (idle.cn_unit default_unit q text plain).cause cause))
+
+  -- By all rules, if `cn_unit` does not change.
+  pub unaffected_has_same_value_by_all : NoCalcAgrees → OptionsIdle → o.cn_unit ≡ p.cn_unit → HasSameValueByAll o p text
+  unaffected_has_same_value_by_all agrees idle same r nanos =
+      let one : Options = record o { no_calc = p.no_calc } in
+      let two : Options = record one { lowercase = p.lowercase } in
+      let calc = either_way (λ (b : Bool). IsRead (record r { options = record o { no_calc = b } }) text nanos) o.no_calc p.no_calc
+      (λ differ. agrees (record r { options = o }) text nanos (no_operator differ)) in
+      let lower = either_way (λ (b : Bool). IsRead (record r { options = record one { lowercase = b } }) text nanos)
+      o.lowercase p.lowercase (λ differ. (idle.lowercase (record r { options = one }) text (no_capital differ)).value nanos) in
+      let last = λ (b : Bool). IsRead (record r { options = record two { cn_unit = b } }) text nanos in
+      (λ k. subst last same (lower.0 (calc.0 k)), λ k. calc.1 (lower.1 (subst last (sym same) k)))
+
+  pub unaffected_has_same_cause_by_all : OptionsIdle → o.no_calc ≡ p.no_calc → o.cn_unit ≡ p.cn_unit
+      → HasSameCauseByAll o p text
+  unaffected_has_same_cause_by_all idle calc same r cause =
+      let one : Options = record o { no_calc = p.no_calc } in
+      let two : Options = record one { lowercase = p.lowercase } in
+      let first = λ (b : Bool). IsRefused (record r { options = record o { no_calc = b } }) text cause in
+      let lower = either_way (λ (b : Bool). IsRefused (record r { options = record one { lowercase = b } }) text cause)
+      o.lowercase p.lowercase (λ differ. (idle.lowercase (record r { options = one }) text (no_capital differ)).cause cause) in
+      let last = λ (b : Bool). IsRefused (record r { options = record two { cn_unit = b } }) text cause in
+      (λ k. subst last same (lower.0 (subst first calc k)), λ k. subst first (sym calc) (lower.1 (subst last (sym same) k)))
+
+-- ---- Texts that two rules read alike
+
+module _ (law : OneReading) (r s : Rules) (text : List ℕ) where
+  pub both_read : (m n : ℕ) → IsRead r text m → IsRead s text n → (m ≡ n ↔ IsReadAlike r s text)
+  both_read m n a b = (
+    λ e k. (
+      λ h. subst (IsRead s text) (sym e ∙ law.one_value r text m k a h) b,
+      λ h. subst (IsRead r text) (e ∙ law.one_value s text n k b h) a,
+    ),
+    λ alike. law.one_value s text m n ((alike m).0 a) b,
+  )
+
+  pub first_read : (m : ℕ) (cause : Cause) → IsRead r text m → IsRefused s text cause → IsReadAlike r s text → ⊥
+  first_read m cause a refused alike = law.not_both s text m cause ((alike m).0 a) refused
+
+  pub other_read : (n : ℕ) (cause : Cause) → IsRefused r text cause → IsRead s text n → IsReadAlike r s text → ⊥
+  other_read n cause refused b alike = law.not_both r text n cause ((alike n).1 b) refused
+
+  pub none_read : (cause other : Cause) → IsRefused r text cause → IsRefused s text other → IsReadAlike r s text
+  none_read cause other refused other_refused k = (
+    λ h. absurd (law.not_both r text k cause h refused),
+    λ h. absurd (law.not_both s text k other h other_refused),
+  )

@@ -1,6 +1,8 @@
 -- Lemmas about results of reading, given the value or the cause of the text.
-use Rattle.std.proofs.Common.{chars, Err, IsErrAnd, IsOkAnd, List, map, Ok, Result, ℕ, ◌≡◌}
-use Rattle.duration_str.proofs.Common.{as_nanos, IsRead, IsRefused, lexemes_of, older_rules, OlderTexts, OneReading, OneSentence, Parses, terminal_of, tokens_of, IsSentenceOf, rules_of}
+use Rattle.std.proofs.Common.{ap, chars, Err, IsErrAnd, IsOkAnd, List, map, Ok, Option, refl, Result, Some, ℕ, ◌∙◌, ◌≡◌}
+use Rattle.duration_str.proofs.Common.{as_nanos, IsRead, IsRefused, lexemes_of, nanos_of, older_row_of, older_rules, OlderTexts, OneReading, OneSentence, Parses, terminal_of, tokens_of, IsSentenceOf, rules_of, unit_of_word}
+use Rattle.duration_str.specs.Units.{UnitRow}
+use Rattle.duration_str.specs.declared.unit.TimeUnit.{TimeUnit}
 use Rattle.uses.proofs.Common.{Cause, Duration, Fault, Options, Token}
 use Rattle.uses.specs.Stored.{unit_of_first}
 
@@ -24,3 +26,14 @@ pub first_kept : OneSentence → OlderTexts → (o : Options) (lexemes : List (L
 first_kept one older o lexemes text tokens was e =
     let s = older.sentence o lexemes text was in
     rw (older.terminals o lexemes text was, (one.tokens (rules_of o) text lexemes s.0).0 s.1, e)
+
+-- A name that named a unit by the older table names it today, and the unit has the same length.
+pub named_unit_kept : OlderTexts → (o : Options) (name : List ℕ) (found unit : TimeUnit) (nanos : ℕ) (row : UnitRow)
+    → Some found ≡ unit_of_word (rules_of o) name → nanos ≡ nanos_of found
+    → unit_of_word (older_rules o) name ≡ Some unit → older_row_of unit ≡ Some row
+    → ◌≡◌ {A = Option (TimeUnit × ℕ)} (Some (found, nanos)) (Some (unit, row.nanos))
+named_unit_kept older o name found unit nanos row h is was there =
+    let e : Some found ≡ Some unit = h ∙ older.names o name unit was in
+    let same : found ≡ unit = cc in
+    let length : nanos ≡ row.nanos = is ∙ (ap nanos_of same ∙ (older.units unit row there).length) in
+    rw (same, length) refl

@@ -1,6 +1,6 @@
 -- The canonical text of a value, and how it is read back.
 use Rattle.std.specs.Prelude.{◌≡◌, ℕ, List, Option, Result, Ok, Err, chars}
-use Rattle.uses.specs.Common.{Duration, as_nanos, Options, Cause, Fault, off, unit_lengths, IsRead, IsRefused, IsGreatestBreakdown, counts_of, printed_counts, rules_of, rules_with}
+use Rattle.uses.specs.Common.{Duration, as_nanos, Options, Cause, Fault, off, unit_lengths, IsRead, IsRefused, IsGreatestBreakdown, counts_of, printed_counts, Rules, rules_of, rules_with}
 use Rattle.duration_str.specs.declared.format.Style.{Style}
 use Rattle.duration_str.specs.declared.unit.TimeUnit.{TimeUnit}
 
@@ -27,7 +27,7 @@ pub record IsCanonical (style : Style) (text key : List ℕ) : Type 0 where
 abbrev pub Refuses : List ℕ → Fault → Type 0
 Refuses text fault = (fault.text.now ≡ text) × IsRefused (rules_of off) (chars text) fault.cause
 
--- The text is read as the value in `Ok`, or refused for the cause in `Err`.
-abbrev pub IsAnswerTo : Options → List ℕ → Result Duration Cause → Type 0
-IsAnswerTo o text (Ok d) = IsRead (rules_of o) text (as_nanos d)
-IsAnswerTo o text (Err cause) = IsRefused (rules_of o) text cause
+-- By these rules the text is read as the value in `Ok`, or refused for the cause in `Err`.
+abbrev pub IsAnswerTo : Rules → List ℕ → Result Duration Cause → Type 0
+IsAnswerTo r text (Ok d) = IsRead r text (as_nanos d)
+IsAnswerTo r text (Err cause) = IsRefused r text cause

@@ -1,8 +1,8 @@
 //! The key of a cache: one text for each value.
 #![tactic(auto, using(crate::proofs::CacheLemmas::key_is_canonical))]
 
-ghost use Rattle.std.specs.Prelude.{◌≡◌, ℕ, List, ◌↔◌, IsTrue, IfOk, IfErr, ◌⊎◌, chars};
-ghost use Rattle.uses.specs.Common.{as_nanos, Options as Choice, IsRead, IsPrintedIn, off, rules_of};
+ghost use Rattle.std.specs.Prelude.{◌≡◌, ℕ, List, Option, ◌↔◌, IsTrue, IfOk, IfErr, ◌⊎◌, chars};
+ghost use Rattle.uses.specs.Common.{as_nanos, Options as Choice, TimeUnit as Unit, IsRead, IsPrintedIn, off, rules_of, rules_with};
 ghost use Rattle.duration_str.specs.declared.format.Style.{Style as AnyStyle};
 ghost use Rattle.uses.specs.Cache.{IsKey, IsCanonical, IsAnswerTo, Refuses};
 
@@ -62,8 +62,9 @@ pub fn share_entry<'a>(text: &'a str, other: &'a str) -> Result<bool, Fault<'a>>
     )
 }
 
-/// Returns what reading the printed text of a duration, in any style and under any options, would return. The text is
-/// neither made nor read, so a program can ask this before it stores a duration as its text.
+/// Returns what reading the printed text of a duration would return, in any style, under any options and with any
+/// default unit or none. The text is neither made nor read, so a program can ask this before it stores a duration as its
+/// text.
 ///
 /// ```text
 /// read_back(Duration::new(18_446_744_073, 709_551_615)) // Ok, the same duration
@@ -71,8 +72,8 @@ pub fn share_entry<'a>(text: &'a str, other: &'a str) -> Result<bool, Fault<'a>>
 /// read_back(Duration::MAX)                              // Err, Overflow at 0
 /// ```
 pub fn read_back(d: Duration) -> Result<Duration, Cause>
-    ensures { (o : Choice) (style : AnyStyle) (text : List ℕ) → IsPrintedIn style (as_nanos d) text
-        → IsAnswerTo o text result }
+    ensures { (default_unit : Option Unit) (o : Choice) (style : AnyStyle) (text : List ℕ)
+        → IsPrintedIn style (as_nanos d) text → IsAnswerTo (rules_with o default_unit) text result }
 {
     reads_back();
     let nanos = d.as_nanos();

@@ -1,12 +1,15 @@
 //! What a person can type next.
-#![tactic(auto, using(crate::proofs::CompletionLemmas::refused_completion))]
+#![tactic(auto, using(crate::proofs::CompletionLemmas::completed, crate::proofs::CompletionLemmas::completed_humantime))]
 
 ghost use Rattle.std.specs.Prelude.{◌≡◌, ◌↔◌, ℕ, length, IsTrue, IfSome, IfNone, chars};
-ghost use Rattle.uses.specs.Common.{Syntax, Expected as Kinds, IsRefused, rules_of, rules_with};
+ghost use Rattle.uses.specs.Common.{Syntax, Expected as Kinds, IsRefused, rules_with};
+ghost use Rattle.duration_str.specs.Humantime.{humantime_rules};
 ghost use Rattle.uses.specs.Completion.{IsCompletion};
 
 use duration_str::laws::{one_sentence, place_and_kinds};
-use duration_str::{Cause, Expected, Options, TimeUnit, parse_with, parse_with_default_unit};
+use duration_str::{
+    Cause, Expected, Options, TimeUnit, parse_humantime_specialized, parse_with_default_unit,
+};
 
 /// Where a text stops being the beginning of an expression, and what can be typed there.
 #[derive(Clone, Copy, Debug, PartialEq, Eq)]
@@ -23,22 +26,55 @@ pub struct Completion {
 /// expression already.
 ///
 /// ```text
-/// complete("1m 3-5", Options::off()) // after `1m 3`: a unit, an operator or nothing more
-/// complete("1m+", Options::off())    // after `1m+`: a number
+/// let seconds = Some(TimeUnit::Second);
+/// complete("1m 3-5", Options::off(), seconds) // after `1m 3`: a unit, an operator or nothing more
+/// complete("1m 3-5", Options::off(), None)    // after `1m 3`: a unit
+/// complete("1m+", Options::off(), seconds)    // after `1m+`: a number
 /// ```
-pub fn complete(text: &str, o: Options) -> Option<Completion>
-    ensures some { IfSome result (λ c. IsCompletion o (chars text.now) c.place c.expected) }
+pub fn complete(text: &str, o: Options, default_unit: Option<TimeUnit>) -> Option<Completion>
+    ensures some { IfSome result (λ c.
+        IsCompletion (rules_with o default_unit) (chars text.now) c.place c.expected) }
     ensures none { IfNone result ((place : ℕ) (expected : Kinds)
-        → IsRefused (rules_of o) (chars text.now) (Syntax place expected) → ⊥) }
+        → IsRefused (rules_with o default_unit) (chars text.now) (Syntax place expected) → ⊥) }
 {
     one_sentence();
     place_and_kinds();
-    match parse_with(text, o) {
+    let answer = parse_with_default_unit(text, o, default_unit);
+    match answer {
         Ok(_) => None,
-        Err(fault) => match fault.cause() {
-            Cause::Syntax { place, expected } => Some(Completion { place, expected }),
-            _ => None,
-        },
+        Err(fault) => at_place(fault.cause()),
+    }
+}
+
+/// Returns what `complete` returns, for a text that is read by the names of humantime's units.
+///
+/// ```text
+/// complete_humantime("5mins 3", Options::off()) // after `5mins 3`: a unit
+/// complete_humantime("5mins", Options::off())   // None
+/// ```
+pub fn complete_humantime(text: &str, o: Options) -> Option<Completion>
+    ensures some { IfSome result (λ c.
+        IsCompletion (humantime_rules o) (chars text.now) c.place c.expected) }
+    ensures none { IfNone result ((place : ℕ) (expected : Kinds)
+        → IsRefused (humantime_rules o) (chars text.now) (Syntax place expected) → ⊥) }
+{
+    one_sentence();
+    place_and_kinds();
+    match parse_humantime_specialized(text, o) {
+        Ok(_) => None,
+        Err(fault) => at_place(fault.cause()),
+    }
+}
+
+/// The place of a syntax fault, and what could stand there.
+fn at_place(cause: Cause) -> Option<Completion>
+    ensures some { IfSome result (λ c. cause ≡ Syntax c.place c.expected) }
+    ensures none { IfNone result ((place : ℕ) (expected : Kinds)
+        → cause ≡ Syntax place expected → ⊥) }
+{
+    match cause {
+        Cause::Syntax { place, expected } => Some(Completion { place, expected }),
+        _ => None,
     }
 }
 

@@ -1,9 +1,12 @@
 //! Durations that an older version of a program stored as texts.
 #![tactic(auto, using(crate::proofs::StoredLemmas::value_answered, crate::proofs::StoredLemmas::cause_answered))]
 
-ghost use Rattle.std.specs.Prelude.{◌≡◌, ℕ, List, IsOkAnd, IsErrAnd, chars, map};
+ghost use Rattle.std.specs.Prelude.{◌≡◌, ℕ, List, Some, IsOkAnd, IsErrAnd, chars, map};
 ghost use Rattle.uses.specs.Common.{as_nanos, IsRead, IsSentenceOf, Terminal, terminal_of, what_of, Cause as AnyCause};
-ghost use Rattle.duration_str.specs.Older.{older_rules, WasRefused};
+ghost use Rattle.duration_str.specs.Older.{older_row_of, older_rules, WasRefused};
+ghost use Rattle.duration_str.specs.Rules.{unit_of_word};
+ghost use Rattle.duration_str.specs.Units.{UnitRow};
+ghost use Rattle.duration_str.specs.declared.unit.TimeUnit.{TimeUnit as Unit};
 ghost use Rattle.uses.specs.Stored.{unit_named, unit_of_first};
 
 use duration_str::laws::{older_texts, one_sentence};
@@ -43,6 +46,22 @@ pub fn first_unit(text: &str, o: Options) -> Option<TimeUnit>
     let mut tokens = Tokens::new(text, o);
     tokens.next()?;
     unit_named(tokens.next()?.what)
+}
+
+/// Returns the unit that a stored name means, such as the unit of a chart's axis, and the unit's length in nanoseconds. A
+/// name that an older version knew means the same unit as then, with the same length.
+///
+/// ```text
+/// stored_unit("mon", Options::off()) // Some((TimeUnit::Month, 2_592_000_000_000_000))
+/// ```
+pub fn stored_unit(name: &str, o: Options) -> Option<(TimeUnit, u64)>
+    ensures { (unit : Unit) (row : UnitRow)
+        → unit_of_word (older_rules o) (chars name.now) ≡ Some unit → older_row_of unit ≡ Some row
+        → result ≡ Some (unit, row.nanos) }
+{
+    older_texts();
+    let unit = TimeUnit::from_word(name, o)?;
+    Some((unit, unit.nanos()))
 }
 
 /// The unit that a token names.

@@ -1,9 +1,7 @@
-use Rattle.duration_str.proofs.Common.{map, nanos_of, refl, shorter_units, unit_lengths, units_within, ◌++◌, ◌≡◌, arith, as_nanos, cases_lt, chars, inl, inr, IsMostWithin, IsPrintedWithin, List, off, ℕ}
+use Rattle.duration_str.proofs.Common.{map, nanos_of, refl, shorter_units, unit_lengths, units_within, ◌++◌, ◌≡◌, arith, as_nanos, cases_lt, chars, inl, inr, IsMostWithin, IsPrintedWithin, List, ℕ}
 use Rattle.uses.specs.Countdown.{coarse}
 use Rattle.duration_str.specs.Format.{chosen, is_in}
 use Rattle.uses.proofs.countdown.time_left.Goals as goal
-use Rattle.duration_str.specs.declared.unit.TimeUnit.TheVariants.{Second}
-use Rattle.std.proofs.Common.{Some}
 
 -- The format's units and all shorter ones are all units.
 all_lengths : map nanos_of (units_within coarse ++ shorter_units (units_within coarse)) ≡ unit_lengths
@@ -26,7 +24,7 @@ returns c =
           | inl less ↦ absurd (most.greatest left counts less (omega arith) keeps)
           | inr up ↦ omega (arith, most.never_more)
         ];
-        read = λ small. most.read (Some Second) off small;
+        read = most.read;
         again = most.again;
       },
     )

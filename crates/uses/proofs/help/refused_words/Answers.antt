@@ -1,9 +1,9 @@
 use Rattle.std.proofs.Common.{rules}
 use Rattle.std.specs.Str.{chars}
 use lib.Utf8.{encode}
-use Rattle.uses.proofs.HelpLemmas.{no_unit}
+use Rattle.uses.proofs.HelpLemmas.{replaced}
 use Rattle.uses.proofs.help.refused_words.Goals as goal
 
 pub returns : goal.returns
 unfolding chars encode
-returns c = search (rules, no_unit)
+returns c = search (rules, replaced)
