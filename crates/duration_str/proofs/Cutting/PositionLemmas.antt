@@ -1,9 +1,9 @@
 -- Lemmas about the steps of cutting, in terms of a text, the byte up to which it is cut, and the number of looks.
-use Rattle.duration_str.proofs.Common.{[], add-zero, ahead, and_from, ap, append-nil, append_assoc, append_cancel_right, arith, Between, Bool, byte_len, chars, chars-append, drop, drop-drop, encodes-chars, EndsRun, false, ForSome, if◌then◌else◌, is_blank, is_digit, is_some, is_unit_letter, IsCharBoundary, IsLexeme, IsTrue, IsUtf8, IsUtf8-drop, IsUtf8-take, length, length-append, length-drop, length-le-encodes, letter_number, List, list_all, list_all-append, meaning_of, None, number_after, number_of, Option, Options, packed_number, packed_number_after, Passes, refl, row_of, table_of, Rules, rules_of, slice_range, Some, Stands, StandsAt, sym, take, take-append-drop, TakesDigits, TakesLetters, TimeUnit, tokens_from, true, u64_from, unit_of_packed, unit_of_word, width, ℕ, ◌%◌, ◌*◌, ◌++◌, ◌+◌, ◌-◌, ◌<◌, ◌^◌, ◌∙◌, ◌∷◌, ◌≡◌, ◌≤◌}
+use Rattle.duration_str.proofs.Common.{[], add-zero, ahead, and_from, ap, append-nil, append_assoc, append_cancel_right, arith, Between, Bool, byte_len, chars, chars-append, drop, drop-drop, encodes-chars, EndsRun, false, ForSome, if◌then◌else◌, is_digit, is_some, is_unit_letter, IsCharBoundary, IsLexeme, IsTrue, IsUtf8, IsUtf8-drop, IsUtf8-take, length, length-append, length-drop, length-le-encodes, letter_number, List, list_all, list_all-append, meaning_of, None, number_after, number_of, Option, Options, packed_number, packed_number_after, Passes, refl, row_of, table_of, Rules, rules_of, slice_range, Some, Stands, StandsAt, sym, take, take-append-drop, TakesDigits, TakesLetters, TimeUnit, tokens_from, true, u64_from, unit_of_packed, unit_of_word, width, ℕ, ◌%◌, ◌*◌, ◌++◌, ◌+◌, ◌-◌, ◌<◌, ◌^◌, ◌∙◌, ◌∷◌, ◌≡◌, ◌≤◌, rules}
 pub use Rattle.duration_str.proofs.Cutting.TokenLemmas.{blanks_no_token, tokens_step}
 use Rattle.duration_str.specs.declared.settings.Settings.{Settings}
 use Rattle.duration_str.proofs.Characters.CharacterLemmas.{byte_len-append, width_some}
-use Rattle.duration_str.proofs.Characters.NumberLemmas.{decimal_digits, whole_number}
+use Rattle.duration_str.proofs.Characters.NumberLemmas.{decimal_digits}
 use Rattle.std.proofs.lemmas.Str.Parse.{digits_value_short}
 use Rattle.duration_str.proofs.Characters.PackedLemmas.{own_settings, exact, no_letter_name, no_long_name, unit_by_number}
 
@@ -129,7 +129,7 @@ short_number taken short =
     let cs = taken.run.characters in
     let few : length cs ≤ 19 = omega (arith, length-le-byte_len cs, taken.run.between.bytes, short) in
     let less = digits_value_short decimal_digits cs 19 taken.run.all few in
-    whole_number (number_of cs) _ taken.number (omega arith)
+    search rules
 
 -- The characters from `place` to `next` are unit letters, and `unit` is the unit that they name by these rules.
 pub record TakesWord (r : Rules) (text : List ℕ) (place next : ℕ) (unit : Option TimeUnit) : Type 0 where
@@ -195,11 +195,6 @@ packs_other {o} {word} {rest} {c} packed other =
     (rw (packed.whole, list_all-append (is_unit_letter o) packed.letters (c ∷ rest), packed.all, other) refl)
 
 -- ---- the first token that is left
-
--- skipping blanks leaves the same tokens
-pub blanks_passed : {text : List ℕ} {place next : ℕ} (o : Options) → Passes is_blank text place next
-    → tokens_from o place (ahead text place) ≡ tokens_from o next (ahead text next)
-blanks_passed {text} {place} {next} o run = grind (arith, blanks_no_token)
 
 pub token_taken : {text cs : List ℕ} {place next : ℕ} (o : Options) → Between text place next cs → IsLexeme o cs
     → EndsRun o cs (ahead text next)

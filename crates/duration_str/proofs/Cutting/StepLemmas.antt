@@ -1,10 +1,11 @@
 -- Lemmas about the steps of `Tokens`: what is ahead, and the next token.
 use Rattle.duration_str.proofs.Common.{[], ahead, arith, CondUnit, cut_place, ForSome, is_blank, is_digit, is_unit_letter, IsAhead, IsCharBoundary, IsSign, IsUtf8, IsUtf8-had, KeepsInput, length, length-drop, length-take-le, List, LooksAhead, None, Number, number_of, Operator, Option, options_of, Other, other, Passes, refl, Rules, rules, rules_at, rules_of, slice_range, Some, sort_of, source, Stands, StandsAt, Stops, sym, TakesDigits, TakesNumber, TakesToken, TakesTokenWith, Terminal, terminal_of, TimeUnit, Token, Tokens, tokens_left, TokenStart, true, u64_from, what_of, width, Word, word, YieldsNextToken, ℕ, ◌+◌, ◌<◌, ◌∙◌, ◌∷◌, ◌≡◌}
 use Rattle.duration_str.proofs.Characters.NumberLemmas.{bytes_of_digits}
-use Rattle.duration_str.proofs.Cutting.PositionLemmas.{blanks_passed, chars_between, place_at_end, TakesWord, token_taken}
+use Rattle.duration_str.proofs.Cutting.PositionLemmas.{chars_between, place_at_end, TakesWord, token_taken}
 use Rattle.duration_str.proofs.Cutting.SortLemmas.{digit_of_sort, first_token, letter_of_sort, number_stands, sign_of_sort, sign_sorts, sign_stands, StandsToken, word_stands}
 use Rattle.duration_str.specs.declared.token.Token.{Token as RustToken}
 use Rattle.duration_str.specs.declared.token.What.TheVariants as whats
+use Rattle.duration_str.proofs.Cutting.TokenLemmas.{blanks_no_token}
 
 pub keeps_all : (s : Tokens) → KeepsInput s s
 keeps_all s = record { text = refl; options = refl }
@@ -23,7 +24,7 @@ fewer_ahead kept past is = simp (kept.text, (past _ is).head) (omega arith)
 -- skipping the blanks from s to t leaves the same tokens
 pub looks_ahead : {s t : Tokens} (sort : Option TokenStart) → KeepsInput s t
     → Passes is_blank (source s) (cut_place s) (cut_place t) → IsAhead t sort → LooksAhead s t sort
-looks_ahead {s} sort kept blanks ahead = search (rules, blanks_passed)
+looks_ahead {s} sort kept blanks ahead = search (rules, blanks_no_token)
 
 pub none_left : (s : Tokens) → IsAhead s None → (tokens_left s ≡ []) × (cut_place s ≡ length (source s))
 none_left s end = search (rules, IsUtf8-had, place_at_end)
@@ -49,17 +50,12 @@ takes_token : {r : Rules} {s t : Tokens} {terminal : Terminal} → KeepsInput s 
     → StandsToken (rules_at r s) (source s) (cut_place s) (cut_place t) terminal → TakesToken r s t terminal
 takes_token {s = s} kept token = search (rules, token_taken)
 
--- a slice of the text of t, from s to t, is the same slice of the text of s
-same_slice : {s t : Tokens} {slice : List ℕ} {start : ℕ} → KeepsInput s t → start ≡ cut_place s
-    → slice ≡ slice_range (source t) start (cut_place t) → slice ≡ slice_range (source s) (cut_place s) (cut_place t)
-same_slice kept there is = simp (kept.text, there) at is
-
 -- The slice from s to t has the digits that were taken.
 pub digits_between : {s t : Tokens} {low start : ℕ} {slice : List ℕ} → KeepsInput s t
     → (taken : TakesDigits (source s) (cut_place s) (cut_place t) low) → start ≡ cut_place s
     → slice ≡ slice_range (source t) start (cut_place t) → IsUtf8 slice → slice ≡ taken.run.characters
 digits_between kept taken there is utf8 =
-    let same = chars_between taken.run.between (same_slice kept there is) utf8 in
+    let same = chars_between taken.run.between (simp (kept.text, there) at is) utf8 in
     sym (bytes_of_digits _ utf8 (rw same taken.run.all)) ∙ same
 
 pub takes_number : {s t : Tokens} {low : ℕ} {value : Option ℕ} → IsAhead s (Some Number) → KeepsInput s t
