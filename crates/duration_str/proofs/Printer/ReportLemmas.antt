@@ -8,12 +8,7 @@ use Rattle.duration_str.specs.Report.{columns_of, is_clear_text, is_wide, report
 -- Counting one more character keeps the total.
 pub columns_more : (rest after : List ℕ) (c n whole : ℕ) → IsUtf8 rest → rest ≡ encode_utf8 c ++ after
     → n + columns_of (chars rest) ≡ whole → (n + (1 + cond (is_wide c) 1 0)) + columns_of (chars after) ≡ whole
-columns_more rest after c n whole utf8 parts all =
-    omega (
-      arith,
-      sum_by-cons (λ d. cond (is_wide d) 1 0) c (chars after),
-      rw (chars_past_char rest after c utf8 parts) at all,
-    )
+columns_more rest after c n whole utf8 parts all = grind (arith, common_steps, sum_by-cons, chars_past_char)
 
 -- If no character is left, all columns are counted.
 pub columns_all : (rest : List ℕ) (n whole : ℕ) → length rest ≡ 0 → n + columns_of (chars rest) ≡ whole → n ≡ whole

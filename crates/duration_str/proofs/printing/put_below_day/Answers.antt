@@ -10,10 +10,6 @@ loop-i-init c = record {
   short = counts_short c.as_secs-secs.result c.subsec_nanos-nanos.result (omega arith) (omega arith);
 }
 
-pub put_spaced-end-requires-clause-short : goal.put_spaced-end-requires-clause-short
-put_spaced-end-requires-clause-short c =
-    c.loop-i.invariant.short c.loop-i.i 0 c.loop-i-test.true
-
 pub loop-i-preserved : goal.loop-i-preserved
 loop-i-preserved c = record {
   inside = omega arith;
