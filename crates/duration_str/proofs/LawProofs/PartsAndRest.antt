@@ -1,5 +1,5 @@
 -- The parts that a breakdown returns, and what they leave, add up to the duration.
-use Rattle.duration_str.proofs.Common.{[], ap, arith, List, PartsAndRest, TimeUnit, ℕ, ◌++◌, ◌+◌, ◌∙◌, ◌∷◌, ◌≡◌}
+use Rattle.duration_str.proofs.Common.{[], ap, arith, List, PartsAndRest, TimeUnit, ℕ, ◌++◌, ◌+◌, ◌∙◌, ◌∷◌, ◌≡◌, rules}
 use Rattle.duration_str.specs.Breakdown.{nanos_left, parts_left, sum_of_parts, YieldsPart}
 use Rattle.duration_str.specs.declared.breakdown.Breakdown.{Breakdown}
 use Rattle.std.specs.Iterator.{Yields}
@@ -16,7 +16,4 @@ add_up [] old new same = omega (arith, ap nanos_left same)
 add_up ((u, n) ∷ parts) old new (between, one, others) = omega (arith, one.rest, add_up parts between new others)
 
 pub parts_and_rest_hold : PartsAndRest
-parts_and_rest_hold = record {
-  first = λ old new parts are. come_first parts old new are;
-  rest = λ old new parts are. add_up parts old new are;
-}
+parts_and_rest_hold = search (rules, come_first, add_up)
