@@ -272,8 +272,7 @@ own_settings o = record { table = Own; default_unit = Some Second; options = o }
 pub unit_by_number : (settings : Settings) (w : List ℕ) → list_all (is_unit_letter settings.options) w ≡ true
     → unit_of_word (meaning_of settings) w ≡ unit_of_packed (table_of settings.table) (packed_number settings.options w)
 unfolding unit_of_packed
-unit_by_number settings w letters =
-    simp (λ (u : TimeUnit). named_by_number settings.table settings.options w u letters)
+unit_by_number settings w letters = search (rules, named_by_number)
 
 -- ---- slots
 

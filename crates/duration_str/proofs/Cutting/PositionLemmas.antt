@@ -81,9 +81,6 @@ packed_after-push : (o : Options) (n : ℕ) (cs : List ℕ) (c : ℕ)
 packed_after-push o n [] c = refl
 packed_after-push o n (d ∷ cs) c = packed_after-push o (n * 40 + letter_number o d) cs c
 
-pub digits_none : {text : List ℕ} {place : ℕ} → TakesDigits text place place 0
-digits_none = record { run = passes_none; number = refl }
-
 pub digits_head : {text : List ℕ} {place at next c value value' : ℕ} → TakesDigits text place at value
     → StandsAt text at next c → is_digit c ≡ true → value' ≡ (value * 10 + (c - 48)) % 2 ^ 64
     → TakesDigits text place next value'
@@ -190,9 +187,7 @@ packs_unit {o} {word} {n} packed short found =
 -- a word with a character that is no unit letter names no unit
 pub packs_other : {o : Options} {word rest : List ℕ} {c n : ℕ} → Packs o word (c ∷ rest) n → is_unit_letter o c ≡ false
     → None ≡ unit_of_word (rules_of o) word
-packs_other {o} {word} {rest} {c} packed other =
-    no_letter_name o word
-    (rw (packed.whole, list_all-append (is_unit_letter o) packed.letters (c ∷ rest), packed.all, other) refl)
+packs_other packed other = search (rules, no_letter_name, list_all-append)
 
 -- ---- the first token that is left
 

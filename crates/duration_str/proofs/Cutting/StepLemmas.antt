@@ -1,14 +1,11 @@
 -- Lemmas about the steps of `Tokens`: what is ahead, and the next token.
-use Rattle.duration_str.proofs.Common.{[], ahead, arith, CondUnit, cut_place, ForSome, is_blank, is_digit, is_unit_letter, IsAhead, IsCharBoundary, IsSign, IsUtf8, IsUtf8-had, KeepsInput, length, length-drop, length-take-le, List, LooksAhead, None, Number, number_of, Operator, Option, options_of, Other, other, Passes, refl, Rules, rules, rules_at, rules_of, slice_range, Some, sort_of, source, Stands, StandsAt, Stops, sym, TakesDigits, TakesNumber, TakesToken, TakesTokenWith, Terminal, terminal_of, TimeUnit, Token, Tokens, tokens_left, TokenStart, true, u64_from, what_of, width, Word, word, YieldsNextToken, ℕ, ◌+◌, ◌<◌, ◌∙◌, ◌∷◌, ◌≡◌}
+use Rattle.duration_str.proofs.Common.{[], ahead, arith, cut_place, ForSome, is_blank, is_digit, is_unit_letter, IsAhead, IsCharBoundary, IsSign, IsUtf8, IsUtf8-had, KeepsInput, length, length-drop, length-take-le, List, LooksAhead, None, Number, number_of, Option, options_of, Other, other, Passes, refl, Rules, rules, rules_at, rules_of, slice_range, Some, sort_of, source, Stands, StandsAt, Stops, sym, TakesDigits, TakesNumber, TakesToken, TakesTokenWith, Terminal, terminal_of, TimeUnit, Token, Tokens, tokens_left, TokenStart, u64_from, what_of, width, Word, word, YieldsNextToken, ℕ, ◌+◌, ◌<◌, ◌∙◌, ◌∷◌, ◌≡◌}
 use Rattle.duration_str.proofs.Characters.NumberLemmas.{bytes_of_digits}
 use Rattle.duration_str.proofs.Cutting.PositionLemmas.{chars_between, place_at_end, TakesWord, token_taken}
 use Rattle.duration_str.proofs.Cutting.SortLemmas.{digit_of_sort, first_token, letter_of_sort, number_stands, sign_of_sort, sign_sorts, sign_stands, StandsToken, word_stands}
 use Rattle.duration_str.specs.declared.token.Token.{Token as RustToken}
 use Rattle.duration_str.specs.declared.token.What.TheVariants as whats
 use Rattle.duration_str.proofs.Cutting.TokenLemmas.{blanks_no_token}
-
-pub keeps_all : (s : Tokens) → KeepsInput s s
-keeps_all s = record { text = refl; options = refl }
 
 pub keeps_on : {s m t : Tokens} → KeepsInput s m → KeepsInput m t → KeepsInput s t
 keeps_on kept later = record { text = later.text ∙ kept.text; options = later.options ∙ kept.options }
@@ -38,11 +35,6 @@ first_left r s sort h =
     let after = ahead (source s) (cut_place s + width h.character) in
     let (cs, rest, is, sort_is) = first_token (rules_at r s) (cut_place s) h.character after h.not_blank in
     (cs, rest, rw stands.head is, rw h.is_sort sort_is)
-
--- a word starts with a unit letter
-pub letter_ahead : (s : Tokens) (c : ℕ) → IsAhead s (Some Word) → s.head ≡ Some c
-    → is_unit_letter (options_of s) c ≡ true
-letter_ahead s c h is = search (rules)
 
 -- ---- the next token
 
@@ -82,11 +74,6 @@ takes_sign {s} r sort sign h kept past =
     let c = h.character in
     let (no_digit, no_letter, sort_is) = sign_of_sort (options_of s) c sort sign h.is_sort in
     search (rules, takes_token, sign_stands, sign_sorts)
-
--- a terminal with the sort of an operator is that operator
-pub sign_what : (terminal : Terminal) (op : CondUnit) → Operator op ≡ sort_of terminal
-    → whats.Operator op ≡ what_of terminal
-sign_what terminal op e = search rules
 
 pub other_what : (terminal : Terminal) → Other ≡ sort_of terminal → whats.Other ≡ what_of terminal
 other_what other e = refl

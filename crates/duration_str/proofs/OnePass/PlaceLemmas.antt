@@ -1,5 +1,5 @@
 -- Lemmas about the place of a fault, the token there, and the answer to a whole text.
-use Rattle.duration_str.proofs.Common.{[], and_parts, answer, answer_left, ap, append-nil, append_assoc, AreTokens, arith, Bool, Bor, byte_len, cases_Bool, Cause, chars, chars-append, chars-nil, common_steps, CondUnit, drop, drop-nil, early, early_fault, Empty, encodes, encodes-append, encodes-chars, eq-eqb, Err, evaluation_fault, false, fault_of_terms, ForSome, found_token, IfSome, IsCharBoundary, IsCharBoundary-at_seam, IsCharBoundary-start, IsMissingAtEnd, IsNone, IsRefused, IsSliceOf, IsUtf8, IsUtf8-take, late, late_fault, length, length-append, length-encode, lexemes_of, List, map, ne_eqb, None, Option, Options, options_of, or_else, place_of, refl, rest_from, rest_of, Result, Rules, running_fault, scalars, scalars-chars, source, start_after, start_left, suc, sym, Syntax, syntax_fault, take, take-add, Term, Terminal, terminal_of, terminals_left, Token, token_at, Tokens, tokens_left, tokens_of, true, unless, zero, ℕ, ◌++◌, ◌+◌, ◌-◌, ◌<◌, ◌==◌, ◌↔◌, ◌∙◌, ◌∷◌, ◌≡◌, ◌≤◌, rules}
+use Rattle.duration_str.proofs.Common.{[], and_parts, answer, answer_left, ap, append-nil, append_assoc, AreTokens, arith, Bool, Bor, byte_len, cases_Bool, Cause, chars, chars-append, common_steps, CondUnit, drop, drop-nil, early, early_fault, encodes, encodes-append, encodes-chars, eq-eqb, Err, evaluation_fault, false, fault_of_terms, ForSome, found_token, IfSome, IsCharBoundary, IsCharBoundary-at_seam, IsCharBoundary-start, IsMissingAtEnd, IsNone, IsRefused, IsSliceOf, IsUtf8, IsUtf8-take, late, late_fault, length, length-append, length-encode, lexemes_of, List, map, ne_eqb, None, Option, Options, options_of, or_else, place_of, refl, rest_from, rest_of, Result, Rules, running_fault, scalars, scalars-chars, source, start_after, start_left, suc, sym, Syntax, syntax_fault, take, take-add, Term, Terminal, terminal_of, terminals_left, Token, token_at, Tokens, tokens_left, tokens_of, true, unless, zero, ℕ, ◌++◌, ◌+◌, ◌-◌, ◌<◌, ◌==◌, ◌↔◌, ◌∙◌, ◌∷◌, ◌≡◌, ◌≤◌, rules}
 use Rattle.duration_str.specs.OtherResults.{ReachesPlace}
 use Rattle.duration_str.specs.Internal.Rest.{IsPlacedUpTo}
 use Rattle.duration_str.proofs.Characters.CharacterLemmas.{byte_len-append}
@@ -173,6 +173,3 @@ text_answer r {bs} tokens utf8 filled text options all is =
     let same : rest_from r (byte_len (chars bs)) (tokens_of r.options (chars bs)) ≡ rest_of r tokens =
     λ i. rest_from (record r { options = (sym options) i }) (len i) ((sym all) i) in
     grind (arith, all_terminals, same_start) ∙ ap (answer_left r) same ∙ sym is
-
-pub empty_answer : (r : Rules) (bs : List ℕ) → length bs ≡ 0 → answer r (chars bs) ≡ Err Empty
-empty_answer r bs h = grind (arith, common_steps, chars-nil)

@@ -67,9 +67,7 @@ pub record EvaluatesTo (r : Rules) (terminals : List Terminal) (nanos : ℕ) : T
 
 pub read_terminals : {r : Rules} {text : List ℕ} {nanos : ℕ} → IsRead r text nanos
     → EvaluatesTo r (terminals_of r text) nanos
-read_terminals {r} {text} read =
-    let same = sentence_terminals r text read.lexemes read.spells in
-    record { sentence = rw same at read.spells.0; evaluates = rw same at read.evaluates; value = rw same at read.value }
+read_terminals {r} {text} read = search (rules, sentence_terminals)
 
 pub read_sentence : {r : Rules} {text : List ℕ} {nanos : ℕ} (lexemes : List (List ℕ)) → IsSentenceOf r lexemes text
     → IsRead r text nanos → EvaluatesTo r (map (terminal_of r) lexemes) nanos
@@ -308,6 +306,4 @@ parses_as bytes (Err f) parsed = parsed.refused
 
 pub same_on_err : (P : Cause → Type 0) (n : Result ℕ Fault) (r : Result Duration Fault) → IsDurationOf n r
     → IfErr n (λ f. P f.cause) → IfErr r (λ f. P f.cause)
-same_on_err P (Ok nanos) (Ok d) is h = h
-same_on_err P (Ok nanos) (Err f) is h = absurd is
-same_on_err P (Err f) r is h = rw is h
+same_on_err P a b same h = search rules
