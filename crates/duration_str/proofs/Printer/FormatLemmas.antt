@@ -195,8 +195,7 @@ name_space : (u : TimeUnit)
     → take (length (encode_utf8_all (row_of u).printed) + 1) (printed_row u).letters
     ≡ encode_utf8_all (row_of u).printed ++ 32 ∷ []
 unfolding lib.Utf8.encode
-name_space = each_unit (λ u. take (length (encode_utf8_all (row_of u).printed) + 1) (printed_row u).letters
-    ≡ encode_utf8_all (row_of u).printed ++ 32 ∷ []) assumption
+name_space = search (rules, each_unit)
 
 letters_len : (u : TimeUnit) → length (printed_row u).letters ≡ 4
 unfolding lib.Utf8.encode

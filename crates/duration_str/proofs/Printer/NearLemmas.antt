@@ -37,9 +37,7 @@ found_among small (word ∷ words) name rows = search (rules, cases_Bool, found_
 
 own_among : (small : List ℕ) → is_among us_words small ≡ false → (u : TimeUnit)
     → is_among (own_words u) small ≡ is_among (near_words u) small
-own_among small none =
-    each_unit (λ u. is_among (own_words u) small ≡ is_among (near_words u) small)
-    (refl, (refl, (refl, (refl, (refl, (refl, (refl, (refl, (refl, (grind arith, (refl, tt)))))))))))
+own_among small none = search (rules, each_unit)
 
 found_unit : (small : List ℕ) (us : List TimeUnit) → is_among us_words small ≡ false → name_beside small (rows_of us)
     ≡ option_map encode_utf8_all (option_map (λ u. (row_of u).printed) (find (λ u. is_among (near_words u) small) us))

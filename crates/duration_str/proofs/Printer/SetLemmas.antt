@@ -1,7 +1,7 @@
 -- Lemmas about the units of a set, which its bits give.
 use Rattle.duration_str.proofs.Common.{drop, drop_all, drop_more, last_unit, length, slice_index_or, units_of, ALL, add-zero, and_parts, ap, Bool, suc, ℕ, zero, arith, cases_Bool, div-add-mod', eqb, eqb-true, false, inl, inr, leb, Hour, leb-true, length-drop, List, map, not-true, Printed, printed_row, nanos_of, nat_tests, not, rank_of, refl, rules, sym, TimeUnit, true, Units, Year, units, [], ◌%◌, ◌&&◌, ◌||◌, ◌*◌, ◌+◌, ◌/◌, ◌<◌, ◌^◌, ◌∙◌, ◌∷◌, ◌≡◌, ◌≢◌, ◌≤◌}
 use Rattle.duration_str.proofs.Characters.UnitLemmas.{Each, each_unit}
-use Rattle.duration_str.specs.Format.{chosen, intersection, down_to, is_in, is_one_of, set_of, up_to, with_each, with_unit}
+use Rattle.duration_str.specs.Format.{chosen, intersection, down_to, is_in, is_one_of, up_to, with_each, with_unit}
 use Rattle.std.proofs.lemmas.Nat.{one_shl}
 use lib.Count.{count_trailing_zeros}
 use Rattle.std.specs.Int.{bit_at, bit_not, trailing_zeros, w16, w32}
@@ -162,9 +162,7 @@ below test (suc n) j h small =
 
 -- A unit's index in the table is its rank.
 rank_at : (j : ℕ) → j < 11 → rank_of (slice_index_or units j Year) ≡ j
-rank_at j h =
-    eqb-true (rank_of (slice_index_or units j Year)) j
-    (below (λ (k : ℕ). eqb (rank_of (slice_index_or units k Year)) k) 11 j refl h)
+rank_at j h = search (rules, eqb-true, below)
 
 in_at : (bits j : ℕ) → j < 11 → is_in (record { bits = bits }) (slice_index_or units j Year) ≡ eqb (bit_at bits j) 1
 unfolding is_in
@@ -278,13 +276,8 @@ unfolding is_in
 in_none u = rw (bit_at-zero (rank_of u))
 
 one_bit : (n : ℕ) → n < 2 → (n ≡ 0) ⊎ (n ≡ 1)
-one_bit zero h = inl refl
-one_bit (suc zero) h = inr refl
-one_bit (suc (suc n)) h = absurd (omega arith)
+one_bit n h = search rules
 
 pub in_intersection : (a b : Units) (u : TimeUnit) → is_in (intersection a b) u ≡ (is_in a u && is_in b u)
 unfolding is_in
 in_intersection a b u = search (rules, bit_at_and, bit_at-lt, one_bit)
-
-pub in_set_of : (us : List TimeUnit) (u : TimeUnit) → is_in (set_of us) u ≡ is_one_of us u
-in_set_of us u = rw (in_each us (record { bits = 0 }) u, in_none u) (search rules)

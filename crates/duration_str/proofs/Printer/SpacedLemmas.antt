@@ -1,5 +1,5 @@
 -- Lemmas about a text with a space after each of its parts, and about the counts of a duration below a day.
-use Rattle.duration_str.proofs.Common.{append_assoc, arith, counts_of, decimal, encode_utf8_all, length, length-append, length-decimal-le_wide, length-take-le, List, take-append_seam, row_of, rules, Short, sym, take, TimeUnit, unit_lengths, with_gap, with_part, [], ℕ, ◌%◌, ◌*◌, ◌++◌, ◌+◌, ◌-◌, ◌/◌, ◌<◌, ◌^◌, ◌∙◌, ◌∷◌, ◌≡◌, ◌≤◌, All, ap, drop, drop_more, get_or, with_counts, Year}
+use Rattle.duration_str.proofs.Common.{append_assoc, arith, counts_of, decimal, encode_utf8_all, length, length-append, length-decimal-le_wide, length-take-le, List, take-append_seam, row_of, rules, Short, sym, take, TimeUnit, unit_lengths, with_gap, with_part, [], ℕ, ◌%◌, ◌*◌, ◌++◌, ◌+◌, ◌-◌, ◌/◌, ◌<◌, ◌^◌, ◌∙◌, ◌∷◌, ◌≡◌, ◌≤◌, ap, drop, drop_more, get_or, with_counts, Year}
 use Rattle.duration_str.proofs.Printer.DigitLemmas.{some_decimal}
 use Rattle.std.proofs.lemmas.List.{take-take}
 
@@ -52,20 +52,9 @@ counts_below_day secs nanos day second =
     let rest : nanos % 1000000 % 1000 / 1 ≡ nanos % 1000 = omega arith in
     cc
 
-abbrev IsShort : ℕ → Type 0
-IsShort n = n < 1000
-
--- These counts have at most three digits.
-pub counts_short : (secs nanos : ℕ) → secs < 24 * 3600 → nanos < 10 ^ 9
-    → All IsShort
-    (secs / 3600 ∷ secs / 60 % 60 ∷ secs % 60 ∷ nanos / 1000000 ∷ nanos / 1000 % 1000 ∷ nanos % 1000 ∷ [])
-counts_short secs nanos day second = search rules
-
 -- After the next part, the parts that are left give the same text.
 pub next_part : (bytes : List ℕ) (us : List TimeUnit) (counts : List ℕ) (i j : ℕ) → j ≡ 5 + i → i < length counts
     → 5 + i < length us
     → with_counts Short (with_part Short bytes (get_or us j Year) (get_or counts i 0)) (drop (5 + (i + 1)) us)
     (drop (i + 1) counts) ≡ with_counts Short bytes (drop (5 + i) us) (drop i counts)
-next_part bytes us counts i j same in_counts in_units =
-    let next : 5 + (i + 1) ≡ 5 + i + 1 = omega arith in
-    rw (same, next, drop_more us (5 + i) Year in_units, drop_more counts i 0 in_counts)
+next_part bytes us counts i j same in_counts in_units = search (rules, drop_more)
