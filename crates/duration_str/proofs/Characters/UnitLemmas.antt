@@ -55,6 +55,9 @@ are_apart u v = list_all (λ name. not (list_any (bytes_eq name) (all_names v)))
 abbrev same_or_apart : TimeUnit → TimeUnit → Bool
 same_or_apart u v = eqb (nanos_of u) (nanos_of v) || are_apart u v
 
+all_apart : (u v : TimeUnit) → same_or_apart u v ≡ true
+all_apart u v = all_units (same_or_apart u) (all_units (λ w. list_all (same_or_apart w) units) refl u) v
+
 unit_by_length : (u : TimeUnit) → find (λ v. eqb (nanos_of v) (nanos_of u)) units ≡ Some u
 unit_by_length = each_unit (λ u. find (λ v. eqb (nanos_of v) (nanos_of u)) units ≡ Some u) assumption
 
@@ -74,7 +77,7 @@ among_all table o w u h = rw (list_any-append (bytes_eq (comparison_form o w)) (
 
 module _ (o : Options) where
   one_unit : (w : List ℕ) (u v : TimeUnit) → is_named (rules_of o) w u ≡ true → is_named (rules_of o) w v ≡ true → u ≡ v
-  one_unit w u v h k = elim (or_cases (eqb (nanos_of u) (nanos_of v)) (are_apart u v) (all_units (same_or_apart u) (all_units (λ w. list_all (same_or_apart w) units) refl u) v)) [
+  one_unit w u v h k = elim (or_cases (eqb (nanos_of u) (nanos_of v)) (are_apart u v) (all_apart u v)) [
     | inl same ↦ same_length u v (eqb-true (nanos_of u) (nanos_of v) same)
     | inr apart ↦
         let other = λ (name : List ℕ). not (list_any (bytes_eq name) (all_names v)) in
