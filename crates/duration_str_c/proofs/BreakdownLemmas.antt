@@ -1,11 +1,10 @@
 -- Lemmas about the counts of units among the parts of a duration.
-use Rattle.std.proofs.Common.{ap, arith, eqb-true, inl, inr, List, map, refl, rules, slice_set, [], ℕ, ◌∙◌, ◌++◌, ◌∷◌, ◌+◌, ◌-◌, ◌*◌, ◌<◌, ◌==◌, ◌^◌, ◌≡◌, ◌≤◌, if◌then◌else◌, nat_lt}
+use Rattle.std.proofs.Common.{ap, arith, eqb-true, inl, inr, List, map, refl, rules, slice_set, [], ℕ, ◌∙◌, ◌++◌, ◌∷◌, ◌+◌, ◌-◌, ◌<◌, ◌==◌, ◌^◌, ◌≡◌, ◌≤◌, if◌then◌else◌, nat_lt}
 use Rattle.std.proofs.lemmas.Bool.{cases_Bool}
 use Rattle.std.proofs.lemmas.Bool.Decides.{nat_tests}
-use Rattle.std.specs.Iterator.{Yields}
 use Rattle.std.specs.Prelude.{Any, count_by, ⊤}
-use Rattle.duration_str.specs.Breakdown.{AreParts, nanos_left, parts_left, sum_of_parts, YieldsPart}
-use Rattle.duration_str.specs.Format.{chosen, counts_within, is_in}
+use Rattle.duration_str.specs.Breakdown.{AreParts, parts_left, sum_of_parts}
+use Rattle.duration_str.specs.Format.{chosen, counts_within}
 use Rattle.duration_str.specs.Internal.UnitTable.{units_of}
 use Rattle.duration_str.specs.Printing.{nonzero, weighted_sum}
 use Rattle.duration_str.specs.Units.{nanos_of, rank_of, units}
@@ -35,18 +34,14 @@ from_less j k (u ∷ us) h (from, are) = (omega arith, are)
 chosen_from : (set : Units) (k : ℕ) (us : List TimeUnit) → AreFrom k us → AreFrom k (chosen set us)
 unfolding chosen
 chosen_from set k [] are = are
-chosen_from set k (u ∷ us) (from, are) = elim (cases_Bool (is_in set u)) [
-  | inl holds ↦ rw holds (from, chosen_from set (rank_of u + 1) us are)
-  | inr fails ↦ rw fails (chosen_from set k us (from_less k (rank_of u + 1) us (omega arith) are))
-]
+chosen_from set k (u ∷ us) (from, are) =
+    search (rules, cases_Bool, from_less, chosen_from set (rank_of u + 1) us are, chosen_from set k us)
 
 nonzero_from : (k : ℕ) (us : List TimeUnit) (counts : List ℕ) → AreFrom k us → PartsFrom k (nonzero us counts)
 nonzero_from k [] counts are = are
 nonzero_from k (u ∷ us) [] are = tt
-nonzero_from k (u ∷ us) (n ∷ counts) (from, are) = elim (cases_Bool (n == 0)) [
-  | inl holds ↦ rw holds (nonzero_from k us counts (from_less k (rank_of u + 1) us (omega arith) are))
-  | inr fails ↦ rw fails (from, nonzero_from (rank_of u + 1) us counts are)
-]
+nonzero_from k (u ∷ us) (n ∷ counts) (from, are) =
+    search (rules, cases_Bool, from_less, nonzero_from k us counts, nonzero_from (rank_of u + 1) us counts are)
 
 pub parts_left_from : (b : Breakdown) → PartsFrom 0 (parts_left b)
 parts_left_from b =
@@ -61,10 +56,8 @@ same_rank u v same = ap (λ (n : ℕ). count_by (λ w. nat_lt n (nanos_of w)) un
 count_none : (u : TimeUnit) (k : ℕ) (parts : List (TimeUnit × ℕ)) → rank_of u < k → PartsFrom k parts
     → count_of parts u ≡ 0
 count_none u k [] below are = refl
-count_none u k ((v, n) ∷ parts) below (from, are) = elim (cases_Bool (nanos_of v == nanos_of u)) [
-  | inl holds ↦ absurd (omega (arith, same_rank v u (eqb-true (nanos_of v) (nanos_of u) holds)))
-  | inr fails ↦ rw fails (count_none u (rank_of v + 1) parts (omega arith) are)
-]
+count_none u k ((v, n) ∷ parts) below (from, are) =
+    search (rules, cases_Bool, same_rank, eqb-true, count_none u (rank_of v + 1) parts)
 
 rank_from : (k : ℕ) (before after : List (TimeUnit × ℕ)) (u : TimeUnit) (n : ℕ)
     → PartsFrom k (before ++ ((u, n) ∷ after)) → k ≤ rank_of u
@@ -74,14 +67,8 @@ rank_from k ((v, m) ∷ before) after u n (from, are) = omega (arith, rank_from 
 count_among : (k : ℕ) (before after : List (TimeUnit × ℕ)) (u : TimeUnit) (n : ℕ)
     → PartsFrom k (before ++ ((u, n) ∷ after)) → count_of (before ++ ((u, n) ∷ after)) u ≡ n
 count_among k [] after u n are = search (rules, nat_tests)
-count_among k ((v, m) ∷ before) after u n (from, are) = elim (cases_Bool (nanos_of v == nanos_of u)) [
-  | inl holds ↦ absurd (omega (
-    arith,
-    rank_from (rank_of v + 1) before after u n are,
-    same_rank v u (eqb-true (nanos_of v) (nanos_of u) holds),
-  ))
-  | inr fails ↦ rw fails (count_among (rank_of v + 1) before after u n are)
-]
+count_among k ((v, m) ∷ before) after u n (from, are) =
+    search (rules, cases_Bool, rank_from, same_rank, eqb-true, count_among (rank_of v + 1) before after u n are)
 
 large_at : (f : TimeUnit → ℕ) (u : TimeUnit) → 2 ^ 64 ≤ f u → Any (λ n. 2 ^ 64 ≤ n) (map f units)
 large_at f Year h = (0, f Year, omega arith, refl, h)
@@ -116,17 +103,7 @@ with_value f u n v = if nanos_of u == nanos_of v then n else f v
 
 value_set : (f : TimeUnit → ℕ) (u : TimeUnit) (n : ℕ)
     → slice_set (map f units) (rank_of u) n ≡ map (with_value f u n) units
-value_set f Year n = refl
-value_set f Quarter n = refl
-value_set f Month n = refl
-value_set f Week n = refl
-value_set f Day n = refl
-value_set f Hour n = refl
-value_set f Minute n = refl
-value_set f Second n = refl
-value_set f MilliSecond n = refl
-value_set f MicroSecond n = refl
-value_set f NanoSecond n = refl
+value_set f u n = search rules
 
 same_values : (f g : TimeUnit → ℕ) (us : List TimeUnit) → ((u : TimeUnit) → f u ≡ g u) → map f us ≡ map g us
 same_values f g [] same = refl
@@ -134,20 +111,13 @@ same_values f g (u ∷ us) same = rw (same u, same_values f g us same)
 
 value_after : (f : TimeUnit → ℕ) (k : ℕ) (u : TimeUnit) (n : ℕ) → ((v : TimeUnit) → k ≤ rank_of v → f v ≡ 0)
     → k ≤ rank_of u → (v : TimeUnit) → rank_of u + 1 ≤ rank_of v → with_value f u n v ≡ 0
-value_after f k u n none from v above = elim (cases_Bool (nanos_of u == nanos_of v)) [
-  | inl holds ↦ absurd (omega (arith, same_rank u v (eqb-true (nanos_of u) (nanos_of v) holds)))
-  | inr fails ↦ rw fails (none v (omega arith))
-]
+value_after f k u n none from v above = search (rules, cases_Bool, same_rank, eqb-true)
 
 value_and_count : (f : TimeUnit → ℕ) (k : ℕ) (u : TimeUnit) (n : ℕ) (parts : List (TimeUnit × ℕ))
     → ((v : TimeUnit) → k ≤ rank_of v → f v ≡ 0) → k ≤ rank_of u → PartsFrom (rank_of u + 1) parts → (v : TimeUnit)
     → with_value f u n v + count_of parts v ≡ f v + count_of ((u, n) ∷ parts) v
-value_and_count f k u n parts none from are v = elim (cases_Bool (nanos_of u == nanos_of v)) [
-  | inl holds ↦
-      let rank = same_rank u v (eqb-true (nanos_of u) (nanos_of v) holds) in
-      rw holds (omega (arith, none v (omega arith), count_none v (rank_of u + 1) parts (omega arith) are))
-  | inr fails ↦ rw fails refl
-]
+value_and_count f k u n parts none from are v =
+    search (rules, cases_Bool, same_rank, eqb-true, count_none)
 
 with_counts_after : (f : TimeUnit → ℕ) (k : ℕ) (parts : List (TimeUnit × ℕ))
     → ((v : TimeUnit) → k ≤ rank_of v → f v ≡ 0) → PartsFrom k parts
@@ -166,29 +136,13 @@ with_counts_all parts are =
     with_counts_after (λ u. 0) 0 parts (λ v h. refl) are
     ∙ same_values (λ v. 0 + count_of parts v) (count_of parts) units (λ v. omega arith)
 
--- ---- The parts that were yielded, and those that are left
-
-pub come_first : (parts : List (TimeUnit × ℕ)) (old new : Breakdown) → Yields YieldsPart old parts new
-    → parts_left old ≡ parts ++ parts_left new
-come_first [] old new same = ap parts_left same
-come_first (part ∷ parts) old new (between, one, others) =
-    one.first ∙ ap (λ (ps : List (TimeUnit × ℕ)). part ∷ ps) (come_first parts between new others)
-
-pub add_up : (parts : List (TimeUnit × ℕ)) (old new : Breakdown) → Yields YieldsPart old parts new
-    → nanos_left old ≡ sum_of_parts parts + nanos_left new
-add_up [] old new same = omega (arith, ap nanos_left same)
-add_up ((u, n) ∷ parts) old new (between, one, others) = omega (arith, one.rest, add_up parts between new others)
-
 -- ---- The parts are not above the duration
 
 sum_nonzero : (us : List TimeUnit) (counts : List ℕ)
     → sum_of_parts (nonzero us counts) ≡ weighted_sum (map nanos_of us) counts
 sum_nonzero [] counts = refl
 sum_nonzero (u ∷ us) [] = refl
-sum_nonzero (u ∷ us) (n ∷ counts) = elim (cases_Bool (n == 0)) [
-  | inl holds ↦ rw (holds, eqb-true n 0 holds) (omega (arith, sum_nonzero us counts))
-  | inr fails ↦ rw fails (ap (λ (m : ℕ). n * nanos_of u + m) (sum_nonzero us counts))
-]
+sum_nonzero (u ∷ us) (n ∷ counts) = search (rules, cases_Bool, eqb-true, sum_nonzero us counts)
 
 pub parts_within : (format : Format) (nanos : ℕ) (parts : List (TimeUnit × ℕ)) → AreParts format nanos parts
     → sum_of_parts parts ≤ nanos

@@ -24,9 +24,7 @@ module _ (o : Options) where
   ends_at_blank (c ∷ cs) (d ∷ rest) more h = h
 
   ends_earlier : (cs front rest : List ℕ) → EndsRun o cs (front ++ rest) → EndsRun o cs front
-  ends_earlier [] front rest h = tt
-  ends_earlier (c ∷ cs) [] rest h = refl
-  ends_earlier (c ∷ cs) (d ∷ front) rest h = h
+  ends_earlier cs front rest h = search rules
 
   -- ---- Split at a token
 

@@ -9,10 +9,7 @@ use Rattle.uses.specs.Portable.{HasSameCause, HasSameCauseByAll, HasSameValue, H
 -- If `b` and `d` are equal, or if the property holds for both values of Bool or for neither, it holds for `b` exactly
 -- if it holds for `d`.
 either_way : (P : Bool → Type 0) (b d : Bool) → (beq b d ≡ false → (P true ↔ P false)) → (P b ↔ P d)
-either_way P true true ways = (λ h. h, λ h. h)
-either_way P true false ways = ways refl
-either_way P false true ways = ((ways refl).1, (ways refl).0)
-either_way P false false ways = (λ h. h, λ h. h)
+either_way P b d ways = search rules
 
 last_passes : (others same test : Bool) → (others && (same || test)) ≡ true → same ≡ false → test ≡ true
 last_passes true false test h differ = h

@@ -1,5 +1,5 @@
 -- Lemmas about characters: their classes, which exclude one another, their widths and their bytes.
-use Rattle.duration_str.proofs.Common.{[], add-zero, ahead, and_from, and_parts, are_of_one_run, arith, Bool, byte_len, chars, chars-nil, chars_past_char, CondUnit, drop, drop_all, drop_more, drop_past_char, encode_ascii, encode_utf8, encode_utf8_all, encodes-chars, false, false_from_ne_true, get_or, is_blank, is_digit, is_unit_letter, IsCharBoundary, IsCharBoundary-past_char, IsTrue, IsUtf8, IsUtf8-drop, leb, len_utf8, length, List, list_all, nat_tests, operator_of, Options, or_cases, refl, rules, scalar, scalar_cases, scalars, scalars-chars, Some, Stands, suc, sym, true, width, zero, ℕ, ◌&&◌, ◌++◌, ◌+◌, ◌<◌, ◌||◌, ◌∷◌, ◌≡◌, ◌≤◌, ◌⊎◌}
+use Rattle.duration_str.proofs.Common.{[], add-zero, ahead, and_from, and_parts, are_of_one_run, arith, Bool, byte_len, chars, chars-nil, chars_past_char, drop, drop_all, drop_more, drop_past_char, encode_ascii, encode_utf8, encode_utf8_all, encodes-chars, false, false_from_ne_true, get_or, is_blank, is_digit, is_unit_letter, IsCharBoundary, IsCharBoundary-past_char, IsTrue, IsUtf8, IsUtf8-drop, leb, len_utf8, length, List, list_all, nat_tests, Options, or_cases, refl, rules, scalar, scalar_cases, scalars, scalars-chars, Stands, suc, sym, true, width, zero, ℕ, ◌&&◌, ◌++◌, ◌+◌, ◌<◌, ◌||◌, ◌∷◌, ◌≡◌, ◌≤◌, ◌⊎◌}
 
 -- Characters that pass a test also pass a weaker test.
 pub all_weaker : (p q : ℕ → Bool) (cs : List ℕ) → ((c : ℕ) → p c ≡ true → q c ≡ true) → IsTrue (list_all p cs)
@@ -16,9 +16,6 @@ digit-not_blank c e = grind (arith, nat_tests)
 
 pub letter-not_blank : (o : Options) (c : ℕ) → is_unit_letter o c ≡ true → is_blank c ≡ false
 letter-not_blank o c e = let above = letter_above o c e in grind (arith, nat_tests)
-
-pub operator-not_blank : (c : ℕ) (op : CondUnit) → operator_of c ≡ Some op → is_blank c ≡ false
-operator-not_blank c op e = grind (arith, nat_tests)
 
 pub digit-not_letter : (o : Options) (c : ℕ) → is_digit c ≡ true → is_unit_letter o c ≡ false
 digit-not_letter o c e = false_from_ne_true _ (λ t. let above = letter_above o c t in grind (arith, nat_tests))

@@ -1,5 +1,5 @@
 -- The definitions about digits agree with those of Rust's standard library.
-use Rattle.duration_str.proofs.Common.{[], and_parts, ap, arith, Bool, cases_Bool, cases_lt, chars, common_steps, cond-true, decimal, decimal_nonempty, digits_decimal, digits_value-decimal, drop, drop-cons, encodes-chars, encodes-IsAscii, false, fits, get_or, inl, inr, is_digit, IsAscii-from_digits, IsNumber, IsTrue, IsUtf8, le-ltb, length, length-drop, List, list_all, list_all-append, lt-ltb, mul-pos, nat_le, nat_tests, number, number_after, number_of, Option, pow-suc, refl, Result, Rules, rules, Some, suc, sym, take, take-append-drop, terminal_of, true, u64_from, ℕ, ◌%◌, ◌&&◌, ◌*◌, ◌++◌, ◌+◌, ◌-◌, ◌<◌, ◌==◌, ◌^◌, ◌||◌, ◌∙◌, ◌∷◌, ◌≡◌, ◌≤◌}
+use Rattle.duration_str.proofs.Common.{[], and_parts, ap, arith, Bool, cases_Bool, cases_lt, chars, common_steps, cond-true, decimal, decimal_nonempty, digits_decimal, digits_value-decimal, drop, drop-cons, encodes-chars, encodes-IsAscii, false, fits, get_or, inl, inr, is_digit, IsAscii-from_digits, IsNumber, IsTrue, IsUtf8, le-ltb, length, length-drop, List, list_all, list_all-append, lt-ltb, mul-pos, nat_le, nat_tests, number, number_after, number_of, Option, pow-suc, refl, Result, Rules, rules, suc, sym, take, take-append-drop, terminal_of, true, u64_from, ℕ, ◌%◌, ◌&&◌, ◌*◌, ◌++◌, ◌+◌, ◌-◌, ◌<◌, ◌==◌, ◌^◌, ◌||◌, ◌∙◌, ◌∷◌, ◌≡◌}
 use Rattle.std.proofs.lemmas.Str.Parse.{digits_value_short, IsNumeralModel, numerals_by_fold}
 use native.Mathlib.Nat.{pow-le-pow_right}
 use Rattle.std.specs.Bool.{then_some}
@@ -44,11 +44,6 @@ number_of-others (c ∷ cs) all h =
           omega arith
     ]
 
-long_value : (zeros : Bool) (front first last low n : ℕ) → (zeros ≡ true → front ≡ 0) → (zeros ≡ false → 0 < front)
-    → 48 ≤ first → last < 10 ^ 19 → n ≡ (front * 10 + (first - 48)) * 10 ^ 19 + last → low ≡ n % 2 ^ 64
-    → (zeros && (first == 48 || (first == 49 && nat_le 10000000000000000000 low))) ≡ fits n
-long_value zeros front first last low n none some digit short is same = search (rules, le-ltb)
-
 -- More than 19 digits write a number below 2^64 exactly if only zeros stand before the last 20 digits, and the first of
 -- these 20 is a zero, or is a one while the number modulo 2^64 is at least 10^19.
 pub long_number : (digits : List ℕ) (low : ℕ) → 19 < length digits → IsTrue (list_all is_digit digits)
@@ -71,17 +66,13 @@ long_number digits low long all same =
     let value : number_of digits ≡ (number_of front * 10 + (first - 48)) * 10 ^ length last + number_of last =
     sym (ap number_of split) ∙ number_after-append 0 front (first ∷ last)
     ∙ number_after-is (number_of front * 10 + (first - 48)) last in
-    grind (arith, common_steps, long_value, number_of-zeros, number_of-others, digits_value_short, decimal_digits)
+    grind (arith, common_steps, number_of-zeros, number_of-others, digits_value_short, decimal_digits, le-ltb)
 
 -- Digits are ASCII, so their bytes are their characters.
 pub bytes_of_digits : (bs : List ℕ) → IsUtf8 bs → IsTrue (list_all is_digit (chars bs)) → chars bs ≡ bs
 bytes_of_digits bs utf8 digits =
     let own = encodes-IsAscii (chars bs) (IsAscii-from_digits (chars bs) (decimal_digits.to (chars bs) digits)) in
     sym own ∙ encodes-chars bs utf8
-
--- A number that fits is its value modulo 2^64.
-pub whole_number : (n low : ℕ) → low ≡ n % 2 ^ 64 → n < 2 ^ 64 → Some low ≡ u64_from n
-whole_number n low same below = search rules
 
 -- A number that fits is given by its value modulo 2^64, and any other number is given as `None`.
 pub fitting_number : (n low : ℕ) → low ≡ n % 2 ^ 64 → then_some (fits n) low ≡ u64_from n

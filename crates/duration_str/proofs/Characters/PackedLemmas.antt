@@ -1,5 +1,5 @@
 -- Lemmas about packed names and their slots in the table.
-use Rattle.duration_str.proofs.Common.{[], all_names_in, and_from, and_parts, ap, arith, Bool, byte_len, bytes_eq, cases_Bool, chinese_letters, comparison_form, eq-eqb, eqb, eqb-true, false, false_from_ne_true, get_or, Humantime, if◌then◌else◌, inl, inr, is_chinese, is_in_row, is_named, is_unit_letter, leb, leb-true, length, length-reverse, letter_number, List, list_all, list_any, list_any-append, lit<, map, meaning_of, nat_tests, None, number_in, off, Options, or_cases, Own, packed_number, packed_number_after, packs_to, pow-le-pow_right, pow-succ', refl, reverse-reverse, row_of, table_of, Rules, rules, rules_of, Second, Some, suc, sym, Table, TimeUnit, to_ascii_lowercase, true, unit_of_word, units, UnitTable, width, ℕ, ◌%◌, ◌&&◌, ◌*◌, ◌+◌, ◌-◌, ◌/◌, ◌<◌, ◌==◌, ◌^◌, ◌||◌, ◌∙◌, ◌∷◌, ◌≡◌, ◌≤◌, ◌⊎◌}
+use Rattle.duration_str.proofs.Common.{[], all_names_in, and_from, and_parts, ap, arith, Bool, byte_len, bytes_eq, cases_Bool, chinese_letters, comparison_form, eq-eqb, eqb, eqb-true, false, false_from_ne_true, get_or, Humantime, if◌then◌else◌, inl, inr, is_chinese, is_in_row, is_named, is_unit_letter, leb, leb-true, length, length-reverse, letter_number, List, list_all, list_any, list_any-append, lit<, map, meaning_of, nat_tests, None, off, Options, or_cases, Own, packed_number, packed_number_after, packs_to, pow-le-pow_right, pow-succ', refl, reverse-reverse, row_of, table_of, Rules, rules, rules_of, Second, Some, suc, sym, Table, TimeUnit, to_ascii_lowercase, true, unit_of_word, units, UnitTable, width, ℕ, ◌%◌, ◌&&◌, ◌*◌, ◌+◌, ◌-◌, ◌/◌, ◌<◌, ◌==◌, ◌^◌, ◌||◌, ◌∙◌, ◌∷◌, ◌≡◌, ◌≤◌, ◌⊎◌}
 use mathlib.Core.List.{reverse, reverse_aux}
 use Rattle.duration_str.specs.declared.settings.Settings.{Settings}
 use Rattle.duration_str.specs.Internal.UnitTable.{unit_of_packed}
@@ -36,81 +36,34 @@ is_letter c = is_between 97 122 c || (is_between 65 90 c || is_wide_letter c)
 abbrev are_letters : List ℕ → Bool
 are_letters cs = list_all is_letter cs
 
-number_in-above : (n : ℕ) (ds : List ℕ) (c : ℕ) → list_any (λ d. d == c) ds ≡ true → n ≤ number_in n ds c
-number_in-above n [] c h = absurd cc
-number_in-above n (d ∷ ds) c h = search (rules, cases_Bool, number_in-above (n + 1) ds c)
-
-number_in-same : (n : ℕ) (ds : List ℕ) (x y : ℕ) → list_any (λ d. d == x) ds ≡ true → list_any (λ d. d == y) ds ≡ true
-    → number_in n ds x ≡ number_in n ds y → x ≡ y
-number_in-same n [] x y h k e = absurd cc
-number_in-same n (d ∷ ds) x y h k e =
-    search (rules, cases_Bool, eqb-true, number_in-above, number_in-same (n + 1) ds x y)
-
 letter_number-below : (o : Options) (c : ℕ) → letter_number o c < 40
 letter_number-below o c = search rules
-
-wide_digit : (c : ℕ) → is_wide_letter c ≡ true
-    → (letter_number kept_capitals c ≡ number_in 27 wide_letters c) × (27 ≤ number_in 27 wide_letters c)
-    × (number_in 27 wide_letters c ≤ 38)
-wide_digit c e = search rules
-
-small_digit : (c : ℕ) → is_between 97 122 c ≡ true
-    → (letter_number kept_capitals c ≡ c - 96) × (97 ≤ c) × (c ≤ 122)
-small_digit c e = search (rules)
-
-capital_digit : (c : ℕ) → is_between 65 90 c ≡ true
-    → ((c ≡ 77) × (letter_number kept_capitals c ≡ 39)) ⊎ (letter_number kept_capitals c ≡ 26)
-capital_digit c e = search (rules, cases_Bool, eqb-true)
-
-small_name_digit : (c : ℕ) → is_between 97 121 c ≡ true
-    → (letter_number kept_capitals c ≡ c - 96) × (97 ≤ c) × (c ≤ 121)
-small_name_digit c e = search (rules)
-
-capital_name_digit : (c : ℕ) → is_between 77 77 c ≡ true → (c ≡ 77) × (letter_number kept_capitals c ≡ 39)
-capital_name_digit c e = search (rules)
 
 letter_number-some : (c : ℕ) → is_letter c ≡ true → 0 < letter_number kept_capitals c
 letter_number-some c h = search rules
 
-name_letter-letter : (c : ℕ) → is_name_letter c ≡ true → is_letter c ≡ true
-name_letter-letter c h = search rules
+-- the letter of the names that has this number
+abbrev letter_of : ℕ → ℕ
+letter_of n = if leb n 25 then n + 96 else if n == 39 then 77 else get_or wide_letters (n - 27) 0
 
--- a letter with the digit of a name's letter is that letter
+-- A letter of the names is known by its number, which is not that of `z`.
+name_letter_known : (y : ℕ) → is_name_letter y ≡ true → letter_of (letter_number kept_capitals y) ≡ y
+name_letter_known y k = search rules
+
+name_letter_not_z : (y : ℕ) → is_name_letter y ≡ true → eqb (letter_number kept_capitals y) 26 ≡ false
+name_letter_not_z y k = search rules
+
+-- Any other letter has the number of `z`.
+letter_known : (x : ℕ) → is_letter x ≡ true
+    → (letter_number kept_capitals x ≡ 26) ⊎ (letter_of (letter_number kept_capitals x) ≡ x)
+letter_known x h = search (rules, cases_Bool, eqb-true)
+
+-- a letter with the number of a name's letter is that letter
 letter_number-same : (x y : ℕ) → is_letter x ≡ true → is_name_letter y ≡ true
     → letter_number kept_capitals x ≡ letter_number kept_capitals y → x ≡ y
-letter_number-same x y h k e = elim (or_cases (is_between 97 122 x) _ h) [
-  | inl small ↦ let first = small_digit x small in elim (or_cases (is_between 97 121 y) _ k) [
-    | inl too ↦ let second = small_name_digit y too in omega arith
-    | inr other ↦ elim (or_cases (is_between 77 77 y) _ other) [
-      | inl capital ↦ let second = capital_name_digit y capital in absurd (omega arith)
-      | inr wide ↦ let second = wide_digit y wide in absurd (omega arith)
-    ]
-  ]
-  | inr larger ↦ elim (or_cases (is_between 65 90 x) _ larger) [
-    | inl capital ↦ elim (capital_digit x capital) [
-      | inl first ↦ elim (or_cases (is_between 97 121 y) _ k) [
-        | inl small ↦ let second = small_name_digit y small in absurd (omega arith)
-        | inr other ↦ elim (or_cases (is_between 77 77 y) _ other) [
-          | inl too ↦ let second = capital_name_digit y too in omega arith
-          | inr wide ↦ let second = wide_digit y wide in absurd (omega arith)
-        ]
-      ]
-      | inr first ↦ elim (or_cases (is_between 97 121 y) _ k) [
-        | inl small ↦ let second = small_name_digit y small in absurd (omega arith)
-        | inr other ↦ elim (or_cases (is_between 77 77 y) _ other) [
-          | inl too ↦ let second = capital_name_digit y too in absurd (omega arith)
-          | inr wide ↦ let second = wide_digit y wide in absurd (omega arith)
-        ]
-      ]
-    ]
-    | inr wide ↦ let first = wide_digit x wide in elim (or_cases (is_between 97 121 y) _ k) [
-      | inl small ↦ let second = small_name_digit y small in absurd (omega arith)
-      | inr other ↦ elim (or_cases (is_between 77 77 y) _ other) [
-        | inl capital ↦ let second = capital_name_digit y capital in absurd (omega arith)
-        | inr too ↦ number_in-same 27 wide_letters x y wide too (sym first.0 ∙ e ∙ (wide_digit y too).0)
-      ]
-    ]
-  ]
+letter_number-same x y h k e = elim (letter_known x h) [
+  | inl z ↦ cc (eq-eqb (letter_number kept_capitals y) 26 (sym e ∙ z), name_letter_not_z y k)
+  | inr known ↦ sym known ∙ ap letter_of e ∙ name_letter_known y k
 ]
 
 -- ---- words whose packed numbers are exact and different
@@ -145,7 +98,7 @@ same_back : (xs ys : List ℕ) → are_letters xs ≡ true → are_name_letters 
     → packed_back kept_capitals xs ≡ packed_back kept_capitals ys → xs ≡ ys
 same_back [] [] h k e = refl
 same_back [] (y ∷ ys) h k e =
-    absurd (omega (arith, letter_number-some y (name_letter-letter y (and_parts _ _ k).0), e))
+    absurd (omega (arith, letter_number-some y (search rules), e))
 same_back (x ∷ xs) [] h k e = absurd (omega (arith, letter_number-some x (and_parts _ _ h).0, e))
 same_back (x ∷ xs) (y ∷ ys) h k e =
     let bx = and_parts (is_letter x) (are_letters xs) h in
@@ -184,42 +137,18 @@ unnumbered o c is = false_from_ne_true _ (λ letter. let some = rw letter at is 
 
 form_letters : (o : Options) (w : List ℕ) → list_all (is_unit_letter o) w ≡ true
     → are_letters (comparison_form o w) ≡ true
-form_letters o w h = elim (cases_Bool o.lowercase) [
-  | inl on ↦ rw on (kept w h)
-  | inr off ↦ rw off (lower w h)
-]
-  where
-    kept : (w : List ℕ) → list_all (is_unit_letter o) w ≡ true → are_letters w ≡ true
-    kept [] e = refl
-    kept (c ∷ cs) e =
-        let b = and_parts _ _ e in and_from _ _ (lower_letter o c b.0).0 (kept cs b.1)
-
-    lower : (w : List ℕ) → list_all (is_unit_letter o) w ≡ true → are_letters (map to_ascii_lowercase w) ≡ true
-    lower [] e = refl
-    lower (c ∷ cs) e =
-        let b = and_parts _ _ e in and_from _ _ (lower_letter o c b.0).1 (lower cs b.1)
+form_letters o [] h = search (rules, cases_Bool)
+form_letters o (c ∷ w) h = search (rules, cases_Bool, and_parts, lower_letter, form_letters o w)
 
 -- a word has the packed number of the form that is compared with the names
-form_packed : (o : Options) (w : List ℕ) → packed_number o w ≡ packed_number kept_capitals (comparison_form o w)
-form_packed o w = elim (cases_Bool o.lowercase) [
-  | inl on ↦ let same : comparison_form o w ≡ w = rw on refl in rw same (kept on 0 w)
-  | inr folded ↦
-      let same : comparison_form o w ≡ map to_ascii_lowercase w = rw folded refl in rw same (lower folded 0 w)
-]
-  where
-    kept : o.lowercase ≡ true → (n : ℕ) (w : List ℕ)
-        → packed_number_after o n w ≡ packed_number_after kept_capitals n w
-    kept on n [] = refl
-    kept on n (c ∷ cs) =
-        let same : letter_number o c ≡ letter_number kept_capitals c = rw on refl in
-        rw same (kept on (n * 40 + letter_number kept_capitals c) cs)
+form_packed_after : (o : Options) (n : ℕ) (w : List ℕ)
+    → packed_number_after o n w ≡ packed_number_after kept_capitals n (comparison_form o w)
+form_packed_after o n [] = search (rules, cases_Bool)
+form_packed_after o n (c ∷ w) =
+    search (rules, cases_Bool, lower_number, form_packed_after o (n * 40 + letter_number o c) w)
 
-    lower : o.lowercase ≡ false → (n : ℕ) (w : List ℕ)
-        → packed_number_after o n w ≡ packed_number_after kept_capitals n (map to_ascii_lowercase w)
-    lower folded n [] = refl
-    lower folded n (c ∷ cs) =
-        let same : letter_number o c ≡ letter_number off c = rw folded refl in
-        rw (same, ← lower_number c) (lower folded (n * 40 + letter_number kept_capitals (to_ascii_lowercase c)) cs)
+form_packed : (o : Options) (w : List ℕ) → packed_number o w ≡ packed_number kept_capitals (comparison_form o w)
+form_packed o w = form_packed_after o 0 w
 
 -- ---- a word is a name if both have the same packed number
 
@@ -246,18 +175,8 @@ chinese_in_table Humantime = all_units (λ u. list_all (list_any is_chinese) (ta
 -- without `cn_unit` a word of unit letters has no Chinese character, so it is no Chinese name
 no_chinese_letter : (o : Options) (w : List ℕ) → o.cn_unit ≡ false → list_all (is_unit_letter o) w ≡ true
     → list_any is_chinese (comparison_form o w) ≡ false
-no_chinese_letter o w off e = elim (cases_Bool o.lowercase) [
-  | inl on ↦ rw on (kept w e)
-  | inr folded ↦ rw folded (lower w e)
-]
-  where
-    kept : (w : List ℕ) → list_all (is_unit_letter o) w ≡ true → list_any is_chinese w ≡ false
-    kept [] h = refl
-    kept (c ∷ cs) h = search (rules, and_parts, kept cs)
-
-    lower : (w : List ℕ) → list_all (is_unit_letter o) w ≡ true → list_any is_chinese (map to_ascii_lowercase w) ≡ false
-    lower [] h = refl
-    lower (c ∷ cs) h = search (rules, and_parts, lower cs)
+no_chinese_letter o [] off e = search (rules, cases_Bool)
+no_chinese_letter o (c ∷ w) off e = search (rules, cases_Bool, and_parts, no_chinese_letter o w)
 
 no_chinese_name : (table : UnitTable) (o : Options) (w : List ℕ) (u : TimeUnit) → o.cn_unit ≡ false
     → list_all (is_unit_letter o) w ≡ true
@@ -270,13 +189,7 @@ no_chinese_name table o w u off e = false_from_ne_true _ (λ named. cc (
 named_by_number : (table : UnitTable) (o : Options) (w : List ℕ) (u : TimeUnit) → list_all (is_unit_letter o) w ≡ true
     → is_in_row o w (table_of table u) ≡ list_any (packs_to (packed_number o w)) (all_names_in (table_of table) u)
 named_by_number table o w u letters =
-    let form = comparison_form o w in
-    let all = names_test form (all_names_in (table_of table) u) (form_letters o w letters) (letters_in_table table u) in
-    let parts = list_any-append (bytes_eq form) (table_of table u).names in
-    rw (form_packed o w, ← all, parts) (elim (cases_Bool o.cn_unit) [
-      | inl on ↦ rw on
-      | inr off ↦ rw (off, no_chinese_name table o w u off letters)
-    ])
+    search (rules, cases_Bool, names_test, form_letters, letters_in_table, list_any-append, form_packed, no_chinese_name)
 
 -- ---- words that name no unit
 
@@ -305,20 +218,9 @@ letters_form o w = elim (cases_Bool o.lowercase) [ inl on ↦ rw on refl | inr o
 letters_of_names : (o : Options) (u : TimeUnit) → list_all (list_all (is_unit_letter o)) (row_of u).names ≡ true
 letters_of_names o = all_units (λ u. list_all (list_all (is_unit_letter o)) (row_of u).names) refl
 
-letters_of_chinese : (o : Options) (u : TimeUnit) → o.cn_unit ≡ true
-    → list_all (list_all (is_unit_letter o)) (row_of u).chinese ≡ true
-letters_of_chinese o u on = search rules
-
 named_letters : (o : Options) (w : List ℕ) (u : TimeUnit) → is_named (rules_of o) w u ≡ true → list_all (is_unit_letter o) w ≡ true
 named_letters o w u h =
-    let form = comparison_form o w in
-    let letters : list_all (is_unit_letter o) form ≡ true =
-    elim (or_cases (list_any (bytes_eq form) (row_of u).names) _ h) [
-      | inl plain ↦ named_passes (list_all (is_unit_letter o)) form (row_of u).names (letters_of_names o u) plain
-      | inr added ↦ let parts = and_parts o.cn_unit _ added in
-          named_passes (list_all (is_unit_letter o)) form (row_of u).chinese (letters_of_chinese o u parts.0) parts.1
-    ] in
-    sym (letters_form o w) ∙ letters
+    search (rules, or_cases, and_parts, named_passes, letters_of_names, letters_form)
 
 -- A word with a character that is no unit letter names no unit.
 pub no_letter_name : (o : Options) (w : List ℕ) → list_all (is_unit_letter o) w ≡ false → None ≡ unit_of_word (rules_of o) w
@@ -370,8 +272,7 @@ own_settings o = record { table = Own; default_unit = Some Second; options = o }
 pub unit_by_number : (settings : Settings) (w : List ℕ) → list_all (is_unit_letter settings.options) w ≡ true
     → unit_of_word (meaning_of settings) w ≡ unit_of_packed (table_of settings.table) (packed_number settings.options w)
 unfolding unit_of_packed
-unit_by_number settings w letters =
-    simp (λ (u : TimeUnit). named_by_number settings.table settings.options w u letters)
+unit_by_number settings w letters = search (rules, named_by_number)
 
 -- ---- slots
 
@@ -382,10 +283,7 @@ slot bits spread n = n * spread / 2 ^ (64 - bits) % 2 ^ bits
 -- each slot holds the index of one of `count` names
 pub slot_below : (slots : List ℕ) (count i : ℕ) → i < length slots
     → list_all (λ s. leb (suc s) count) slots ≡ true → get_or slots i 0 < count
-slot_below slots count i less all = elim (cases_Bool (leb (suc (get_or slots i 0)) count)) [
-  | inl is ↦ omega (arith, leb-true _ _ is)
-  | inr above ↦ absurd (cc (all, list_all_at (λ s. leb (suc s) count) slots i 0 less above))
-]
+slot_below slots count i less all = search (rules, leb-true, list_all_at)
 
 -- the unit of a name in the table stands at the same index of the table of units
 pub name_found : (table : Table) (names : List ℕ) (found_units : List TimeUnit) (i m n : ℕ) (u : TimeUnit)

@@ -1,5 +1,5 @@
 -- Lemmas about units and their names: as bytes and as characters, and with ASCII capitals.
-use Rattle.duration_str.proofs.Common.{[], all_names, all_names_in, and_parts, arith, Bool, byte_len, bytes_eq, bytes_eq-Decides, cases_Bool, common_steps, comparison_form, Day, encode_utf8_all, encodes, encodes_same, eqb, eqb-true, false, find, Hour, inl, inr, is_in_row, is_named, leb-true, length, List, list_all, list_any, list_any-append, map, map-append, MicroSecond, MilliSecond, Minute, Month, name_part, nanos_of, NanoSecond, not, Options, or_cases, Quarter, refl, row_of, rules, rules_of, same_from_decides, Second, Some, Style, Table, TimeUnit, to_ascii_lowercase, true, unit_of_word, units, Week, Year, ℕ, ⊤, ◌||◌, ◌∷◌, ◌≡◌, ◌≤◌}
+use Rattle.duration_str.proofs.Common.{[], all_names, all_names_in, and_parts, arith, Bool, byte_len, bytes_eq, bytes_eq-Decides, cases_Bool, common_steps, comparison_form, encode_utf8_all, encodes, encodes_same, eqb, eqb-true, false, find, inl, inr, is_in_row, is_named, leb-true, length, List, list_all, list_any, list_any-append, map, map-append, name_part, nanos_of, not, Options, or_cases, refl, row_of, rules, rules_of, same_from_decides, Some, Style, Table, TimeUnit, to_ascii_lowercase, true, unit_of_word, units, ℕ, ⊤, ◌||◌, ◌∷◌, ◌≡◌, ◌≤◌, leb, ltb, ltb-true, ◌<◌, ◌^◌}
 use lib.Utf8.{encode}
 
 -- ---- A property that each unit in the table has is a property of every unit
@@ -9,17 +9,7 @@ Each P [] = ⊤
 Each P (u ∷ us) = P u × Each P us
 
 pub each_unit : (P : TimeUnit → Type 0) → Each P units → (u : TimeUnit) → P u
-each_unit P each Year = each.0
-each_unit P each Quarter = each.1.0
-each_unit P each Month = each.1.1.0
-each_unit P each Week = each.1.1.1.0
-each_unit P each Day = each.1.1.1.1.0
-each_unit P each Hour = each.1.1.1.1.1.0
-each_unit P each Minute = each.1.1.1.1.1.1.0
-each_unit P each Second = each.1.1.1.1.1.1.1.0
-each_unit P each MilliSecond = each.1.1.1.1.1.1.1.1.0
-each_unit P each MicroSecond = each.1.1.1.1.1.1.1.1.1.0
-each_unit P each NanoSecond = each.1.1.1.1.1.1.1.1.1.1.0
+each_unit P each u = search rules
 
 each_passes : (test : TimeUnit → Bool) (us : List TimeUnit) → list_all test us ≡ true → Each (λ u. test u ≡ true) us
 each_passes test [] h = tt
@@ -29,6 +19,13 @@ each_passes test (u ∷ us) h =
 -- If each unit of the table passes a test, every unit does.
 pub all_units : (test : TimeUnit → Bool) → list_all test units ≡ true → (u : TimeUnit) → test u ≡ true
 all_units test h = each_unit (λ u. test u ≡ true) (each_passes test units h)
+
+-- With the library's own table, each unit is longer than 0, and shorter than 2^64 nanoseconds.
+pub some_length : (u : TimeUnit) → 1 ≤ nanos_of u
+some_length u = leb-true 1 (nanos_of u) (all_units (λ v. leb 1 (nanos_of v)) refl u)
+
+pub each_short : (u : TimeUnit) → nanos_of u < 2 ^ 64
+each_short u = ltb-true (nanos_of u) (2 ^ 64) (all_units (λ v. ltb (nanos_of v) (2 ^ 64)) refl u)
 
 -- ---- ASCII capitals in UTF-8
 

@@ -1,9 +1,9 @@
 -- Lemmas about the steps of cutting, in terms of a text, the byte up to which it is cut, and the number of looks.
-use Rattle.duration_str.proofs.Common.{[], add-zero, ahead, and_from, ap, append-nil, append_assoc, append_cancel_right, arith, Between, Bool, byte_len, chars, chars-append, drop, drop-drop, encodes-chars, EndsRun, false, ForSome, if◌then◌else◌, is_blank, is_digit, is_some, is_unit_letter, IsCharBoundary, IsLexeme, IsTrue, IsUtf8, IsUtf8-drop, IsUtf8-take, length, length-append, length-drop, length-le-encodes, letter_number, List, list_all, list_all-append, meaning_of, None, number_after, number_of, Option, Options, packed_number, packed_number_after, Passes, refl, row_of, table_of, Rules, rules_of, slice_range, Some, Stands, StandsAt, sym, take, take-append-drop, TakesDigits, TakesLetters, TimeUnit, tokens_from, true, u64_from, unit_of_packed, unit_of_word, width, ℕ, ◌%◌, ◌*◌, ◌++◌, ◌+◌, ◌-◌, ◌<◌, ◌^◌, ◌∙◌, ◌∷◌, ◌≡◌, ◌≤◌}
+use Rattle.duration_str.proofs.Common.{[], add-zero, ahead, and_from, ap, append-nil, append_assoc, append_cancel_right, arith, Between, Bool, byte_len, chars, chars-append, drop, drop-drop, encodes-chars, EndsRun, false, ForSome, if◌then◌else◌, is_digit, is_some, is_unit_letter, IsCharBoundary, IsLexeme, IsTrue, IsUtf8, IsUtf8-drop, IsUtf8-take, length, length-append, length-drop, length-le-encodes, letter_number, List, list_all, list_all-append, meaning_of, None, number_after, number_of, Option, Options, packed_number, packed_number_after, Passes, refl, row_of, table_of, Rules, rules_of, slice_range, Some, Stands, StandsAt, sym, take, take-append-drop, TakesDigits, TakesLetters, TimeUnit, tokens_from, true, u64_from, unit_of_packed, unit_of_word, width, ℕ, ◌%◌, ◌*◌, ◌++◌, ◌+◌, ◌-◌, ◌<◌, ◌^◌, ◌∙◌, ◌∷◌, ◌≡◌, ◌≤◌, rules}
 pub use Rattle.duration_str.proofs.Cutting.TokenLemmas.{blanks_no_token, tokens_step}
 use Rattle.duration_str.specs.declared.settings.Settings.{Settings}
 use Rattle.duration_str.proofs.Characters.CharacterLemmas.{byte_len-append, width_some}
-use Rattle.duration_str.proofs.Characters.NumberLemmas.{decimal_digits, whole_number}
+use Rattle.duration_str.proofs.Characters.NumberLemmas.{decimal_digits}
 use Rattle.std.proofs.lemmas.Str.Parse.{digits_value_short}
 use Rattle.duration_str.proofs.Characters.PackedLemmas.{own_settings, exact, no_letter_name, no_long_name, unit_by_number}
 
@@ -81,9 +81,6 @@ packed_after-push : (o : Options) (n : ℕ) (cs : List ℕ) (c : ℕ)
 packed_after-push o n [] c = refl
 packed_after-push o n (d ∷ cs) c = packed_after-push o (n * 40 + letter_number o d) cs c
 
-pub digits_none : {text : List ℕ} {place : ℕ} → TakesDigits text place place 0
-digits_none = record { run = passes_none; number = refl }
-
 pub digits_head : {text : List ℕ} {place at next c value value' : ℕ} → TakesDigits text place at value
     → StandsAt text at next c → is_digit c ≡ true → value' ≡ (value * 10 + (c - 48)) % 2 ^ 64
     → TakesDigits text place next value'
@@ -129,7 +126,7 @@ short_number taken short =
     let cs = taken.run.characters in
     let few : length cs ≤ 19 = omega (arith, length-le-byte_len cs, taken.run.between.bytes, short) in
     let less = digits_value_short decimal_digits cs 19 taken.run.all few in
-    whole_number (number_of cs) _ taken.number (omega arith)
+    search rules
 
 -- The characters from `place` to `next` are unit letters, and `unit` is the unit that they name by these rules.
 pub record TakesWord (r : Rules) (text : List ℕ) (place next : ℕ) (unit : Option TimeUnit) : Type 0 where
@@ -190,16 +187,9 @@ packs_unit {o} {word} {n} packed short found =
 -- a word with a character that is no unit letter names no unit
 pub packs_other : {o : Options} {word rest : List ℕ} {c n : ℕ} → Packs o word (c ∷ rest) n → is_unit_letter o c ≡ false
     → None ≡ unit_of_word (rules_of o) word
-packs_other {o} {word} {rest} {c} packed other =
-    no_letter_name o word
-    (rw (packed.whole, list_all-append (is_unit_letter o) packed.letters (c ∷ rest), packed.all, other) refl)
+packs_other packed other = search (rules, no_letter_name, list_all-append)
 
 -- ---- the first token that is left
-
--- skipping blanks leaves the same tokens
-pub blanks_passed : {text : List ℕ} {place next : ℕ} (o : Options) → Passes is_blank text place next
-    → tokens_from o place (ahead text place) ≡ tokens_from o next (ahead text next)
-blanks_passed {text} {place} {next} o run = grind (arith, blanks_no_token)
 
 pub token_taken : {text cs : List ℕ} {place next : ℕ} (o : Options) → Between text place next cs → IsLexeme o cs
     → EndsRun o cs (ahead text next)

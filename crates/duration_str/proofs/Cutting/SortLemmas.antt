@@ -1,5 +1,5 @@
 -- Lemmas about terminals and their sorts, and about tokens by their first character.
-use Rattle.duration_str.proofs.Common.{[], add-zero, ahead, and_from, and_parts, are_of_one_run, AreTokens, arith, Between, Bool, cases_Bool, common_steps, CondUnit, EndsRun, false, goes_on, if◌then◌else◌, inl, inr, is_blank, is_digit, is_number, is_unit_letter, IsLexeme, IsNumber, IsSign, IsTrue, length, List, list_all, None, Number, number, number_of, operator, operator_of, operator_or_other, Option, Options, or_cases, or_right, other, Passes, refl, Rules, rules, sign_sort, sign_terminal, Some, sort_at, sort_of, StandsAt, Stops, Terminal, terminal_of, TimeUnit, Token, tokens_from, TokenStart, true, unit_of_word, with_first_character, Word, word, ℕ, ◌<◌, ◌∷◌, ◌≡◌}
+use Rattle.duration_str.proofs.Common.{[], add-zero, ahead, and_from, and_parts, are_of_one_run, AreTokens, arith, Between, Bool, cases_Bool, common_steps, CondUnit, EndsRun, false, goes_on, if◌then◌else◌, inl, inr, is_blank, is_digit, is_number, is_unit_letter, IsLexeme, IsNumber, IsSign, IsTrue, length, List, list_all, None, Number, number, number_of, operator, operator_of, operator_or_other, Option, Options, or_right, other, Passes, refl, Rules, rules, sign_sort, sign_terminal, Some, sort_at, sort_of, StandsAt, Stops, Terminal, terminal_of, TimeUnit, Token, tokens_from, TokenStart, true, unit_of_word, with_first_character, Word, word, ℕ, ◌<◌, ◌∷◌, ◌≡◌}
 use Rattle.duration_str.proofs.Characters.CharacterLemmas.{all_weaker, digit-not_blank, digit-not_letter, letter-not_blank, letter-not_digit}
 use Rattle.duration_str.proofs.Cutting.TokenLemmas.{tokens_are}
 use Rattle.duration_str.proofs.Cutting.PositionLemmas.{TakesWord}
@@ -53,16 +53,8 @@ module _ (o : Options) where
 
 -- ---- The sort of a lexeme
 
-pub no_run : (o : Options) (c : ℕ) (rest : List ℕ) → is_digit c ≡ false → is_unit_letter o c ≡ false
-    → goes_on o c rest ≡ false
-no_run o c rest e f = grind arith
-
 pub sign_sorts : (op : Option CondUnit) → sign_sort op ≡ sort_of (operator_or_other op)
 sign_sorts op = grind arith
-
-sign_alone : (r : Rules) (c : ℕ) (ds : List ℕ) → is_digit c ≡ false → is_unit_letter r.options c ≡ false
-    → IsTrue (list_all (are_of_one_run r.options c) ds) → sort_at r.options c ≡ sort_of (terminal_of r (c ∷ ds))
-sign_alone r c ds e f all = grind (arith, and_parts)
 
 -- The first character of a lexeme determines the sort of its terminal.
 pub lexeme_sort : (r : Rules) (c : ℕ) (cs : List ℕ) → IsLexeme r.options (c ∷ cs)
@@ -71,13 +63,9 @@ lexeme_sort r c cs p = elim (cases_Bool (is_digit c)) [
   | inl e ↦ rw (e, all_weaker _ is_digit cs (λ d h. grind (arith, digit-not_letter r.options c e)) p.1)
   | inr e ↦ elim (cases_Bool (is_unit_letter r.options c)) [
     | inl f ↦ rw (e, f, all_weaker _ (is_unit_letter r.options) cs (λ d h. grind arith) p.1)
-    | inr f ↦ sign_alone r c cs e f p.1
+    | inr f ↦ grind (arith, and_parts)
   ]
 ]
-
--- Two characters of one run have the same sort.
-pub run_sort : (o : Options) (c d : ℕ) → are_of_one_run o c d ≡ true → sort_at o c ≡ sort_at o d
-run_sort o c d run = grind (arith, or_cases, and_parts, letter-not_digit)
 
 -- ---- Tokens by their first character
 
@@ -127,20 +115,16 @@ sign_stands {text} {next = next} {c = c} r stands b e f = record {
   characters = c ∷ [];
   between = record { cut = stands.head; bytes = rw add-zero stands.bytes };
   is_lexeme = (b, refl);
-  ends = no_run r.options c (ahead text next) e f;
+  ends = grind arith;
   is_terminal = rw (e, f) refl;
 }
 
 -- ---- the class of a character, given its sort
 
-number_by : (d l : Bool) (op : Option CondUnit)
-    → d ≡ is_number (Some (if d then Number else if l then Word else sign_sort op))
-number_by d l op = search rules
-
 module _ (o : Options) where
   -- A token is a number exactly if its first character is a digit.
   pub digit_sort : (c : ℕ) → is_digit c ≡ is_number (Some (sort_at o c))
-  digit_sort c = number_by (is_digit c) (is_unit_letter o c) (operator_of c)
+  digit_sort c = search rules
 
   pub digit_of_sort : (c : ℕ) → Number ≡ sort_at o c → is_digit c ≡ true
   digit_of_sort c is = rw (← is) at (digit_sort c)

@@ -1,13 +1,11 @@
 -- Lemmas about the steps of `Tokens`: what is ahead, and the next token.
-use Rattle.duration_str.proofs.Common.{[], ahead, arith, CondUnit, cut_place, ForSome, is_blank, is_digit, is_unit_letter, IsAhead, IsCharBoundary, IsSign, IsUtf8, IsUtf8-had, KeepsInput, length, length-drop, length-take-le, List, LooksAhead, None, Number, number_of, Operator, Option, options_of, Other, other, Passes, refl, Rules, rules, rules_at, rules_of, slice_range, Some, sort_of, source, Stands, StandsAt, Stops, sym, TakesDigits, TakesNumber, TakesToken, TakesTokenWith, Terminal, terminal_of, TimeUnit, Token, Tokens, tokens_left, TokenStart, true, u64_from, what_of, width, Word, word, YieldsNextToken, ℕ, ◌+◌, ◌<◌, ◌∙◌, ◌∷◌, ◌≡◌}
+use Rattle.duration_str.proofs.Common.{[], ahead, arith, cut_place, ForSome, is_blank, is_digit, is_unit_letter, IsAhead, IsCharBoundary, IsSign, IsUtf8, IsUtf8-had, KeepsInput, length, length-drop, length-take-le, List, LooksAhead, None, Number, number_of, Option, options_of, Other, other, Passes, refl, Rules, rules, rules_at, rules_of, slice_range, Some, sort_of, source, Stands, StandsAt, Stops, sym, TakesDigits, TakesNumber, TakesToken, TakesTokenWith, Terminal, terminal_of, TimeUnit, Token, Tokens, tokens_left, TokenStart, u64_from, what_of, width, Word, word, YieldsNextToken, ℕ, ◌+◌, ◌<◌, ◌∙◌, ◌∷◌, ◌≡◌}
 use Rattle.duration_str.proofs.Characters.NumberLemmas.{bytes_of_digits}
-use Rattle.duration_str.proofs.Cutting.PositionLemmas.{blanks_passed, chars_between, place_at_end, TakesWord, token_taken}
+use Rattle.duration_str.proofs.Cutting.PositionLemmas.{chars_between, place_at_end, TakesWord, token_taken}
 use Rattle.duration_str.proofs.Cutting.SortLemmas.{digit_of_sort, first_token, letter_of_sort, number_stands, sign_of_sort, sign_sorts, sign_stands, StandsToken, word_stands}
 use Rattle.duration_str.specs.declared.token.Token.{Token as RustToken}
 use Rattle.duration_str.specs.declared.token.What.TheVariants as whats
-
-pub keeps_all : (s : Tokens) → KeepsInput s s
-keeps_all s = record { text = refl; options = refl }
+use Rattle.duration_str.proofs.Cutting.TokenLemmas.{blanks_no_token}
 
 pub keeps_on : {s m t : Tokens} → KeepsInput s m → KeepsInput m t → KeepsInput s t
 keeps_on kept later = record { text = later.text ∙ kept.text; options = later.options ∙ kept.options }
@@ -23,7 +21,7 @@ fewer_ahead kept past is = simp (kept.text, (past _ is).head) (omega arith)
 -- skipping the blanks from s to t leaves the same tokens
 pub looks_ahead : {s t : Tokens} (sort : Option TokenStart) → KeepsInput s t
     → Passes is_blank (source s) (cut_place s) (cut_place t) → IsAhead t sort → LooksAhead s t sort
-looks_ahead {s} sort kept blanks ahead = search (rules, blanks_passed)
+looks_ahead {s} sort kept blanks ahead = search (rules, blanks_no_token)
 
 pub none_left : (s : Tokens) → IsAhead s None → (tokens_left s ≡ []) × (cut_place s ≡ length (source s))
 none_left s end = search (rules, IsUtf8-had, place_at_end)
@@ -38,28 +36,18 @@ first_left r s sort h =
     let (cs, rest, is, sort_is) = first_token (rules_at r s) (cut_place s) h.character after h.not_blank in
     (cs, rest, rw stands.head is, rw h.is_sort sort_is)
 
--- a word starts with a unit letter
-pub letter_ahead : (s : Tokens) (c : ℕ) → IsAhead s (Some Word) → s.head ≡ Some c
-    → is_unit_letter (options_of s) c ≡ true
-letter_ahead s c h is = search (rules)
-
 -- ---- the next token
 
 takes_token : {r : Rules} {s t : Tokens} {terminal : Terminal} → KeepsInput s t
     → StandsToken (rules_at r s) (source s) (cut_place s) (cut_place t) terminal → TakesToken r s t terminal
 takes_token {s = s} kept token = search (rules, token_taken)
 
--- a slice of the text of t, from s to t, is the same slice of the text of s
-same_slice : {s t : Tokens} {slice : List ℕ} {start : ℕ} → KeepsInput s t → start ≡ cut_place s
-    → slice ≡ slice_range (source t) start (cut_place t) → slice ≡ slice_range (source s) (cut_place s) (cut_place t)
-same_slice kept there is = simp (kept.text, there) at is
-
 -- The slice from s to t has the digits that were taken.
 pub digits_between : {s t : Tokens} {low start : ℕ} {slice : List ℕ} → KeepsInput s t
     → (taken : TakesDigits (source s) (cut_place s) (cut_place t) low) → start ≡ cut_place s
     → slice ≡ slice_range (source t) start (cut_place t) → IsUtf8 slice → slice ≡ taken.run.characters
 digits_between kept taken there is utf8 =
-    let same = chars_between taken.run.between (same_slice kept there is) utf8 in
+    let same = chars_between taken.run.between (simp (kept.text, there) at is) utf8 in
     sym (bytes_of_digits _ utf8 (rw same taken.run.all)) ∙ same
 
 pub takes_number : {s t : Tokens} {low : ℕ} {value : Option ℕ} → IsAhead s (Some Number) → KeepsInput s t
@@ -86,11 +74,6 @@ takes_sign {s} r sort sign h kept past =
     let c = h.character in
     let (no_digit, no_letter, sort_is) = sign_of_sort (options_of s) c sort sign h.is_sort in
     search (rules, takes_token, sign_stands, sign_sorts)
-
--- a terminal with the sort of an operator is that operator
-pub sign_what : (terminal : Terminal) (op : CondUnit) → Operator op ≡ sort_of terminal
-    → whats.Operator op ≡ what_of terminal
-sign_what terminal op e = search rules
 
 pub other_what : (terminal : Terminal) → Other ≡ sort_of terminal → whats.Other ≡ what_of terminal
 other_what other e = refl

@@ -1,5 +1,5 @@
 -- `tokens_from` gives the tokens of a text, and a text has no others.
-use Rattle.duration_str.proofs.Common.{[], add-zero, add_assoc, and_from, and_parts, ap, append-nil, are_of_one_run, AreTokens, arith, Bool, byte_len, EndsRun, false, goes_on, if◌then◌else◌, is_blank, IsBlank, IsLexeme, List, list_all, Options, refl, sym, Token, tokens_from, true, width, with_first_character, ℕ, ◌++◌, ◌+◌, ◌∙◌, ◌∷◌, ◌≡◌}
+use Rattle.duration_str.proofs.Common.{[], add-zero, add_assoc, and_from, and_parts, ap, append-nil, are_of_one_run, AreTokens, arith, Bool, byte_len, EndsRun, false, goes_on, if◌then◌else◌, is_blank, IsBlank, IsLexeme, List, list_all, Options, refl, sym, Token, tokens_from, true, width, with_first_character, ℕ, ◌++◌, ◌+◌, ◌∙◌, ◌∷◌, ◌≡◌, rules}
 use Rattle.duration_str.proofs.Characters.CharacterLemmas.{run-not_blank, same_run}
 
 pub blanks_no_token : (o : Options) (at : ℕ) (blanks rest : List ℕ) → IsBlank blanks
@@ -38,9 +38,7 @@ module _ (o : Options) where
 
   tokens_computed : (at : ℕ) (text : List ℕ) (ps : List Token) → AreTokens o at text ps → tokens_from o at text ≡ ps
   tokens_computed at text [] h = ap (tokens_from o at) (sym (append-nil text)) ∙ blanks_no_token o at text [] h
-  tokens_computed at text (p ∷ ps) h =
-      let step = tokens_step at h.1.blanks p.characters h.0 h.1.blank h.1.is_lexeme h.1.ends in
-      rw (h.1.parts, step, ← h.1.start, tokens_computed (p.start + byte_len p.characters) h.0 ps h.2)
+  tokens_computed at text (p ∷ ps) h = search (rules, tokens_step, tokens_computed (p.start + byte_len p.characters) h.0 ps h.2)
 
   -- A text has only one list of tokens.
   pub tokens_once : (at : ℕ) (text : List ℕ) (ps qs : List Token) → AreTokens o at text ps → AreTokens o at text qs

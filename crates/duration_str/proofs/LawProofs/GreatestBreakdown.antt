@@ -51,15 +51,12 @@ counts_greatest (x ∷ y ∷ lengths) nanos (n ∷ others) h l e = elim (cases_l
       ]
 ]
 
-units_end_in_one : EndInOne unit_lengths
-units_end_in_one = omega arith
-
 pub breakdown_of : (lengths : List ℕ) (nanos : ℕ) → EndInOne lengths
     → IsGreatestBreakdown lengths nanos (counts_of lengths nanos)
 breakdown_of lengths nanos h = search (rules, counts_each, counts_greatest, counts_whole)
 
 pub greatest_breakdown_holds : GreatestBreakdown
-greatest_breakdown_holds nanos = breakdown_of unit_lengths nanos units_end_in_one
+greatest_breakdown_holds nanos = breakdown_of unit_lengths nanos (omega arith)
 
 pub not_before_each_other : (ms ns : List ℕ) → IsBefore ms ns → IsBefore ns ms → ⊥
 not_before_each_other [] ns h k = h

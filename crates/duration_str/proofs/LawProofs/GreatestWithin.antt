@@ -1,6 +1,6 @@
 -- The counts in a format by quotients and remainders are the greatest.
-use Rattle.duration_str.proofs.Common.{[], arith, cases_Bool, cases_lt, common_steps, counts_within, div-add-mod', false, Format, inl, inr, IsBefore, IsGreatestWithin, le-div_iff_mul-le, leb, leb-true, length, lengths_within, List, map, nanos_of, nat_tests, part_count, refl, rules, TimeUnit, weighted_sum, ℕ, ⊤, ◌%◌, ◌*◌, ◌+◌, ◌-◌, ◌/◌, ◌<◌, ◌==◌, ◌∷◌, ◌≡◌, ◌≤◌, ◌⊎◌}
-use Rattle.duration_str.proofs.Characters.UnitLemmas.{all_units}
+use Rattle.duration_str.proofs.Common.{[], arith, cases_Bool, cases_lt, common_steps, counts_within, div-add-mod', false, Format, inl, inr, IsBefore, IsGreatestWithin, length, lengths_within, List, map, nanos_of, nat_tests, part_count, refl, rules, TimeUnit, weighted_sum, ℕ, ⊤, ◌%◌, ◌*◌, ◌+◌, ◌-◌, ◌/◌, ◌==◌, ◌∷◌, ◌≡◌, ◌≤◌, ◌⊎◌}
+use Rattle.duration_str.proofs.Characters.UnitLemmas.{some_length}
 use Rattle.duration_str.proofs.LawProofs.GreatestBreakdown.{not_before_each_other}
 
 abbrev pub ArePositive : List ℕ → Type 0
@@ -24,10 +24,6 @@ first_at_most m l rest nanos h e = search rules
 
 rest_at_most : (m l rest nanos : ℕ) → m * l + rest ≤ nanos → m ≡ nanos / l → rest ≤ nanos % l
 rest_at_most m l rest nanos e s = let product = rw s at e in omega (arith, div-add-mod' nanos l)
-
--- If the quotient by a length is 0, the number is below the length.
-pub below_length : (n l : ℕ) → 1 ≤ l → n / l ≡ 0 → n < l
-below_length n l h none = search (rules, cases_lt, le-div_iff_mul-le)
 
 pub left_whole : (n l : ℕ) → n / l ≡ 0 → n % l ≡ n
 left_whole n l none = let parts = rw none at (div-add-mod' n l) in omega arith
@@ -78,9 +74,6 @@ within_greatest (x ∷ lengths) most nanos (n ∷ others) h l f w =
                 ]
           ])
     ]
-
-pub some_length : (u : TimeUnit) → 1 ≤ nanos_of u
-some_length u = leb-true 1 (nanos_of u) (all_units (λ v. leb 1 (nanos_of v)) refl u)
 
 pub lengths_positive : (us : List TimeUnit) → ArePositive (map nanos_of us)
 lengths_positive [] = tt

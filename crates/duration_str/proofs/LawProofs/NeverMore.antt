@@ -1,8 +1,9 @@
 -- A text printed in a format stands for the greatest duration that fits into the format.
 use Rattle.duration_str.proofs.Common.{[], ap, arith, counts_of, counts_within, div-eq_of_lt-le, Format, IsGreatestBreakdown, IsRead, last_unit, le-div_iff_mul-le, le-mul_of_pos_right, length, lengths_within, List, map, map-append, nanos_of, nat_lt, NeverMore, nonzero, Option, Options, part_count, refl, rules, rules_with, shorter_units, subst, sym, terminal_of, text_within, TimeUnit, units, units_within, weighted_sum, Year, zero-div, zero_unit, ℕ, ◌%◌, ◌*◌, ◌++◌, ◌+◌, ◌/◌, ◌<◌, ◌^◌, ◌∙◌, ◌∷◌, ◌≡◌, ◌≤◌}
+use Rattle.duration_str.proofs.Characters.UnitLemmas.{some_length}
 use Rattle.std.specs.Prelude.{filter}
 use Rattle.duration_str.proofs.LawProofs.GreatestBreakdown.{breakdown_of, EndInOne, one_greatest}
-use Rattle.duration_str.proofs.LawProofs.GreatestWithin.{ArePositive, greatest_within, left_whole, lengths_positive, one_greatest_within, some_length, within_each, within_few, within_sum}
+use Rattle.duration_str.proofs.LawProofs.GreatestWithin.{ArePositive, greatest_within, left_whole, lengths_positive, one_greatest_within, within_each, within_few, within_sum}
 use Rattle.duration_str.proofs.Printer.PrintingLemmas.{all_spelled, EachBelow, lexemes, or_zero, sum_kept, sum_or_zero, terminals, terminals_kept, terminals_or_zero, units_plus, units_sentence}
 use Rattle.duration_str.proofs.Sentences.AnswerLemmas.{sum_read}
 
@@ -16,11 +17,6 @@ shown lengths most nanos = weighted_sum lengths (counts_within lengths most nano
 divided : (c l rest : ℕ) → rest < l → ((c * l + rest) / l ≡ c) × ((c * l + rest) % l ≡ rest)
 divided c l rest h = search (rules, div-eq_of_lt-le)
 
-own_step : (c l rest : ℕ) (lengths more counts : List ℕ) → rest < l
-    → counts_of (lengths ++ more) rest ≡ counts ++ counts_of more 0
-    → counts_of (l ∷ lengths ++ more) (c * l + rest) ≡ c ∷ counts ++ counts_of more 0
-own_step c l rest lengths more counts below own = search (rules, divided)
-
 none_shown : (lengths : List ℕ) (most nanos : ℕ) → most ≡ 0 → shown lengths most nanos ≡ 0
 none_shown [] most nanos none = refl
 none_shown (l ∷ lengths) most nanos none = search (rules, none_shown lengths most nanos none)
@@ -29,7 +25,7 @@ none_shown (l ∷ lengths) most nanos none = search (rules, none_shown lengths m
 own_counts : (lengths more : List ℕ) (most nanos : ℕ) → ArePositive lengths
     → counts_of (lengths ++ more) (shown lengths most nanos) ≡ counts_within lengths most nanos ++ counts_of more 0
 own_counts [] more most nanos h = refl
-own_counts (l ∷ lengths) more most nanos h = search (rules, own_step, none_shown, within_sum, own_counts lengths more)
+own_counts (l ∷ lengths) more most nanos h = search (rules, none_shown, within_sum, own_counts lengths more, divided)
 
 -- The duration that is printed has the same printed counts as the given one.
 within_again : (lengths : List ℕ) (most nanos : ℕ) → ArePositive lengths
@@ -74,9 +70,7 @@ end_in_one (v ∷ us) u lengths h = (some_length u, end_in_one us v lengths h)
 
 with_shorter : (us : List TimeUnit) → EndInOne (map nanos_of (us ++ shorter_units us))
 with_shorter [] = omega arith
-with_shorter (u ∷ us) =
-    rw (map-append nanos_of us (shorter_units (u ∷ us)))
-    (end_in_one us u (map nanos_of (shorter_units (u ∷ us))) (ends_each (last_unit u us)))
+with_shorter (u ∷ us) = search (rules, map-append, end_in_one, ends_each)
 
 -- ---- Reading
 

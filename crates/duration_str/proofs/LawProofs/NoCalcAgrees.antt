@@ -1,5 +1,5 @@
 -- For a text without operators, `no_calc` changes neither whether it is accepted nor its value.
-use Rattle.duration_str.proofs.Common.{false, true, [], and_parts, Bool, HasNoOperator, is_operator, IsRead, IsSentence, List, map, NoCalcAgrees, not, number, operator, Rules, Some, Terminal, terminal_of, with_no_calc, word, ℕ, ⊤, ◌∷◌}
+use Rattle.duration_str.proofs.Common.{false, true, [], and_parts, Bool, HasNoOperator, is_operator, IsRead, IsSentence, List, map, NoCalcAgrees, not, number, operator, Rules, Some, Terminal, terminal_of, with_no_calc, word, ℕ, ⊤, ◌∷◌, rules}
 use Rattle.duration_str.proofs.Cutting.SortLemmas.{terminal_cases}
 use Rattle.duration_str.proofs.Sentences.SpellingLemmas.{EachPasses, lexemes_pass}
 
@@ -27,14 +27,7 @@ sentence_for r a b _ h s = absurd assumption
 
 read_under : (r : Rules) (a b : Bool) (text : List ℕ) (nanos : ℕ) → HasNoOperator text
     → IsRead (with_no_calc r a) text nanos → IsRead (with_no_calc r b) text nanos
-read_under r a b text nanos plain read =
-    let none = no_operator_terminals (with_no_calc r a) read.lexemes
-    (lexemes_pass (λ c. not (is_operator c)) read.lexemes text plain read.spells.1) in record {
-      lexemes = read.lexemes;
-      spells = (sentence_for r a b (map (terminal_of r) read.lexemes) none read.spells.0, read.spells.1);
-      evaluates = read.evaluates;
-      value = read.value;
-    }
+read_under r a b text nanos plain read = search (rules, no_operator_terminals, lexemes_pass, sentence_for)
 
 pub no_calc_agrees_holds : NoCalcAgrees
 no_calc_agrees_holds r text nanos plain = (read_under r true false text nanos plain, read_under r false true text nanos plain)

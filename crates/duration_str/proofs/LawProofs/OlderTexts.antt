@@ -1,18 +1,9 @@
 -- The law `older_texts`: a sentence over the units without the quarter is a sentence over all units.
-use Rattle.duration_str.proofs.Common.{[], allows, ap, append-nil, ap₂, cases_Bool, Cause, CondUnit, expected_after, inl, inr, is_digit, is_unit_letter, IsRead, IsRefused, IsRefusedAt, IsSentence, IsSentenceOf, IsTrue, List, list_all, map, nanos_of, None, number, older_row_of, older_rules, older_table, OlderTexts, operator, Option, Options, Plus, refl, row_of, rules, rules_of, sentence_fault, sign_terminal, Some, Terminal, terminal_of, terms_after, terms_of, TimeUnit, unit_of_word, WasRefused, word, written_terms, ℕ, ⊤, ◌∙◌, ◌∷◌, ◌≡◌}
-use Rattle.duration_str.specs.Laws.{IsSameUnit}
-use Rattle.duration_str.specs.Units.{UnitRow}
+use Rattle.duration_str.proofs.Common.{[], allows, ap, append-nil, ap₂, cases_Bool, Cause, CondUnit, expected_after, inl, inr, is_digit, is_unit_letter, IsRead, IsRefused, IsRefusedAt, IsSentence, IsSentenceOf, IsTrue, List, list_all, map, nanos_of, None, number, older_rules, older_table, OlderTexts, operator, Option, Options, Plus, refl, rules, rules_of, sentence_fault, Some, Terminal, terminal_of, terms_after, terms_of, TimeUnit, unit_of_word, WasRefused, word, written_terms, ℕ, ⊤, ◌∙◌, ◌∷◌, ◌≡◌}
 use Rattle.duration_str.proofs.Sentences.AnswerLemmas.{sentence_refused}
 use Rattle.duration_str.proofs.Sentences.FrontLemmas.{AreAllowed, sentence_allowed}
 
 -- ---- Names and units
-
-name_kept : (o : Options) (name : List ℕ) (u : TimeUnit) → unit_of_word (older_rules o) name ≡ Some u
-    → unit_of_word (rules_of o) name ≡ Some u
-name_kept o name u e = search rules
-
-unit_kept : (u : TimeUnit) (row : UnitRow) → older_row_of u ≡ Some row → IsSameUnit row (row_of u)
-unit_kept u row e = search rules
 
 -- ---- Terminals and terms
 
@@ -28,10 +19,6 @@ same_word : (o : Options) (last : Option Terminal) (w : List ℕ) (found : Optio
     → (word found ≡ word (unit_of_word (rules_of o) w)) × KeepLengths (word found ∷ terminals)
 same_word o last w found terminals e a k = search rules
 
-sign_keeps : (w : List ℕ) (terminals : List Terminal) → KeepLengths terminals
-    → KeepLengths (sign_terminal w ∷ terminals)
-sign_keeps w terminals k = search rules
-
 -- A lexeme that the table of terminals allows at its place stands for the same terminal as before, with a unit of the
 -- same length.
 same_terminal : (o : Options) (last : Option Terminal) (w : List ℕ) (terminals : List Terminal)
@@ -44,7 +31,7 @@ same_terminal o last (c ∷ cs) terminals a k = elim (cases_Bool (list_all is_di
   | inr no_digits ↦ elim (cases_Bool (list_all (is_unit_letter o) (c ∷ cs))) [
     | inl letters ↦
         rw (no_digits, letters) (same_word o last (c ∷ cs) _ terminals refl (rw (no_digits, letters) at a) k)
-    | inr no_letters ↦ rw (no_digits, no_letters) (refl, sign_keeps (c ∷ cs) terminals k)
+    | inr no_letters ↦ rw (no_digits, no_letters) (refl, search rules)
   ]
 ]
 
@@ -103,8 +90,8 @@ older_cause o text cause was =
 
 pub older_texts_hold : OlderTexts
 older_texts_hold = record {
-  names = name_kept;
-  units = unit_kept;
+  names = search rules;
+  units = search rules;
   terminals = λ o lexemes text was. (older o lexemes text was).0;
   sentence = older_sentence;
   value = older_value;

@@ -1,6 +1,6 @@
 -- `lowercase` changes nothing for a text without ASCII capitals, and `cn_unit` changes nothing for a text without the
 -- Chinese characters of the units.
-use Rattle.duration_str.proofs.Common.{[], and_parts, answer, answer_at, ap, arith, Bool, byte_len, bytes_eq, Cause, drop, false, front_of, goes_on, HasNoCapital, HasNoChinese, if◌then◌else◌, is_ascii_uppercase, is_chinese, is_unit_letter, IsIdle, IsRead, IsRefused, IsTrue, lexemes_of, List, list_all, list_any, map, not, not-true, off, Option, Options, OptionsIdle, refl, Result, Rules, rules, rules_with, start_after, sym, take, Terminal, terminal_of, terminals_of, TimeUnit, to_ascii_lowercase, Token, tokens_from, tokens_of, true, unit_of_word, width, with_lowercase, ℕ, ◌+◌, ◌∙◌, ◌∷◌, ◌≡◌}
+use Rattle.duration_str.proofs.Common.{[], and_parts, answer, answer_at, arith, Bool, byte_len, bytes_eq, Cause, drop, false, front_of, goes_on, HasNoCapital, HasNoChinese, if◌then◌else◌, is_chinese, is_unit_letter, IsIdle, IsRead, IsRefused, IsTrue, List, list_all, list_any, map, not, not-true, off, Option, Options, OptionsIdle, refl, Result, Rules, rules, rules_with, start_after, sym, take, Terminal, terminal_of, terminals_of, TimeUnit, to_ascii_lowercase, Token, tokens_from, tokens_of, true, unit_of_word, width, with_lowercase, ℕ, ◌+◌, ◌∙◌, ◌∷◌, ◌≡◌}
 use Rattle.duration_str.proofs.Characters.UnitLemmas.{named_passes}
 use Rattle.duration_str.proofs.Sentences.SpellingLemmas.{EachPasses, lexemes_pass, tokens_spell}
 use Rattle.duration_str.proofs.Sentences.AnswerLemmas.{answer_read, answer_refused}
@@ -39,11 +39,7 @@ refused_alike r q text cause same h = (answer_refused q text cause).0 (sym same 
 
 idle : (choice : Bool → Rules) (text : List ℕ) → answer (choice true) text ≡ answer (choice false) text
     → IsIdle choice text
-idle choice text same =
-    let (on, off) : Rules × Rules = (choice true, choice false) in record {
-      value = λ nanos. (read_alike on off text nanos same, read_alike off on text nanos (sym same));
-      cause = λ cause. (refused_alike on off text cause same, refused_alike off on text cause (sym same));
-    }
+idle choice text same = search (rules, read_alike, refused_alike)
 
 -- ---- Options that agree on characters and words give the same tokens and terminals
 
@@ -76,14 +72,7 @@ module _ (r : Rules) (test : ℕ → Bool) (o p : Options) (same : Agree r test 
   lexemes_alike (w ∷ lexemes) h = rw (terminal_alike w h.0, lexemes_alike lexemes h.1)
 
   agree_alike : (text : List ℕ) → o.no_calc ≡ p.no_calc → IsTrue (list_all test text) → AreAlike r o p text
-  agree_alike text grammar h =
-      let tokens : tokens_of o text ≡ tokens_of p text = tokens_alike 0 text h in
-      let pass = lexemes_pass test (lexemes_of (tokens_of o text)) text h (tokens_spell o text) in record {
-        grammar = grammar;
-        tokens = tokens;
-        terminals = lexemes_alike (lexemes_of (tokens_of o text)) pass
-            ∙ ap (λ ts. map (terminal_of (under r p)) (lexemes_of ts)) tokens;
-      }
+  agree_alike text grammar h = search (rules, tokens_alike, lexemes_pass, tokens_spell, lexemes_alike)
 
 -- ---- ASCII capitals
 
@@ -113,22 +102,11 @@ other_names : (w : List ℕ) (names : List (List ℕ)) → HasNoChinese w → Is
     → list_any (bytes_eq w) names ≡ false
 other_names w names h k = search (rules, named_passes)
 
-cn_unit_unit : (default_unit : Option TimeUnit) (o : Options) (w : List ℕ) → HasNoChinese w
-    → unit_of_word (rules_with (record o { cn_unit = true }) default_unit) w
-    ≡ unit_of_word (rules_with (record o { cn_unit = false }) default_unit) w
-cn_unit_unit default_unit o w h = search (rules, form_not_chinese, other_names)
-
 lowercase_unit : (r : Rules) (w : List ℕ) → HasNoCapital w
     → unit_of_word (with_lowercase r true) w ≡ unit_of_word (with_lowercase r false) w
 lowercase_unit r w h = rw (all_lower w h) refl
 
 -- ---- The law
-
-lowercase_idle : (r : Rules) (text : List ℕ) → HasNoCapital text → IsIdle (with_lowercase r) text
-lowercase_idle r text h =
-    let (o, p) : Options × Options = (record (r.options) { lowercase = true }, record (r.options) { lowercase = false }) in
-    let agree : Agree r (λ c. not (is_ascii_uppercase c)) o p = record { letter = λ c e. refl; unit = lowercase_unit r } in
-    idle (with_lowercase r) text (same_answer r o p text (agree_alike r (λ c. not (is_ascii_uppercase c)) o p agree text refl h))
 
 cn_unit_idle : (default_unit : Option TimeUnit) (o : Options) (text : List ℕ) → HasNoChinese text
     → IsIdle (λ on. rules_with (record o { cn_unit = on }) default_unit) text
@@ -136,9 +114,9 @@ cn_unit_idle default_unit o text h =
     let r : Rules = rules_with o default_unit in
     let (on, off) : Options × Options = (record o { cn_unit = true }, record o { cn_unit = false }) in
     let agree : Agree r (λ c. not (is_chinese c)) on off =
-    record { letter = chinese_letter o; unit = cn_unit_unit default_unit o } in
+    record { letter = chinese_letter o; unit = search (rules, form_not_chinese, other_names) } in
     idle (λ b. rules_with (record o { cn_unit = b }) default_unit) text
     (same_answer r on off text (agree_alike r (λ c. not (is_chinese c)) on off agree text refl h))
 
 pub options_idle_holds : OptionsIdle
-options_idle_holds = record { lowercase = lowercase_idle; cn_unit = cn_unit_idle }
+options_idle_holds = record { lowercase = search (rules, lowercase_unit, idle, same_answer, agree_alike); cn_unit = cn_unit_idle }

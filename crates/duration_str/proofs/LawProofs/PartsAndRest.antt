@@ -1,22 +1,19 @@
 -- The parts that a breakdown returns, and what they leave, add up to the duration.
-use Rattle.duration_str.proofs.Common.{[], ap, arith, List, PartsAndRest, TimeUnit, ℕ, ◌++◌, ◌+◌, ◌∙◌, ◌∷◌, ◌≡◌}
+use Rattle.duration_str.proofs.Common.{[], ap, arith, List, PartsAndRest, TimeUnit, ℕ, ◌++◌, ◌+◌, ◌∙◌, ◌∷◌, ◌≡◌, rules}
 use Rattle.duration_str.specs.Breakdown.{nanos_left, parts_left, sum_of_parts, YieldsPart}
 use Rattle.duration_str.specs.declared.breakdown.Breakdown.{Breakdown}
 use Rattle.std.specs.Iterator.{Yields}
 
-come_first : (parts : List (TimeUnit × ℕ)) (old new : Breakdown) → Yields YieldsPart old parts new
+pub come_first : (parts : List (TimeUnit × ℕ)) (old new : Breakdown) → Yields YieldsPart old parts new
     → parts_left old ≡ parts ++ parts_left new
 come_first [] old new same = ap parts_left same
 come_first (part ∷ parts) old new (between, one, others) =
     one.first ∙ ap (λ (ps : List (TimeUnit × ℕ)). part ∷ ps) (come_first parts between new others)
 
-add_up : (parts : List (TimeUnit × ℕ)) (old new : Breakdown) → Yields YieldsPart old parts new
+pub add_up : (parts : List (TimeUnit × ℕ)) (old new : Breakdown) → Yields YieldsPart old parts new
     → nanos_left old ≡ sum_of_parts parts + nanos_left new
 add_up [] old new same = omega (arith, ap nanos_left same)
 add_up ((u, n) ∷ parts) old new (between, one, others) = omega (arith, one.rest, add_up parts between new others)
 
 pub parts_and_rest_hold : PartsAndRest
-parts_and_rest_hold = record {
-  first = λ old new parts are. come_first parts old new are;
-  rest = λ old new parts are. add_up parts old new are;
-}
+parts_and_rest_hold = search (rules, come_first, add_up)

@@ -1,13 +1,11 @@
 -- The table (`expected_after`) says what can follow the beginning of a sentence, and finds the front.
-use Rattle.duration_str.proofs.Common.{[], allows, CondUnit, expected_after, IsTrue, last_of, List, None, operator, Option, PlaceAndKinds, Rules, Some, sym, Terminal, true, true≢false, ◌∙◌, ◌∷◌, ◌≡◌, ◌≢◌}
+use Rattle.duration_str.proofs.Common.{[], allows, CondUnit, expected_after, IsTrue, last_of, List, None, operator, Option, PlaceAndKinds, Rules, Some, Terminal, true, true≢false, ◌∷◌, ◌≡◌, ◌≢◌, rules}
 use Rattle.duration_str.proofs.Sentences.FrontLemmas.{AreAllowed, begins_allowed, expected_by_table, no_operators, one_front, table_front}
 
 allowed_no_operator : (r : Rules) (last : Option Terminal) (t : Terminal)
     (op : CondUnit) → r.options.no_calc ≡ true
     → IsTrue (allows (expected_after r last) t) → Some t ≢ Some (operator op)
-allowed_no_operator r last (operator other_op) op e h =
-    λ q. true≢false (sym h ∙ no_operators r last e)
-allowed_no_operator r last _ op e h = λ q. cc
+allowed_no_operator r last t op e h = search (rules, true≢false, no_operators)
 
 no_operator_last : (r : Rules) (last : Option Terminal)
     (terminals : List Terminal) (op : CondUnit)

@@ -1,8 +1,8 @@
 -- Sums whose terms have the same values, maybe in another order, are equal.
-use Rattle.duration_str.proofs.Common.{[], arith, cases_Bool, cond-true, eq-eqb, eqb-true, find, if◌then◌else◌, List, map, refl, Reorder, Rules, rules_with, Some, sum_by, sum_by-cons, sum_of, Term, times_in, value_of_term, written_terms, ℕ, ◌+◌, ◌==◌, ◌∷◌, ◌≡◌, ◌≤◌}
+use Rattle.duration_str.proofs.Common.{[], arith, cases_Bool, cond-true, eq-eqb, eqb-true, find, if◌then◌else◌, List, map, refl, Reorder, Some, sum_by, sum_by-cons, sum_of, Term, times_in, value_of_term, ℕ, ◌+◌, ◌==◌, ◌∷◌, ◌≡◌, ◌≤◌}
 use Rattle.std.specs.Set.{remove_key}
 use Rattle.std.proofs.lemmas.Map.Made.{sum_by-remove_key}
-use Rattle.duration_str.proofs.Sentences.AnswerLemmas.{IsSumOf, read_below, read_sum, sum_read}
+use Rattle.duration_str.proofs.Sentences.AnswerLemmas.{read_below, read_sum, sum_read}
 
 -- 1 if x is n, and otherwise 0
 abbrev is_times : ℕ → ℕ → ℕ
@@ -45,10 +45,4 @@ sum_total (t ∷ terms) = rw (sum_by-cons (λ n. n) (value_of_term t) (map value
 
 pub reorder_holds : Reorder
 reorder_holds default_unit o a b lexemes others nanos s t plus other_plus counts read =
-    let r : Rules = rules_with o default_unit in
-    let (xs, ys) : List Term × List Term = (written_terms r lexemes, written_terms r others) in
-    let same = same_total (map value_of_term xs) (map value_of_term ys) counts in
-    let (first, second) : IsSumOf r lexemes a × IsSumOf r others b =
-    (record { sentence = s; plus = plus }, record { sentence = t; plus = other_plus }) in
-    let total : sum_of ys ≡ nanos = cc (sum_total xs, sum_total ys, same, read_sum first read) in
-    sum_read second total (read_below read)
+    grind (arith, same_total, sum_total, read_sum, sum_read, read_below)

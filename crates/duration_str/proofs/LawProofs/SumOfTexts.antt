@@ -1,5 +1,5 @@
 -- Two accepted texts without `*`, joined by a plus, have the sum of their values, or are refused as an overflow.
-use Rattle.duration_str.proofs.Common.{[], AllPlus, and_from, and_parts, append_assoc, arith, cases_Bool, codes, CondUnit, false, HasNoStar, inl, inr, IsBlank, IsRead, IsSentence, List, list_all-append, map, map-append, nat_tests, not, number, operator, operator_of, Plus, refl, Rules, rules, Some, Spells, sum_of, SumOfTexts, Term, Terminal, terminal_of, terms_after, terms_of, true, word, written_terms, ℕ, ◌++◌, ◌+◌, ◌==◌, ◌∙◌, ◌∷◌, ◌≡◌}
+use Rattle.duration_str.proofs.Common.{[], AllPlus, and_from, append_assoc, arith, cases_Bool, codes, CondUnit, false, HasNoStar, inl, inr, IsBlank, IsRead, IsSentence, List, list_all-append, map, map-append, nat_tests, not, number, operator, Plus, refl, Rules, rules, Some, Spells, sum_of, SumOfTexts, Term, Terminal, terminal_of, terms_after, terms_of, word, written_terms, ℕ, ◌++◌, ◌+◌, ◌==◌, ◌∙◌, ◌∷◌, ◌≡◌, common_steps}
 use Rattle.duration_str.proofs.Cutting.SortLemmas.{terminal_cases}
 use Rattle.duration_str.proofs.Sentences.SpellingLemmas.{begins_with, EachPasses, lexemes_pass}
 use Rattle.duration_str.proofs.Sentences.SumLemmas.{evaluate_fits, sum-append}
@@ -45,9 +45,6 @@ module _ (r : Rules) where
 
 -- ---- A text without `*` has no operator other than plus
 
-no_star_plus : (c : ℕ) (op : CondUnit) → not (c == 42) ≡ true → operator_of c ≡ Some op → op ≡ Plus
-no_star_plus c op h e = grind (arith, nat_tests)
-
 module _ (r : Rules) where
   lexemes_plus : (lexemes : List (List ℕ)) → EachPasses (λ c. not (c == 42)) lexemes
       → AllPlus (map (terminal_of r) lexemes)
@@ -56,7 +53,7 @@ module _ (r : Rules) where
       let more = lexemes_plus lexemes h.1 in
       terminal_cases r (λ w t. HasNoStar w → AllPlus (t ∷ map (terminal_of r) lexemes))
       (λ plain. more) (λ c cs digits plain. more) (λ c cs letters plain. more)
-      (λ c op _ _ sign plain. (no_star_plus c op (and_parts (not (c == 42)) _ plain).0 sign, more))
+      (λ c op _ _ sign plain. (grind (arith, nat_tests), more))
       (λ c cs _ _ plain. more) w h.0
 
   read_is_sum : {text : List ℕ} {nanos : ℕ} → HasNoStar text → (read : IsRead r text nanos)
@@ -84,13 +81,8 @@ joined_terminals r lexemes others = rw (append_assoc lexemes, map-append (termin
 
 joined_is_sum : {r : Rules} {a b : List ℕ} {lexemes others : List (List ℕ)} → r.options.no_calc ≡ false
     → IsSumOf r lexemes a → IsSumOf r others b → IsSumOf r (joined_lexemes lexemes others) (a ++ codes "+" ++ b)
-joined_is_sum {r} {a} {b} {lexemes} {others} calc s t =
-    let same = joined_terminals r lexemes others in
-    let sentence = both_sentence r (map (terminal_of r) lexemes) (map (terminal_of r) others) calc s.sentence.0 t.sentence.0 in
-    let front = spells_both lexemes (codes "+" ∷ []) a (codes "+") s.sentence.1 (begins_with [] [] refl refl refl) in record {
-      sentence = (rw same sentence, spells_both (lexemes ++ codes "+" ∷ []) others (a ++ codes "+") b front t.sentence.1);
-      plus = rw same (both_plus (map (terminal_of r) lexemes) (map (terminal_of r) others) s.plus t.plus);
-    }
+joined_is_sum calc s t =
+    grind (arith, common_steps, joined_terminals, both_sentence, spells_both, begins_with, both_plus)
 
 joined_terms : (r : Rules) (lexemes others : List (List ℕ)) → IsSentence r (map (terminal_of r) lexemes)
     → written_terms r (joined_lexemes lexemes others) ≡ written_terms r lexemes ++ written_terms r others

@@ -1,5 +1,5 @@
 -- Lemmas about the place of a fault, the token there, and the answer to a whole text.
-use Rattle.duration_str.proofs.Common.{[], and_parts, answer, answer_left, ap, append-nil, append_assoc, AreTokens, arith, Bool, Bor, byte_len, cases_Bool, Cause, chars, chars-append, chars-nil, common_steps, CondUnit, drop, drop-nil, early, early_fault, Empty, encodes, encodes-append, encodes-chars, eq-eqb, Err, evaluation_fault, false, fault_of_terms, ForSome, found_token, IfSome, IsCharBoundary, IsCharBoundary-at_seam, IsCharBoundary-start, IsLexeme, IsMissingAtEnd, IsNone, IsRefused, IsSliceOf, IsUtf8, IsUtf8-take, late, late_fault, length, length-append, length-encode, lexemes_of, List, map, ne_eqb, None, Option, Options, options_of, or_else, place_of, refl, rest_from, rest_of, Result, Rules, running_fault, scalars, scalars-chars, source, start_after, start_left, suc, sym, Syntax, syntax_fault, take, take-add, Term, Terminal, terminal_of, terminals_left, Token, token_at, Tokens, tokens_left, tokens_of, true, unless, zero, ℕ, ◌++◌, ◌+◌, ◌-◌, ◌<◌, ◌==◌, ◌↔◌, ◌∙◌, ◌∷◌, ◌≡◌, ◌≤◌}
+use Rattle.duration_str.proofs.Common.{[], and_parts, answer, answer_left, ap, append-nil, append_assoc, AreTokens, arith, Bool, Bor, byte_len, cases_Bool, Cause, chars, chars-append, common_steps, CondUnit, drop, drop-nil, early, early_fault, encodes, encodes-append, encodes-chars, eq-eqb, Err, evaluation_fault, false, fault_of_terms, ForSome, found_token, IfSome, IsCharBoundary, IsCharBoundary-at_seam, IsCharBoundary-start, IsMissingAtEnd, IsNone, IsRefused, IsSliceOf, IsUtf8, IsUtf8-take, late, late_fault, length, length-append, length-encode, lexemes_of, List, map, ne_eqb, None, Option, Options, options_of, or_else, place_of, refl, rest_from, rest_of, Result, Rules, running_fault, scalars, scalars-chars, source, start_after, start_left, suc, sym, Syntax, syntax_fault, take, take-add, Term, Terminal, terminal_of, terminals_left, Token, token_at, Tokens, tokens_left, tokens_of, true, unless, zero, ℕ, ◌++◌, ◌+◌, ◌-◌, ◌<◌, ◌==◌, ◌↔◌, ◌∙◌, ◌∷◌, ◌≡◌, ◌≤◌, rules}
 use Rattle.duration_str.specs.OtherResults.{ReachesPlace}
 use Rattle.duration_str.specs.Internal.Rest.{IsPlacedUpTo}
 use Rattle.duration_str.proofs.Characters.CharacterLemmas.{byte_len-append}
@@ -82,17 +82,12 @@ start_placed o bs xs cs zero at (p ∷ tokens) utf8 e w (rest, next, more) =
     rw (next.start, w, ← byte_len-append)
     (seam bs (xs ++ next.blanks) (p.characters ++ rest) utf8 (rw append_assoc (rw next.parts at e)))
 start_placed o bs xs cs (suc n) at (p ∷ tokens) utf8 e w (rest, next, more) =
-    start_placed o bs (xs ++ (next.blanks ++ p.characters)) rest n (p.start + byte_len p.characters) tokens utf8
-    (simp append_assoc (rw next.parts at e)) (simp byte_len-append (omega (arith, next.start, w))) more
+    let end : ℕ = p.start + byte_len p.characters in
+    search (rules, append_assoc, byte_len-append, start_placed o bs (xs ++ (next.blanks ++ p.characters)) rest n end tokens)
 
 -- If the start of the text and the place of a syntax fault have a property, the place of any fault has it.
 stands_at : (P : ℕ → Type 0) → P 0 → (cause : Cause) → Stands P cause → ForSome (place_of cause) P
 stands_at P start cause h = grind arith
-
--- Each token starts at a character boundary, and the text ends at one.
-pub starts_placed : (o : Options) (bs : List ℕ) (n : ℕ) → IsUtf8 bs
-    → IsCharBoundary bs (start_after n (byte_len (chars bs)) (tokens_of o (chars bs)))
-starts_placed o bs n utf8 = start_placed o bs [] (chars bs) n 0 _ utf8 refl refl (tokens_are o 0 (chars bs))
 
 -- The place of the answer's fault is a character boundary.
 pub fault_placed : (r : Rules) {c : Cause} (bs : List ℕ) → IsUtf8 bs → answer r (chars bs) ≡ Err c
@@ -100,7 +95,7 @@ pub fault_placed : (r : Rules) {c : Cause} (bs : List ℕ) → IsUtf8 bs → ans
 fault_placed r {c} bs utf8 e =
     stands_at (IsCharBoundary bs) (IsCharBoundary-start bs utf8) c
     (refused_stands (IsCharBoundary bs) r (chars bs) c ((answer_refused r (chars bs) c).0 e)
-    (λ n. starts_placed r.options bs n utf8))
+    (λ n. start_placed r.options bs [] (chars bs) n 0 _ utf8 refl refl (tokens_are r.options 0 (chars bs))))
 
 -- Before an earlier place there are at most as many characters as before a later place.
 pub chars_before : (bs : List ℕ) (place at : ℕ) → IsUtf8 bs → IsCharBoundary bs place → place ≤ at
@@ -122,15 +117,12 @@ reaches_place r bs at looks cause utf8 is placed least place expected e =
 
 -- ---- A syntax fault has no token exactly if it stands at the end of the text
 
-lexeme_some : (o : Options) (w : List ℕ) → IsLexeme o w → 0 < byte_len w
-lexeme_some o w l = grind arith
-
 -- No token of a text starts at the end of the text.
 none_at : (o : Options) (n at : ℕ) (text : List ℕ) (tokens : List Token) → n ≡ at + byte_len text
     → AreTokens o at text tokens → token_at n tokens ≡ None
 none_at o n at text [] e a = refl
 none_at o n at text (p ∷ tokens) e (rest, next, more) =
-    grind (arith, byte_len-append, lexeme_some, ne_eqb, none_at o n (p.start + byte_len p.characters) rest tokens)
+    grind (arith, byte_len-append, ne_eqb, none_at o n (p.start + byte_len p.characters) rest tokens)
 
 -- At the start of each token a token is found.
 found_at : (n len : ℕ) (tokens : List Token) → token_at (start_after n len tokens) tokens ≡ None
@@ -170,10 +162,6 @@ same_start r n len [] = rw drop-nil
 same_start r zero len (p ∷ tokens) = refl
 same_start r (suc n) len (p ∷ tokens) = same_start r n len tokens
 
-nonempty_answer : (r : Rules) (text : List ℕ) → 0 < byte_len text
-    → answer r text ≡ answer_left r (rest_from r (byte_len text) (tokens_of r.options text))
-nonempty_answer r text h = grind (arith, all_terminals, same_start)
-
 pub text_answer : (r : Rules) {bs : List ℕ} {result : Result ℕ Cause} (tokens : Tokens) → IsUtf8 bs
     → false ≡ (length bs == 0) → source tokens ≡ bs → options_of tokens ≡ r.options
     → tokens_left tokens ≡ tokens_of r.options (chars bs) → result ≡ answer_left r (rest_of r tokens)
@@ -184,7 +172,4 @@ text_answer r {bs} tokens utf8 filled text options all is =
     let len : byte_len (chars bs) ≡ length (source tokens) = count ∙ ap length (sym text) in
     let same : rest_from r (byte_len (chars bs)) (tokens_of r.options (chars bs)) ≡ rest_of r tokens =
     λ i. rest_from (record r { options = (sym options) i }) (len i) ((sym all) i) in
-    nonempty_answer r (chars bs) some ∙ ap (answer_left r) same ∙ sym is
-
-pub empty_answer : (r : Rules) (bs : List ℕ) → length bs ≡ 0 → answer r (chars bs) ≡ Err Empty
-empty_answer r bs h = grind (arith, common_steps, chars-nil)
+    grind (arith, all_terminals, same_start) ∙ ap (answer_left r) same ∙ sym is

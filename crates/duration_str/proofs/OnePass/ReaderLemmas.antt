@@ -1,5 +1,5 @@
 -- Lemmas about the reader's steps: what comes next, by the sort of the token ahead, and what is left after it.
-use Rattle.duration_str.proofs.Common.{[], answer_left, arith, Bool, cases_Bool, Cause, CondUnit, cut_place, early_fault, end_at, Err, expected_at_start, false, if◌then◌else◌, inl, inr, is_number, is_some, leaving, length, List, LooksAhead, None, not, number, number_fault, Ok, ok_or, operator, operator_read, Option, other, refl, Rest, rest_from, rest_of, Rules, rules, rules_at, Some, sort_of, source, sym, Syntax, TakesToken, Terminal, terminal_at, terminal_of, terminals_left, TimeUnit, Tokens, TokenStart, true, unit_read, word, ℕ, ◌∷◌, ◌≡◌}
+use Rattle.duration_str.proofs.Common.{answer_left, arith, Bool, cases_Bool, Cause, CondUnit, cut_place, end_at, Err, expected_at_start, false, if◌then◌else◌, is_number, leaving, length, LooksAhead, None, not, number, number_fault, Ok, ok_or, operator, operator_read, Option, other, refl, Rest, rest_from, rest_of, Rules, rules, rules_at, Some, sort_of, source, sym, Syntax, TakesToken, Terminal, terminal_at, terminal_of, TimeUnit, Tokens, TokenStart, true, unit_read, word, ℕ, ◌≡◌}
 use Rattle.duration_str.specs.Answer.{expected_after_number, expected_after_unit}
 use Rattle.duration_str.proofs.Cutting.StepLemmas.{first_left, none_left}
 use Rattle.duration_str.specs.declared.token.TokenStart.TheVariants as sorts
@@ -23,10 +23,7 @@ StartsWith sorts.Other at rest = (more : Rest) × (rest ≡ terminal_at at other
 
 by_terminal : (terminal : Terminal) (at : ℕ) (rest more : Rest) → rest ≡ terminal_at at terminal more
     → StartsWith (sort_of terminal) at rest
-by_terminal (number n) at rest more is = (n, more, is)
-by_terminal (word u) at rest more is = (u, more, is)
-by_terminal (operator op) at rest more is = (more, is)
-by_terminal other at rest more is = (more, is)
+by_terminal terminal at rest more is = search rules
 
 pub starts : (r : Rules) {s m : Tokens} {ahead : Option TokenStart} {sort : TokenStart} → LooksAhead s m ahead
     → ahead ≡ Some sort → StartsWith sort (cut_place m) (rest_of r s)
@@ -52,21 +49,10 @@ pub is_on : (b : Bool) → not b ≡ false → b ≡ true
 is_on true h = refl
 is_on false h = cc h
 
-none_early : (r : Rules) (rest : List Terminal) → early_fault r [] rest ≡ None
-none_early r [] = elim (cases_Bool r.options.no_calc) [
-  | inl calc ↦ elim (cases_Bool (is_some r.default_unit)) [ inl some ↦ rw (calc, some) refl | inr none ↦ rw (calc, none) refl ]
-  | inr calc ↦ elim (cases_Bool (is_some r.default_unit)) [ inl some ↦ rw (calc, some) refl | inr none ↦ rw (calc, none) refl ]
-]
-none_early r (t ∷ rest) = elim (cases_Bool r.options.no_calc) [ inl calc ↦ rw calc refl | inr calc ↦ rw calc refl ]
-
 -- If the rest does not start with a number, the fault of that is the answer.
 pub no_number : (r : Rules) (rest : Rest) (cause : Cause) → number_fault rest ≡ Some cause
     → Err cause ≡ answer_left r rest
-no_number r (terminal_at at (number n) rest) cause h = cc h
-no_number r (terminal_at at (word u) rest) cause h = rw (none_early r (word u ∷ terminals_left rest)) (cc h)
-no_number r (terminal_at at (operator op) rest) cause h = rw (none_early r (operator op ∷ terminals_left rest)) (cc h)
-no_number r (terminal_at at other rest) cause h = rw (none_early r (other ∷ terminals_left rest)) (cc h)
-no_number r (end_at at) cause h = rw (none_early r []) (cc h)
+no_number r rest cause h = search (rules, cases_Bool)
 
 -- What is read before an operator, with and without `no_calc`: the unit after a number, and the operator.
 module _ (r : Rules) (rest after : Rest) (at : ℕ) (op : CondUnit) (is : rest ≡ terminal_at at (operator op) after) where

@@ -1,9 +1,9 @@
 -- The terms that are left while a text is read, and the answer that they give.
-use Rattle.duration_str.proofs.Common.{[], AllPlus, answer_at, answer_left, ap, arith, Bool, by_operator, Cause, checked_term, complete_terminals, CondUnit, cut_place, drop, Err, Expected, expected_after, false, fault_or, front_of, IfErr, if◌then◌else◌, IsTrue, last_of, leaving, length, List, None, number, Ok, operator, operator_read, Option, Plus, ReadItem, refl, Rest, rest_of, Result, Rules, rules, Some, start_left, subst, sym, Syntax, take, TakesNumber, Term, Terminal, terminal_at, terminals_left, terms_after, terms_of, TimeUnit, Tokens, true, unit_read, UnitRow, unless, with_term, without_last_number, word, ℕ, ◌<◌, ◌∙◌, ◌∷◌, ◌≡◌}
+use Rattle.duration_str.proofs.Common.{[], AllPlus, answer_at, answer_left, ap, arith, Bool, Cause, checked_term, complete_terminals, CondUnit, cut_place, drop, Err, Expected, expected_after, false, fault_or, front_of, IfErr, if◌then◌else◌, IsTrue, last_of, leaving, length, List, None, number, Ok, operator, operator_read, Option, Plus, ReadItem, refl, Rest, rest_of, Result, Rules, rules, Some, start_left, subst, sym, Syntax, take, TakesNumber, Term, Terminal, terminal_at, terminals_left, terms_after, terms_of, TimeUnit, Tokens, true, unit_read, UnitRow, unless, with_term, without_last_number, word, ℕ, ◌<◌, ◌∙◌, ◌∷◌, ◌≡◌}
 use Rattle.duration_str.proofs.Sentences.FrontLemmas.{begins_allowed, whole_complete, table_front}
 use Rattle.duration_str.proofs.Sentences.SumLemmas.{AreAdded, terms_added}
 use Rattle.duration_str.proofs.Sentences.AnswerLemmas.{allowed_plus}
-use Rattle.duration_str.proofs.OnePass.EvaluationLemmas.{after_term, answer_after_first, answer_of, answer_given, checked_term_is, one_by_one}
+use Rattle.duration_str.proofs.OnePass.EvaluationLemmas.{answer_after_first, answer_of, answer_given, checked_term_is, one_by_one}
 use Rattle.duration_str.proofs.OnePass.ReaderLemmas.{after_token}
 
 -- the syntax fault at a place where these kinds are expected and these terminals follow, if there is one
@@ -68,8 +68,7 @@ module _ (table : TimeUnit → UnitRow) (lowercase cn_unit : Bool) where
       left_after r op (terminal_at at (number n) rest) ≡ after_number r op n (unit_read r rest)
   terms_read_from default_unit no_calc op at n (terminal_at p (word (Some u)) (terminal_at q (number m) rest)) = search rules
   terms_read_from default_unit false op at n (terminal_at p (word (Some u)) (terminal_at q (operator next)
-      (terminal_at r (number m) rest))) =
-      search arith
+      (terminal_at r (number m) rest))) = search rules
   terms_read_from (Some b) false op at n (terminal_at p (operator next) (terminal_at q (number m) rest)) = search rules
   terms_read_from (Some b) false op at n rest = refl
   terms_read_from (Some b) true op at n rest = refl
@@ -122,11 +121,6 @@ pub unread : (no_calc : Bool) (first : ℕ) (later : Result (Option (CondUnit ×
     → IfErr later (λ fault. no_calc ≡ false) → with_left no_calc first later (no_terms cause) ≡ Err cause
 unread no_calc first later cause held = search rules
 
-by_total : (no_calc : Bool) (first : ℕ) (op : CondUnit) (left : Ended) (total : Result ℕ Cause)
-    → after_term no_calc left.fault (λ n. answer_given no_calc first (Some (op, n)) left.terms left.fault) total
-    ≡ with_left no_calc first (by_operator op total) left
-by_total no_calc first op left total = search rules
-
 -- Reading a later term, from p up to b, and combining it keeps the answer.
 pub later_step : (r : Rules) (first : ℕ) (later : Result (Option (CondUnit × ℕ)) Cause) (p : Rest) {s a : Tokens}
     {b : Rest} {n : Option ℕ} {u : TimeUnit} {next : CondUnit}
@@ -136,7 +130,7 @@ pub later_step : (r : Rules) (first : ℕ) (later : Result (Option (CondUnit × 
     ≡ with_left r.options.no_calc first (with_term later next n (r.table u).nanos) (after_unit r (operator_read r b))
 later_step r first (Ok later) p {b = b} {next = next} read taken unit =
     ap (with_left r.options.no_calc first (Ok later)) (term_passed r p read taken _ unit)
-    ∙ rw taken.is_value (by_total r.options.no_calc first next (after_unit r (operator_read r b)) _)
+    ∙ rw taken.is_value (search rules)
 later_step r first (Err fault) p read taken unit =
     ap (with_left r.options.no_calc first (Err fault)) (term_passed r p read taken _ unit)
 

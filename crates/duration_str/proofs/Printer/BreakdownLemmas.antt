@@ -1,7 +1,6 @@
 -- Lemmas about the parts of a duration.
-use Rattle.duration_str.proofs.Common.{ap, arith, cases_Bool, cases_lt, common_steps, counts_within, div-add-mod', drop, eqb-true, inl, inr, length, List, map, nanos_of, nat_tests, nonzero, refl, rules, slice_index_or, Style, sym, TimeUnit, with_counts, with_part, with_parts, zero-div, [], ℕ, ◌%◌, ◌*◌, ◌+◌, ◌-◌, ◌∙◌, ◌/◌, ◌<◌, ◌==◌, ◌^◌, ◌∷◌, ◌≡◌, ◌≤◌}
-use Rattle.duration_str.proofs.Printer.FormatLemmas.{each_short, part_grows}
-use Rattle.duration_str.proofs.LawProofs.GreatestWithin.{some_length}
+use Rattle.duration_str.proofs.Common.{ap, arith, cases_Bool, cases_lt, common_steps, counts_within, div-add-mod', eqb-true, inl, inr, length, List, map, nanos_of, nat_tests, nonzero, refl, rules, Style, sym, TimeUnit, with_counts, with_part, with_parts, zero-div, [], ℕ, ◌%◌, ◌*◌, ◌+◌, ◌-◌, ◌∙◌, ◌/◌, ◌<◌, ◌==◌, ◌^◌, ◌∷◌, ◌≡◌, ◌≤◌, length-append}
+use Rattle.duration_str.proofs.Characters.UnitLemmas.{each_short, some_length}
 use Rattle.duration_str.specs.Breakdown.{parts_in}
 use Rattle.duration_str.specs.Internal.PrintedBytes.{with_each}
 
@@ -48,33 +47,15 @@ each_printed style _ bytes _ = refl
 pub each_grows : (style : Style) (bytes : List ℕ) (parts : List (TimeUnit × ℕ))
     → length bytes ≤ length (with_each style bytes parts)
 each_grows style bytes [] = omega arith
-each_grows style bytes ((u, n) ∷ parts) = omega (
-  arith,
-  part_grows style bytes u n,
-  each_grows style (with_part style bytes u n) parts,
-)
+each_grows style bytes ((u, n) ∷ parts) = search (rules, each_grows style (with_part style bytes u n) parts, length-append)
 
 -- After the first part of a duration of 2^64 nanoseconds or more, the parts of the rest are left.
 pub long_rest : (us : List TimeUnit) (most nanos : ℕ) (u : TimeUnit) (n rest : ℕ) (parts : List (TimeUnit × ℕ))
     → 2 ^ 64 ≤ nanos → parts_in us most nanos ≡ (u, n) ∷ parts → nanos ≡ n * nanos_of u + rest → rest < nanos_of u
     → (1 ≤ most) × (rest < 2 ^ 64) × (parts ≡ parts_in us (most - 1) rest)
 long_rest [] most nanos u n rest parts long first whole less = grind (arith, common_steps)
-long_rest (v ∷ us) most nanos u n rest parts long first whole less = elim (cases_Bool (most == 0)) [
-  | inl none ↦ let no = parts_none (v ∷ us) most nanos (eqb-true most 0 none) in grind (arith, common_steps)
-  | inr some ↦
-      let left : 1 ≤ most = grind (arith, nat_tests) in
-      let taken = sym first ∙ part_taken v us most nanos left (omega (arith, each_short v)) in
-      let same = ap (λ (ps : List (TimeUnit × ℕ)). slice_index_or ps 0 (v, 0)) taken in
-      let unit = ap (λ (p : TimeUnit × ℕ). p.0) same in
-      let count = ap (λ (p : TimeUnit × ℕ). p.1) same in
-      let others = ap (drop 1) taken in
-      let remainder : rest ≡ nanos % nanos_of v =
-      omega (arith, rw (unit, count) at whole, div-add-mod' nanos (nanos_of v)) in (
-        left,
-        omega (arith, each_short u, less),
-        rw remainder (others ∙ part_skipped v us (most - 1) (nanos % nanos_of v) (omega (arith, some_length v))),
-      )
-]
+long_rest (v ∷ us) most nanos u n rest parts long first whole less =
+    grind (arith, parts_none, part_taken, part_skipped, some_length, each_short, div-add-mod')
 
 -- If these are the parts, printing them prints the duration.
 pub parts_printed : (style : Style) (us : List TimeUnit) (bytes : List ℕ) (most nanos : ℕ)

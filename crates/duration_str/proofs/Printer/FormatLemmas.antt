@@ -1,21 +1,17 @@
 -- Lemmas about the steps of printing in a format, and about the most bytes that a text has.
-use Rattle.duration_str.proofs.Common.{add_assoc, append_assoc, ap, arith, between, byte_len, cases_Bool, chars, chars_from_encodes, counts_within, decimal, div-le_self, drop, encode_utf8_all, Format, inl, inr, IsPrintedWithin, IsUtf8, le-div_iff_mul-le, leb, leb-true, length, length-append, lengths_within, List, ltb, ltb-true, map, most_len, nanos_of, nat_tests, part_bytes, Printed, printed_row, rank_of, refl, row_of, rules, slice_index_or, Style, sym, take, take-append-add, text_within, TimeUnit, units, units_within, with_counts, with_gap, with_part, Year, zero-div, zero_unit, [], ℕ, ◌%◌, ◌*◌, ◌++◌, ◌+◌, ◌-◌, ◌∙◌, ◌/◌, ◌<◌, ◌==◌, ◌^◌, ◌∷◌, ◌≡◌, ◌≤◌, Bool, Day, Hour, list_all, true, and_parts, with_parts, Units}
+use Rattle.duration_str.proofs.Common.{append_assoc, ap, arith, between, byte_len, cases_Bool, chars, chars_from_encodes, counts_within, decimal, div-le_self, drop, encode_utf8_all, Format, inl, inr, IsPrintedWithin, IsUtf8, le-div_iff_mul-le, leb, leb-true, length, length-append, lengths_within, List, map, most_len, nanos_of, nat_tests, part_bytes, Printed, printed_row, rank_of, refl, row_of, rules, slice_index_or, Style, sym, take, take-append-add, text_within, TimeUnit, units, units_within, with_counts, with_gap, with_part, Year, zero-div, zero_unit, [], ℕ, ◌%◌, ◌*◌, ◌++◌, ◌+◌, ◌-◌, ◌∙◌, ◌/◌, ◌<◌, ◌==◌, ◌^◌, ◌∷◌, ◌≡◌, ◌≤◌, Bool, Day, Hour, list_all, true, and_parts, with_parts, Units, common_steps, cases_lt}
 use Rattle.duration_str.proofs.Printer.SetLemmas.{chosen_in, chosen_none, chosen_out, hours_chosen}
 use Rattle.duration_str.specs.Format.{chosen, is_in, up_to}
 use Rattle.std.specs.Prelude.{max}
-use Rattle.duration_str.proofs.Characters.UnitLemmas.{all_units, each_unit, length_name, length_part, name_len}
+use Rattle.duration_str.proofs.Characters.UnitLemmas.{all_units, each_short, each_unit, length_name, length_part, name_len, some_length}
 use Rattle.duration_str.proofs.Printer.DigitLemmas.{length_smaller}
 use Rattle.duration_str.proofs.Printer.PrintedBytesLemmas.{AreShort, ended, ended_parts, IsUtf8-joined, no_gap}
-use Rattle.duration_str.proofs.LawProofs.GreatestWithin.{below_length, greatest_within, some_length}
+use Rattle.duration_str.proofs.LawProofs.GreatestWithin.{greatest_within}
 use Rattle.duration_str.specs.Internal.PrintedBytes.{digits}
 use borrow.Rule.Slice.PartMut.{put_mid}
 use Rattle.std.proofs.lemmas.List.{take-append-le}
 
 -- ---- Units of a day or longer
-
-pub unit_skipped : (style : Style) (u : TimeUnit) (us : List TimeUnit) (bytes : List ℕ) (most nanos : ℕ)
-    → nanos < nanos_of u → with_parts style bytes us most nanos ≡ with_parts style bytes (u ∷ us) most nanos
-unit_skipped style u us bytes most nanos long = search rules
 
 abbrev is_days : TimeUnit → Bool
 is_days u = leb (nanos_of Day) (nanos_of u)
@@ -29,7 +25,7 @@ without_days style (u ∷ longer) shorter bytes most nanos long h =
     let parts = and_parts (is_days u) (list_all is_days longer) long in
     let more : nanos < nanos_of u = omega (arith, leb-true (nanos_of Day) (nanos_of u) parts.0) in
     without_days style longer shorter bytes most nanos parts.1 h
-    ∙ unit_skipped style u (longer ++ shorter) bytes most nanos more
+    ∙ search rules
 
 -- If all of these units are a day or longer, so are those among them that are in the set.
 days_chosen : (set : Units) (us : List TimeUnit) → list_all is_days us ≡ true
@@ -44,10 +40,7 @@ days_chosen set (u ∷ us) long =
 
 chosen-append : (set : Units) (a b : List TimeUnit) → chosen set (a ++ b) ≡ chosen set a ++ chosen set b
 chosen-append set [] b = rw (chosen_none set)
-chosen-append set (u ∷ a) b = elim (cases_Bool (is_in set u)) [
-  | inl inside ↦ rw (chosen_in set u (a ++ b) inside, chosen_in set u a inside, chosen-append set a b)
-  | inr out ↦ rw (chosen_out set u (a ++ b) out, chosen_out set u a out, chosen-append set a b)
-]
+chosen-append set (u ∷ a) b = search (rules, cases_Bool, chosen_in, chosen_out, chosen-append set a b)
 
 pub chosen_below_day : (style : Style) (set : Units) (bytes : List ℕ) (most nanos : ℕ) → nanos < nanos_of Day
     → with_parts style bytes (chosen (up_to Hour set) units) most nanos
@@ -64,15 +57,6 @@ pub with_none : (style : Style) (us : List TimeUnit) (bytes : List ℕ) (most na
     → bytes ≡ with_counts style bytes us (counts_within (map nanos_of us) most nanos)
 with_none style [] bytes most nanos none = refl
 with_none style (u ∷ us) bytes most nanos none = rw none (with_none style us bytes 0 nanos refl)
-
-pub part_grows : (style : Style) (bytes : List ℕ) (u : TimeUnit) (n : ℕ) → length bytes ≤ length (with_part style bytes u n)
-part_grows style bytes u n = search (rules, length-append)
-
-counts_grow : (style : Style) (us : List TimeUnit) (bytes counts : List ℕ)
-    → length bytes ≤ length (with_counts style bytes us counts)
-counts_grow style (u ∷ us) bytes (n ∷ counts) =
-    search (rules, part_grows, counts_grow style us (with_part style bytes u n) counts)
-counts_grow style _ bytes _ = omega arith
 
 -- If no nanoseconds are left, nothing is added to the bytes.
 pub with_nothing : (style : Style) (us : List TimeUnit) (bytes : List ℕ) (most nanos : ℕ) → nanos ≡ 0
@@ -98,9 +82,6 @@ part_more : (style : Style) (bytes : List ℕ) (u : TimeUnit) (n most : ℕ) →
     ≤ length (with_gap style bytes) + (length (decimal most) + name_len style u + length (between style))
 part_more style bytes u n most h small = search (rules, gap_more, length-append, length_part, length_smaller)
 
-short_length : (u : TimeUnit) → nanos_of u < 10 ^ 64
-short_length u = ltb-true (nanos_of u) (10 ^ 64) (all_units (λ v. ltb (nanos_of v) (10 ^ 64)) refl u)
-
 -- The parts take no more than `most_bytes`.
 parts_fit : (style : Style) (us : List TimeUnit) (limit : ℕ) (bytes : List ℕ) (most nanos : ℕ)
     → nanos < limit → limit ≤ 10 ^ 64
@@ -114,11 +95,11 @@ parts_fit style (u ∷ us) limit bytes most nanos h small = elim (cases_Bool (mo
   | inr some ↦
       let l = nanos_of u in
       let positive : 1 ≤ l = some_length u in
-      let short : l < 10 ^ 64 = short_length u in
+      let short : l < 10 ^ 64 = omega (arith, each_short u) in
       elim (cases_Bool (nanos / l == 0)) [
         | inl nothing ↦
             let none : nanos / l ≡ 0 = grind (arith, nat_tests) in
-            let below : nanos < l = below_length nanos l positive none in
+            let below : nanos < l = search (rules, cases_lt, le-div_iff_mul-le) in
             rw (some, nothing) (omega (arith, parts_fit style us l bytes most nanos below (omega arith)))
         | inr count ↦
             let below : nanos % l < l = omega arith in
@@ -143,10 +124,8 @@ worst style limit (u ∷ us) =
 chosen_most : (style : Style) (set : Units) (limit : ℕ) (us : List TimeUnit)
     → most_bytes style limit (chosen set us) ≤ worst style limit us
 chosen_most style set limit [] = rw (chosen_none set) (omega arith)
-chosen_most style set limit (u ∷ us) = elim (cases_Bool (is_in set u)) [
-  | inl inside ↦ rw (chosen_in set u us inside) (omega (arith, chosen_most style set (nanos_of u) us))
-  | inr out ↦ rw (chosen_out set u us out) (omega (arith, chosen_most style set limit us))
-]
+chosen_most style set limit (u ∷ us) =
+    search (rules, cases_Bool, chosen_in, chosen_out, chosen_most style set (nanos_of u) us, chosen_most style set limit us)
 
 worst_fits : (style : Style) → worst style (2 ^ 64 * 10 ^ 9) units ≤ most_len style + length (between style)
 unfolding digits
@@ -216,8 +195,7 @@ name_space : (u : TimeUnit)
     → take (length (encode_utf8_all (row_of u).printed) + 1) (printed_row u).letters
     ≡ encode_utf8_all (row_of u).printed ++ 32 ∷ []
 unfolding lib.Utf8.encode
-name_space = each_unit (λ u. take (length (encode_utf8_all (row_of u).printed) + 1) (printed_row u).letters
-    ≡ encode_utf8_all (row_of u).printed ++ 32 ∷ []) assumption
+name_space = search (rules, each_unit)
 
 letters_len : (u : TimeUnit) → length (printed_row u).letters ≡ 4
 unfolding lib.Utf8.encode
@@ -239,10 +217,4 @@ pub name_spaced : (at k : ℕ) (bytes : List ℕ) (u : TimeUnit) → at ≤ leng
     → take (at + length (encode_utf8_all (row_of u).printed) + 1) (put_mid at k bytes (printed_row u).letters)
     ≡ take at bytes ++ encode_utf8_all (row_of u).printed ++ 32 ∷ []
 name_spaced at k bytes u inside =
-    let width = length (encode_utf8_all (row_of u).printed) in
-    rw add_assoc
-    (take_part at k (width + 1) bytes (printed_row u).letters inside (omega (arith, letters_len u, name_short u))
-    ∙ rw (name_space u, append_assoc))
-
-pub each_short : (u : TimeUnit) → nanos_of u < 2 ^ 64
-each_short u = ltb-true (nanos_of u) (2 ^ 64) (all_units (λ v. ltb (nanos_of v) (2 ^ 64)) refl u)
+    grind (arith, common_steps, take_part, letters_len, name_short, name_space, append_assoc)

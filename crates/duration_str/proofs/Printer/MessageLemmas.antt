@@ -1,5 +1,5 @@
 -- The message of a fault is UTF-8, and its last byte is no line feed.
-use Rattle.duration_str.proofs.Common.{ap, arith, byte_text, caret_text, Cause, codes, encode_utf8_all, EndsInsideLine, IfSome, IsAscii-decimal, IsCharBoundary, IsCharBoundary-from_ascii, IsUtf8, IsUtf8-append, IsUtf8-from_ascii, last_or, line_of, List, lit<, Option, placed_text, refl, replicate, replicate-append-replicate, rules, Some, take, take-replicate, [], ℕ, ◌++◌, ◌-◌, ◌<◌, ◌^◌, ◌∙◌, ◌∷◌, ◌≡◌, ◌≢◌, ◌≤◌}
+use Rattle.duration_str.proofs.Common.{ap, arith, byte_text, caret_text, Cause, codes, encode_utf8_all, IfSome, IsAscii-decimal, IsCharBoundary, IsCharBoundary-from_ascii, IsUtf8, IsUtf8-append, IsUtf8-from_ascii, last_or, line_of, List, lit<, Option, refl, replicate, replicate-append-replicate, rules, Some, take, take-replicate, [], ℕ, ◌++◌, ◌-◌, ◌<◌, ◌^◌, ◌∙◌, ◌∷◌, ◌≡◌, ◌≢◌, ◌≤◌}
 use Rattle.std.proofs.lemmas.List.Elements.{All-replicate}
 use Rattle.std.proofs.lemmas.Str.Ascii.{IsAscii-from_all}
 use Rattle.duration_str.specs.Buffers.{IsInFront}
@@ -35,12 +35,8 @@ line_last : (cause : Cause) (o : Option ℕ) → last_or o (encode_utf8_all (lin
 unfolding lib.Utf8.encode
 line_last cause o = search rules
 
-placed_ends : (text : List ℕ) (cause : Cause) (place : Option ℕ)
-    → EndsInsideLine (placed_text text place (encode_utf8_all (line_of cause)))
-placed_ends text cause place = search (rules, line_last, last_or-append)
-
 pub last_line_holds : LastLine
-last_line_holds = search (rules, line_last, placed_ends)
+last_line_holds = search (rules, line_last, last_or-append)
 
 -- ---- Runs of spaces
 

@@ -1,5 +1,5 @@
 -- Lemmas about the table of near words.
-use Rattle.duration_str.proofs.Common.{ap, arith, Bool, bytes_eq, bytes_eq-Decides, cases_Bool, codes, encode_utf8_all, false, find, if◌then◌else◌, inl, inr, List, map, MicroSecond, None, Option, or_cases, refl, row_of, Some, sym, TimeUnit, to_ascii_lowercase, units, [], ℕ, ◌||◌, ◌∙◌, ◌∷◌, ◌≡◌}
+use Rattle.duration_str.proofs.Common.{ap, arith, Bool, bytes_eq, bytes_eq-Decides, cases_Bool, codes, encode_utf8_all, false, find, if◌then◌else◌, inl, inr, List, map, MicroSecond, None, Option, or_cases, refl, row_of, Some, sym, TimeUnit, to_ascii_lowercase, units, [], ℕ, ◌||◌, ◌∙◌, ◌∷◌, ◌≡◌, rules}
 use Rattle.duration_str.proofs.Characters.UnitLemmas.{each_unit}
 use Rattle.duration_str.specs.declared.one_line.TheConstants.{NEAR_WORDS}
 use Rattle.std.specs.Option.{option_map}
@@ -33,16 +33,11 @@ found_among : (small : List ℕ) (words : List (List ℕ)) (name : List ℕ) (ro
     → name_beside small (with_words words name rows)
     ≡ (if is_among words small then Some (encode_utf8_all name) else name_beside small rows)
 found_among small [] name rows = refl
-found_among small (word ∷ words) name rows = elim (cases_Bool (bytes_eq small (encode_utf8_all word))) [
-  | inl same ↦ rw same refl
-  | inr other ↦ rw other (found_among small words name rows)
-]
+found_among small (word ∷ words) name rows = search (rules, cases_Bool, found_among small words name rows)
 
 own_among : (small : List ℕ) → is_among us_words small ≡ false → (u : TimeUnit)
     → is_among (own_words u) small ≡ is_among (near_words u) small
-own_among small none =
-    each_unit (λ u. is_among (own_words u) small ≡ is_among (near_words u) small)
-    (refl, (refl, (refl, (refl, (refl, (refl, (refl, (refl, (refl, (grind arith, (refl, tt)))))))))))
+own_among small none = search (rules, each_unit)
 
 found_unit : (small : List ℕ) (us : List TimeUnit) → is_among us_words small ≡ false → name_beside small (rows_of us)
     ≡ option_map encode_utf8_all (option_map (λ u. (row_of u).printed) (find (λ u. is_among (near_words u) small) us))
@@ -63,10 +58,7 @@ found_said : (small : List ℕ) (rows : List Row)
     → option_map (λ row. trimmed row.1) (find (λ row. bytes_eq small (map to_ascii_lowercase (trimmed row.0))) rows)
     ≡ name_beside small (map row_said rows)
 found_said small [] = refl
-found_said small (row ∷ rows) = elim (cases_Bool (bytes_eq small (map to_ascii_lowercase (trimmed row.0)))) [
-  | inl same ↦ rw same refl
-  | inr other ↦ rw other (found_said small rows)
-]
+found_said small (row ∷ rows) = search (rules, cases_Bool, found_said small rows)
 
 pub otherwise : {A : Type 0} (b : Bool) (x y : A) → b ≡ false → y ≡ (if b then x else y)
 otherwise b x y e = rw e refl

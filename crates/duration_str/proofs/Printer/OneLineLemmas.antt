@@ -378,11 +378,6 @@ pub taken_other : (first : ℕ) (rest after : List ℕ) (left c : ℕ) → IsUtf
 taken_other first rest after left c utf8 parts other =
     rw (chars_past_char rest after c utf8 parts, take_while-cons (is_like first) c (chars after), other) (take-nil left)
 
--- If no character is left, no more are taken.
-pub taken_end : (first : ℕ) (rest : List ℕ) (left : ℕ) → length rest ≡ 0
-    → take left (take_while (is_like first) (chars rest)) ≡ []
-taken_end first rest left none = rw (chars_of_none rest none) (take-nil left)
-
 module _ (first : ℕ) (text rest : List ℕ) (left : ℕ) (is : Taken first text rest left) where
   long : length text - length rest ≡ length (encode_utf8_all is.taken)
   long = omega (arith, ap length is.parts, length-append (encode_utf8_all is.taken) rest)

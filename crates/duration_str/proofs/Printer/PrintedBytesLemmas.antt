@@ -1,5 +1,5 @@
 -- The bytes built unit by unit are the UTF-8 of the printed text.
-use Rattle.duration_str.proofs.Common.{append-nil, append_assoc, arith, between, codes, Compact, decimal, encode_utf8_all, encodes-append, encodes-IsAscii, flat_map, IsAscii-decimal_wide, IsUtf8, IsUtf8-append, IsUtf8-from_ascii, IsUtf8-nil, joined_parts, length, length-append, length-take-le, List, Long, part_bytes, printed_part, printed_parts, rules, Short, Style, sym, take, TimeUnit, with_counts, with_gap, [], ℕ, ⊤, ◌++◌, ◌<◌, ◌^◌, ◌∷◌, ◌≡◌, ◌≤◌}
+use Rattle.duration_str.proofs.Common.{append-nil, append_assoc, arith, between, codes, Compact, decimal, encode_utf8_all, encodes-append, encodes-IsAscii, flat_map, IsAscii-decimal_wide, IsUtf8, IsUtf8-append, IsUtf8-from_ascii, IsUtf8-nil, joined_parts, length, length-append, List, Long, part_bytes, printed_part, printed_parts, rules, Short, Style, sym, TimeUnit, with_counts, with_gap, [], ℕ, ⊤, ◌++◌, ◌<◌, ◌^◌, ◌∷◌, ◌≡◌}
 use Rattle.duration_str.proofs.Printer.DigitLemmas.{some_decimal}
 
 pub encode_part : (style : Style) (n : ℕ) (u : TimeUnit) → n < 10 ^ 64
@@ -36,19 +36,12 @@ abbrev pub ended : List ℕ → List ℕ → List ℕ
 ended zero [] = zero
 ended zero (b ∷ bytes) = b ∷ bytes
 
-ended_some : (zero bytes : List ℕ) → 0 < length bytes → ended zero bytes ≡ bytes
-ended_some zero bytes h = search rules
-
 pub ended_parts : (style : Style) (zero : TimeUnit) (us : List TimeUnit) (counts : List ℕ) → AreShort counts
     → ended (part_bytes style 0 zero) (with_counts style [] us counts)
     ≡ encode_utf8_all (joined_parts style zero (printed_parts style us counts))
 ended_parts style zero (u ∷ us) (n ∷ counts) short =
     search (rules, encode_part, encodes-append, length-append, parts_after, some_part, ended_parts style zero us counts)
 ended_parts style zero _ _ short = sym (encode_part style 0 zero (omega arith))
-
-pub ended_take : (zero : List ℕ) (end : ℕ) (buffer : List ℕ) → 0 < end → end ≤ length buffer
-    → ended zero (take end buffer) ≡ take end buffer
-ended_take zero end buffer some inside = ended_some zero (take end buffer) (rw (length-take-le end buffer inside) some)
 
 utf8_gap : (style : Style) (bytes : List ℕ) → IsUtf8 bytes → IsUtf8 (with_gap style bytes)
 utf8_gap Compact bytes utf8 = utf8

@@ -1,5 +1,5 @@
 -- A printed text is spelled by a sum whose total is the duration.
-use Rattle.duration_str.proofs.Common.{[], AllPlus, append-nil, ap₂, arith, between, Bool, cases_Bool, common_steps, Compact, counts_of, decimal, drop, eqb-true, false, FitsDuration, flat_map, inl, inr, IsBlank, IsPrintedIn, IsSentence, joined_parts, List, Long, map, name_in, nanos_of, nonzero, number, Option, Options, printed_counts, printed_part, refl, row_of, Rules, rules, rules_with, Second, Short, Some, Spells, Style, sum_of, Terminal, terminal_of, terms_of, TimeUnit, true, unit_lengths, units, weighted_sum, word, written_terms, Year, ℕ, ⊤, ◌%◌, ◌++◌, ◌<◌, ◌==◌, ◌^◌, ◌∷◌, ◌≡◌}
+use Rattle.duration_str.proofs.Common.{[], AllPlus, append-nil, ap₂, arith, between, Bool, cases_Bool, common_steps, counts_of, decimal, drop, eqb-true, FitsDuration, flat_map, inl, inr, IsBlank, IsPrintedIn, IsSentence, joined_parts, List, map, name_in, nanos_of, nonzero, number, Option, Options, printed_counts, printed_part, refl, Rules, rules, rules_with, Second, Some, Spells, Style, sum_of, Terminal, terminal_of, terms_of, TimeUnit, unit_lengths, units, weighted_sum, word, written_terms, Year, ℕ, ⊤, ◌%◌, ◌++◌, ◌<◌, ◌==◌, ◌^◌, ◌∷◌, ◌≡◌}
 use Rattle.duration_str.proofs.Characters.NumberLemmas.{decimal_terminal}
 use Rattle.duration_str.proofs.LawProofs.GreatestBreakdown.{greatest_breakdown_holds, one_greatest}
 use Rattle.duration_str.proofs.Sentences.AnswerLemmas.{IsSumOf}
@@ -47,25 +47,10 @@ all_spelled style u (p ∷ ps) = part_spelled style [] _ p ps refl (later_spelle
 
 -- ---- The lexemes have these terminals
 
-short_terminal : (default_unit : Option TimeUnit) (o : Options) (lowercase cn_unit : Bool) (u : TimeUnit)
-    → terminal_of (rules_with (record o { lowercase = lowercase; cn_unit = cn_unit }) default_unit) ((row_of u).printed) ≡ word (Some u)
-short_terminal default_unit o lowercase cn_unit u = search rules
-
-one_terminal : (default_unit : Option TimeUnit) (o : Options) (lowercase cn_unit : Bool) (u : TimeUnit)
-    → terminal_of (rules_with (record o { lowercase = lowercase; cn_unit = cn_unit }) default_unit) (name_in Long true u) ≡ word (Some u)
-one_terminal default_unit o lowercase cn_unit u = search rules
-
-long_terminal : (default_unit : Option TimeUnit) (o : Options) (lowercase cn_unit : Bool) (u : TimeUnit)
-    → terminal_of (rules_with (record o { lowercase = lowercase; cn_unit = cn_unit }) default_unit) (name_in Long false u) ≡ word (Some u)
-long_terminal default_unit o lowercase cn_unit u = search rules
-
 -- Each printed name is a name of its unit under all options.
 pub printed_terminal : (default_unit : Option TimeUnit) (o : Options) (style : Style) (one : Bool) (u : TimeUnit)
     → terminal_of (rules_with o default_unit) (name_in style one u) ≡ word (Some u)
-printed_terminal default_unit o Short one = short_terminal default_unit o o.lowercase o.cn_unit
-printed_terminal default_unit o Compact one = short_terminal default_unit o o.lowercase o.cn_unit
-printed_terminal default_unit o Long true = one_terminal default_unit o o.lowercase o.cn_unit
-printed_terminal default_unit o Long false = long_terminal default_unit o o.lowercase o.cn_unit
+printed_terminal default_unit o style one u = search rules
 
 abbrev pub EachBelow : List ℕ → Type 0
 EachBelow [] = ⊤
@@ -83,9 +68,7 @@ terminals_kept default_unit o style _ _ small = refl
 pub terminals_or_zero : (default_unit : Option TimeUnit) (o : Options) (style : Style) (u : TimeUnit) (ps : List (TimeUnit × ℕ))
     → map (terminal_of (rules_with o default_unit)) (lexemes style ps) ≡ terminals ps
     → map (terminal_of (rules_with o default_unit)) (lexemes style (or_zero u ps)) ≡ terminals (or_zero u ps)
-terminals_or_zero default_unit o style u [] h =
-    ap₂ ◌∷◌ (decimal_terminal (rules_with o default_unit) 0 (omega arith)) (ap₂ ◌∷◌ (printed_terminal default_unit o style false u) refl)
-terminals_or_zero default_unit o style u (p ∷ ps) h = h
+terminals_or_zero default_unit o style zero ps same = search (rules, decimal_terminal, printed_terminal)
 
 counts_below : (lengths : List ℕ) (nanos : ℕ) → nanos < 2 ^ 64 → EachBelow (counts_of lengths nanos)
 counts_below [] nanos h = tt

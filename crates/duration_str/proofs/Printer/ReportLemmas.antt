@@ -1,19 +1,9 @@
 -- Lemmas about the columns of a text, and about the length of a report.
-use Rattle.duration_str.proofs.Common.{and_parts, ap, arith, caret_text, cases_Bool, Cause, chars, chars-append, chars_past_char, common_steps, cond, drop, encode_utf8, encode_utf8_all, encodes-chars, ForSome, inl, inr, IsCharBoundary, IsUtf8, IsUtf8-take, leb-true, len_utf8_bounds, length, length-append, length-encode, length-le-encodes, List, place_of, refl, sum_by-cons, Syntax, take, take-append-drop, ℕ, [], ◌*◌, ◌++◌, ◌+◌, ◌<◌, ◌^◌, ◌∷◌, ◌≡◌, ◌≤◌}
+use Rattle.duration_str.proofs.Common.{and_parts, ap, arith, caret_text, cases_Bool, Cause, chars, chars-append, common_steps, drop, encode_utf8, encode_utf8_all, encodes-chars, ForSome, inl, inr, IsCharBoundary, IsUtf8, IsUtf8-take, leb-true, len_utf8_bounds, length, length-append, length-encode, length-le-encodes, List, place_of, refl, Syntax, take, take-append-drop, ℕ, [], ◌*◌, ◌+◌, ◌<◌, ◌^◌, ◌∷◌, ◌≡◌, ◌≤◌, rules}
 use Rattle.duration_str.proofs.Printer.OneLineLemmas.{chars_of_none, one_line_short}
 use Rattle.duration_str.specs.OneLine.{one_line_of}
 use Rattle.std.proofs.lemmas.List.Sums.{count_by-le-length}
 use Rattle.duration_str.specs.Report.{columns_of, is_clear_text, is_wide, report_of}
-
--- Counting one more character keeps the total.
-pub columns_more : (rest after : List ℕ) (c n whole : ℕ) → IsUtf8 rest → rest ≡ encode_utf8 c ++ after
-    → n + columns_of (chars rest) ≡ whole → (n + (1 + cond (is_wide c) 1 0)) + columns_of (chars after) ≡ whole
-columns_more rest after c n whole utf8 parts all =
-    omega (
-      arith,
-      sum_by-cons (λ d. cond (is_wide d) 1 0) c (chars after),
-      rw (chars_past_char rest after c utf8 parts) at all,
-    )
 
 -- If no character is left, all columns are counted.
 pub columns_all : (rest : List ℕ) (n whole : ℕ) → length rest ≡ 0 → n + columns_of (chars rest) ≡ whole → n ≡ whole
@@ -25,9 +15,7 @@ columns_le text = omega (arith, count_by-le-length is_wide text)
 
 -- A text takes at most two columns for each byte.
 pub columns_short : (text : List ℕ) → IsUtf8 text → columns_of (chars text) ≤ 2 * length text
-columns_short text utf8 =
-    let bytes : length (chars text) ≤ length text = rw (encodes-chars text utf8) at (length-le-encodes (chars text)) in
-    omega (arith, columns_le (chars text), bytes)
+columns_short text utf8 = search (rules, encodes-chars, length-le-encodes, columns_le)
 
 bytes_le : (cs : List ℕ) → length (encode_utf8_all cs) ≤ 4 * length cs
 bytes_le [] = omega arith

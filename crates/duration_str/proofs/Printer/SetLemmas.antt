@@ -1,11 +1,11 @@
 -- Lemmas about the units of a set, which its bits give.
 use Rattle.duration_str.proofs.Common.{drop, drop_all, drop_more, last_unit, length, slice_index_or, units_of, ALL, add-zero, and_parts, ap, Bool, suc, ℕ, zero, arith, cases_Bool, div-add-mod', eqb, eqb-true, false, inl, inr, leb, Hour, leb-true, length-drop, List, map, not-true, Printed, printed_row, nanos_of, nat_tests, not, rank_of, refl, rules, sym, TimeUnit, true, Units, Year, units, [], ◌%◌, ◌&&◌, ◌||◌, ◌*◌, ◌+◌, ◌/◌, ◌<◌, ◌^◌, ◌∙◌, ◌∷◌, ◌≡◌, ◌≢◌, ◌≤◌}
 use Rattle.duration_str.proofs.Characters.UnitLemmas.{Each, each_unit}
-use Rattle.duration_str.specs.Format.{chosen, intersection, down_to, is_in, is_one_of, set_of, up_to, with_each, with_unit}
+use Rattle.duration_str.specs.Format.{chosen, intersection, down_to, is_in, is_one_of, up_to, with_each, with_unit}
 use Rattle.std.proofs.lemmas.Nat.{one_shl}
 use lib.Count.{count_trailing_zeros}
 use Rattle.std.specs.Int.{bit_at, bit_not, trailing_zeros, w16, w32}
-use Rattle.std.specs.Prelude.{bit_and, bit_or, min, ◌⊎◌}
+use Rattle.std.specs.Prelude.{bit_and, bit_or, ◌⊎◌}
 use Rattle.std.proofs.lemmas.Nat.Bits.{bit_at-lt, bit_at_and, bit_at-trailing_zeros, bit_at-zero, bit_at_above, bit_at_cat_high, bit_at_cat_low, bit_at_clear_other, bit_at_clear_same, bit_at_set_other, bit_at_set_same}
 use Rattle.std.proofs.Math.Pow.{pow_pos}
 use Rattle.std.proofs.lemmas.List.{get_or-drop}
@@ -29,10 +29,6 @@ chosen_none set = refl
 pub chosen_whole : chosen ALL units ≡ units
 unfolding chosen is_in
 chosen_whole = refl
-
-pub all_in : (u : TimeUnit) → is_in ALL u ≡ true
-unfolding is_in
-all_in u = search rules
 
 -- ---- Units by their ranks
 
@@ -91,16 +87,10 @@ pub no_low_bits : (n k i : ℕ) → i < k → bit_at (n / 2 ^ k * 2 ^ k) i ≡ 0
 no_low_bits n k i h = rw add-zero at (bit_at_cat_low (n / 2 ^ k) k 0 i h) ∙ bit_at-zero i
 
 pub up_to_bit : (n k i : ℕ) → eqb (bit_at (n / 2 ^ k * 2 ^ k) i) 1 ≡ (eqb (bit_at n i) 1 && leb k i)
-up_to_bit n k i = elim (cases_Bool (leb k i)) [
-  | inl high ↦ rw (high, high_bits n k i (leb-true k i high)) (search rules)
-  | inr low ↦ rw (low, no_low_bits n k i (grind (arith, nat_tests))) (search rules)
-]
+up_to_bit n k i = search (rules, cases_Bool, high_bits, leb-true, no_low_bits)
 
 pub down_to_bit : (n k i : ℕ) → eqb (bit_at (n % 2 ^ (k + 1)) i) 1 ≡ (eqb (bit_at n i) 1 && leb i k)
-down_to_bit n k i = elim (cases_Bool (leb i k)) [
-  | inl low ↦ rw (low, low_bits n (k + 1) i (omega (arith, leb-true i k low))) (search rules)
-  | inr high ↦ rw (high, no_high_bits n (k + 1) i (grind (arith, nat_tests))) (search rules)
-]
+down_to_bit n k i = search (rules, cases_Bool, low_bits, leb-true, no_high_bits)
 
 -- ---- The sets that are made of others
 
@@ -145,8 +135,7 @@ chosen_from : (set : Units) (us : List TimeUnit) (i : ℕ) → i ≤ length us
     → ((j : ℕ) → j < i → is_in set (slice_index_or us j Year) ≡ false) → chosen set us ≡ chosen set (drop i us)
 chosen_from set us zero inside none = refl
 chosen_from set us (suc i) inside none =
-    chosen_from set us i (omega arith) (λ j h. none j (omega arith))
-    ∙ rw (suc_plus i) (sym (out_skipped set us i (omega arith) (none i (omega arith))))
+    search (rules, suc_plus, out_skipped, chosen_from set us i (omega arith) (λ j h. none j (omega arith)))
 
 -- If two sets have the same units among these, they choose the same ones.
 chosen_same : (a b : Units) (us : List TimeUnit)
@@ -173,9 +162,7 @@ below test (suc n) j h small =
 
 -- A unit's index in the table is its rank.
 rank_at : (j : ℕ) → j < 11 → rank_of (slice_index_or units j Year) ≡ j
-rank_at j h =
-    eqb-true (rank_of (slice_index_or units j Year)) j
-    (below (λ (k : ℕ). eqb (rank_of (slice_index_or units k Year)) k) 11 j refl h)
+rank_at j h = search (rules, eqb-true, below)
 
 in_at : (bits j : ℕ) → j < 11 → is_in (record { bits = bits }) (slice_index_or units j Year) ≡ eqb (bit_at bits j) 1
 unfolding is_in
@@ -289,25 +276,8 @@ unfolding is_in
 in_none u = rw (bit_at-zero (rank_of u))
 
 one_bit : (n : ℕ) → n < 2 → (n ≡ 0) ⊎ (n ≡ 1)
-one_bit zero h = inl refl
-one_bit (suc zero) h = inr refl
-one_bit (suc (suc n)) h = absurd (omega arith)
-
-both_bits : (m n : ℕ) → m < 2 → n < 2 → eqb (min m n) 1 ≡ (eqb m 1 && eqb n 1)
-both_bits m n h k = elim (one_bit m h) [
-  | inl zero_m ↦ rw zero_m (search rules)
-  | inr one_m ↦ elim (one_bit n k) [
-    | inl zero_n ↦ rw (one_m, zero_n)
-    | inr one_n ↦ rw (one_m, one_n)
-  ]
-]
+one_bit n h = search rules
 
 pub in_intersection : (a b : Units) (u : TimeUnit) → is_in (intersection a b) u ≡ (is_in a u && is_in b u)
 unfolding is_in
-in_intersection a b u =
-    let place : ℕ = rank_of u in
-    rw (bit_at_and a.bits b.bits place)
-    (both_bits (bit_at a.bits place) (bit_at b.bits place) (bit_at-lt a.bits place) (bit_at-lt b.bits place))
-
-pub in_set_of : (us : List TimeUnit) (u : TimeUnit) → is_in (set_of us) u ≡ is_one_of us u
-in_set_of us u = rw (in_each us (record { bits = 0 }) u, in_none u) (search rules)
+in_intersection a b u = search (rules, bit_at_and, bit_at-lt, one_bit)

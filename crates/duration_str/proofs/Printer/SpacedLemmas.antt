@@ -1,8 +1,7 @@
 -- Lemmas about a text with a space after each of its parts, and about the counts of a duration below a day.
-use Rattle.duration_str.proofs.Common.{append_assoc, arith, counts_of, decimal, encode_utf8_all, length, length-append, length-decimal-le_wide, length-take-le, List, take-append_seam, row_of, rules, Short, sym, take, TimeUnit, unit_lengths, with_gap, with_part, [], ℕ, ◌%◌, ◌*◌, ◌++◌, ◌+◌, ◌-◌, ◌/◌, ◌<◌, ◌^◌, ◌∙◌, ◌∷◌, ◌≡◌, ◌≤◌, All, ap, drop, drop_more, get_or, with_counts, Year}
+use Rattle.duration_str.proofs.Common.{append_assoc, arith, counts_of, decimal, encode_utf8_all, length, length-append, length-decimal-le_wide, length-take-le, List, take-append_seam, row_of, rules, Short, sym, take, TimeUnit, unit_lengths, with_gap, with_part, [], ℕ, ◌%◌, ◌*◌, ◌++◌, ◌+◌, ◌-◌, ◌/◌, ◌<◌, ◌^◌, ◌∙◌, ◌∷◌, ◌≡◌, ◌≤◌, ap, drop, drop_more, get_or, with_counts, Year}
 use Rattle.duration_str.proofs.Printer.DigitLemmas.{some_decimal}
 use Rattle.std.proofs.lemmas.List.{take-take}
-use Rattle.std.proofs.lemmas.List.Elements.{All-cons, All-nil}
 
 pub three_digits : (n : ℕ) → n < 1000 → length (decimal n) ≤ 3
 three_digits n h = length-decimal-le_wide 3 n (omega arith) (omega arith) (omega arith)
@@ -51,50 +50,11 @@ counts_below_day secs nanos day second =
     let after_seconds : (secs % 60 * 10 ^ 9 + nanos) % 1000000000 ≡ nanos = omega arith in
     let micros : nanos % 1000000 / 1000 ≡ nanos / 1000 % 1000 = omega arith in
     let rest : nanos % 1000000 % 1000 / 1 ≡ nanos % 1000 = omega arith in
-    rw (
-      year,
-      after_year,
-      quarter,
-      after_quarter,
-      month,
-      after_month,
-      week,
-      after_week,
-      days,
-      after_days,
-      hours,
-      after_hours,
-      minutes,
-      after_minutes,
-      seconds,
-      after_seconds,
-      micros,
-      rest,
-    )
-
-abbrev IsShort : ℕ → Type 0
-IsShort n = n < 1000
-
-six_short : (a b c d e f : ℕ) → a < 1000 → b < 1000 → c < 1000 → d < 1000 → e < 1000 → f < 1000
-    → All IsShort (a ∷ b ∷ c ∷ d ∷ e ∷ f ∷ [])
-six_short a b c d e f short_a short_b short_c short_d short_e short_f =
-    All-cons IsShort a (b ∷ c ∷ d ∷ e ∷ f ∷ []) short_a (All-cons IsShort b (c ∷ d ∷ e ∷ f ∷ []) short_b
-    (All-cons IsShort c (d ∷ e ∷ f ∷ []) short_c (All-cons IsShort d (e ∷ f ∷ []) short_d
-    (All-cons IsShort e (f ∷ []) short_e (All-cons IsShort f [] short_f (All-nil IsShort))))))
-
--- These counts have at most three digits.
-pub counts_short : (secs nanos : ℕ) → secs < 24 * 3600 → nanos < 10 ^ 9
-    → All IsShort
-    (secs / 3600 ∷ secs / 60 % 60 ∷ secs % 60 ∷ nanos / 1000000 ∷ nanos / 1000 % 1000 ∷ nanos % 1000 ∷ [])
-counts_short secs nanos day second =
-    six_short (secs / 3600) (secs / 60 % 60) (secs % 60) (nanos / 1000000) (nanos / 1000 % 1000) (nanos % 1000)
-    (omega arith) (omega arith) (omega arith) (omega arith) (omega arith) (omega arith)
+    cc
 
 -- After the next part, the parts that are left give the same text.
 pub next_part : (bytes : List ℕ) (us : List TimeUnit) (counts : List ℕ) (i j : ℕ) → j ≡ 5 + i → i < length counts
     → 5 + i < length us
     → with_counts Short (with_part Short bytes (get_or us j Year) (get_or counts i 0)) (drop (5 + (i + 1)) us)
     (drop (i + 1) counts) ≡ with_counts Short bytes (drop (5 + i) us) (drop i counts)
-next_part bytes us counts i j same in_counts in_units =
-    let next : 5 + (i + 1) ≡ 5 + i + 1 = omega arith in
-    rw (same, next, drop_more us (5 + i) Year in_units, drop_more counts i 0 in_counts)
+next_part bytes us counts i j same in_counts in_units = search (rules, drop_more)

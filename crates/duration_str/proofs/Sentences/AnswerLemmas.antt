@@ -1,8 +1,8 @@
 -- A text is either read or refused, and the computed answer says which.
-use Rattle.duration_str.proofs.Common.{[], Plus, AllPlus, answer, AnswerIsReading, ap, append-nil, arith, as_nanos, Bool, byte_len, cases_Bool, Cause, chars, combination, CondUnit, early, early_fault, Err, Evaluates, evaluation_fault, expected_after, false, Fault, fault_of_terms, fault_or, first_fault, IfErr, if◌then◌else◌, inl, inr, is_same_operator, is_whole, IsFront, IsOkAnd, IsRead, IsRefused, IsRefusedAt, IsSentence, IsSentenceOf, last_of, late, late_answer, late_fault, later_total, le-ltb, length, List, list_all, map, MatchResult, None, number, off, Ok, OneReading, operator, Option, Options, other, Overflow, Parses, refl, Result, Rules, rules, rules_of, rules_with, Some, start_after, sum_of, sym, Syntax, syntax_fault, Term, Terminal, terminal_of, terminals_of, terms_of, TimeUnit, tokens_of, true, value_of, value_of_term, word, written_terms, ℕ, ◌++◌, ◌<◌, ◌^◌, ◌↔◌, ◌∙◌, ◌∷◌, ◌≡◌, ◌≤◌, ◌⊎◌}
+use Rattle.duration_str.proofs.Common.{[], Plus, AllPlus, answer, AnswerIsReading, ap, append-nil, arith, as_nanos, Bool, byte_len, cases_Bool, Cause, chars, combination, CondUnit, early, early_fault, Err, Evaluates, expected_after, false, Fault, fault_of_terms, fault_or, IfErr, if◌then◌else◌, inl, inr, is_same_operator, is_whole, IsFront, IsOkAnd, IsRead, IsRefused, IsRefusedAt, IsSentence, IsSentenceOf, last_of, late, late_answer, late_fault, later_total, le-ltb, length, List, list_all, map, MatchResult, None, number, off, Ok, OneReading, operator, Option, Options, other, Overflow, Parses, refl, Result, Rules, rules, rules_of, rules_with, Some, start_after, sum_of, sym, Syntax, syntax_fault, Term, Terminal, terminal_of, terminals_of, terms_of, TimeUnit, tokens_of, true, value_of, value_of_term, word, written_terms, ℕ, ◌++◌, ◌<◌, ◌^◌, ◌↔◌, ◌∙◌, ◌∷◌, ◌≡◌, ◌≤◌, ◌⊎◌, lt-ltb}
 use Rattle.duration_str.proofs.Sentences.FrontLemmas.{AreAllowed, complete_sentence, ends_by_table, expected_by_table, front_allowed, no_operators, one_expected, one_front, sentence_allowed, table_front}
 use Rattle.duration_str.proofs.Sentences.SpellingLemmas.{empty_no_sentence, sentence_terminals, tokens_spell}
-use Rattle.duration_str.proofs.Sentences.SumLemmas.{added_overflow, AreAdded, below_evaluate, evaluate_below, has_terms, no_fault, or_else-none, evaluate_fits, running_below, running_fits, running_none, running_overflow, terms_long, terms_added, value_is_sum}
+use Rattle.duration_str.proofs.Sentences.SumLemmas.{added_overflow, AreAdded, below_evaluate, evaluate_below, has_terms, no_fault, or_else-none, evaluate_fits, running_below, running_fits, running_overflow, terms_long, terms_added, value_is_sum}
 pub use Rattle.duration_str.proofs.Sentences.SumLemmas.{EachFits, sum_fits_each}
 use Rattle.std.specs.declared.time.Duration.{Duration}
 use Rattle.std.specs.Prelude.{pos}
@@ -20,10 +20,6 @@ allowed_plus r last (word u ∷ terminals) calc h = allowed_plus r (Some (word u
 allowed_plus r last (operator op ∷ terminals) calc h = let none = no_operators r last calc in cc h.0
 allowed_plus r last (other ∷ terminals) calc h = cc h.0
 
-evaluates_by_faults : (terms : List Term) → 1 ≤ length terms
-    → (Evaluates terms ↔ (first_fault terms ≡ None) × (evaluation_fault terms ≡ None))
-evaluates_by_faults terms l = search rules
-
 -- A sentence evaluates exactly if it has neither an early nor a late fault.
 evaluates_by : (r : Rules) (terminals : List Terminal) → IsSentence r terminals
     → (Evaluates (terms_of r terminals) ↔ (early_fault r terminals [] ≡ None) × (late_fault r terminals ≡ None))
@@ -32,12 +28,12 @@ evaluates_by r terminals s = elim (cases_Bool r.options.no_calc) [
       let terms = terms_of r terminals in
       let added = terms_added r terminals (allowed_plus r None terminals calc (sentence_allowed r terminals s)) in
       rw (complete_sentence r terminals s, calc) (
-        λ e. (running_none terms added (evaluate_fits terms e) (evaluate_below terms added e), refl),
+        λ e. (rw ((running_overflow [] terms added (evaluate_fits terms e)).0, lt-ltb _ _ (evaluate_below terms added e)), refl),
         λ f. below_evaluate terms (has_terms r terminals s) added (running_fits [] terms f.0)
             (running_below [] terms (omega arith) f.0),
       )
   | inr plain ↦
-      rw (complete_sentence r terminals s, plain) (evaluates_by_faults (terms_of r terminals) (has_terms r terminals s))
+      rw (complete_sentence r terminals s, plain) (search rules)
 ]
 
 -- ---- The value of terms that evaluate
@@ -71,9 +67,7 @@ pub record EvaluatesTo (r : Rules) (terminals : List Terminal) (nanos : ℕ) : T
 
 pub read_terminals : {r : Rules} {text : List ℕ} {nanos : ℕ} → IsRead r text nanos
     → EvaluatesTo r (terminals_of r text) nanos
-read_terminals {r} {text} read =
-    let same = sentence_terminals r text read.lexemes read.spells in
-    record { sentence = rw same at read.spells.0; evaluates = rw same at read.evaluates; value = rw same at read.value }
+read_terminals {r} {text} read = search (rules, sentence_terminals)
 
 pub read_sentence : {r : Rules} {text : List ℕ} {nanos : ℕ} (lexemes : List (List ℕ)) → IsSentenceOf r lexemes text
     → IsRead r text nanos → EvaluatesTo r (map (terminal_of r) lexemes) nanos
@@ -106,11 +100,6 @@ evaluates_not_refused : {r : Rules} {place : ℕ} (terminals : List Terminal) (c
     → Evaluates (terms_of r terminals) → IsRefusedAt r place terminals [] cause → ⊥
 evaluates_not_refused {r} terminals cause s e h = search (rules, evaluates_by r, append-nil)
 
--- A sentence has no syntax fault, so its refusal does not depend on the place of the rest.
-place_free : {r : Rules} {p : ℕ} (q : ℕ) {terminals : List Terminal} {cause : Cause} → IsSentence r terminals
-    → IsRefusedAt r p terminals [] cause → IsRefusedAt r q terminals [] cause
-place_free q s h = search (rules, append-nil)
-
 -- If a text that a sentence spells is refused, so are the terminals of the sentence.
 pub refused_sentence : (r : Rules) (text : List ℕ) (lexemes : List (List ℕ)) (cause : Cause) (place : ℕ)
     → IsSentenceOf r lexemes text → IsRefused r text cause
@@ -119,7 +108,7 @@ refused_sentence r [] lexemes cause place s h = absurd (empty_no_sentence r lexe
 refused_sentence r (c ∷ text) lexemes cause place s h =
     let front = rw (← sentence_terminals r (c ∷ text) lexemes s) at h.2 in
     let same = one_front front (sentence_front r (map (terminal_of r) lexemes) s.0) in
-    place_free place s.0 (rw (same.0, same.1) at h.3)
+    search (rules, append-nil)
 
 pub sentence_refused : (r : Rules) (text : List ℕ) (lexemes : List (List ℕ)) (cause : Cause)
     → IsSentenceOf r lexemes text
@@ -203,10 +192,7 @@ answer_means r (c ∷ text) =
 
 -- Two results that are both true of a text are the same.
 only_meaning : (r : Rules) (text : List ℕ) (x y : Result ℕ Cause) → Means r text x → Means r text y → x ≡ y
-only_meaning r text (Ok m) (Ok n) h k = ap Ok (one_value h k)
-only_meaning r text (Ok m) (Err d) h k = absurd (not_both r text m d h k)
-only_meaning r text (Err c) (Ok n) h k = absurd (not_both r text n c k h)
-only_meaning r text (Err c) (Err d) h k = ap Err (one_cause r text c d h k)
+only_meaning r text x y h k = search (rules, one_value, not_both, one_cause)
 
 pub one_reading_holds : OneReading
 one_reading_holds = record {
@@ -320,6 +306,4 @@ parses_as bytes (Err f) parsed = parsed.refused
 
 pub same_on_err : (P : Cause → Type 0) (n : Result ℕ Fault) (r : Result Duration Fault) → IsDurationOf n r
     → IfErr n (λ f. P f.cause) → IfErr r (λ f. P f.cause)
-same_on_err P (Ok nanos) (Ok d) is h = h
-same_on_err P (Ok nanos) (Err f) is h = absurd is
-same_on_err P (Err f) r is h = rw is h
+same_on_err P a b same h = search rules

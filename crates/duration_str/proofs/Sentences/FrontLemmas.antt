@@ -1,5 +1,5 @@
 -- Lemmas about sentences and fronts, in terms of the table of what can follow a terminal.
-use Rattle.duration_str.proofs.Common.{[], allows, and_from, and_parts, ap, arith, BeginsSentence, CanFollow, cases_Bool, complete_terminals, drop, drop_at, Expected, expected_after, false, front_after, front_of, inl, inr, is_some, IsFront, IsSentence, IsTrue, last_of, le_antisymm, le_of_suc-le-suc, length, length-append, List, None, not, not-true, not_from_false, not_from_true, number, operator, Option, Plus, refl, Rules, same_from_decides, Second, Some, suc, sym, take, take-append-drop, take_at, Terminal, true, without_last_number, word, zero, zero-le, ℕ, ⊤, ◌++◌, ◌↔◌, ◌∷◌, ◌≡◌, ◌≤◌}
+use Rattle.duration_str.proofs.Common.{[], allows, and_from, and_parts, ap, arith, BeginsSentence, CanFollow, cases_Bool, complete_terminals, drop, drop_at, Expected, expected_after, false, front_after, front_of, is_some, IsFront, IsSentence, IsTrue, last_of, le_antisymm, le_of_suc-le-suc, length, length-append, List, None, not, not-true, not_from_false, not_from_true, number, operator, Option, Plus, refl, Rules, same_from_decides, Second, Some, suc, sym, take, take-append-drop, take_at, Terminal, true, without_last_number, word, zero, zero-le, ℕ, ⊤, ◌++◌, ◌↔◌, ◌∷◌, ◌≡◌, ◌≤◌, rules}
 
 -- The table allows each terminal after the one before it, and the first one after `last`.
 abbrev pub AreAllowed : Rules → Option Terminal → List Terminal → Type 0
@@ -34,10 +34,7 @@ no_number_last r last (t ∷ front) none h = ap (◌∷◌ t) (no_number_last r 
 
 -- If the end can follow these terminals, all their terms are complete.
 pub whole_complete : (r : Rules) (front : List Terminal) → CanEnd r None front → complete_terminals r front [] ≡ front
-whole_complete r front h = elim (cases_Bool (is_some r.default_unit)) [
-  | inl some ↦ rw some refl
-  | inr none ↦ rw none (no_number_last r None front none h)
-]
+whole_complete r front h = search (rules, no_number_last)
 
 module _ (r : Rules) where
   -- ---- A sentence begins with exactly what the table allows

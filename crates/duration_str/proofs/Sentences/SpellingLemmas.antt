@@ -1,8 +1,8 @@
 -- A sentence spells a text exactly if its lexemes are those of the text's tokens.
-use Rattle.duration_str.proofs.Common.{[], allows, and_parts, are_of_one_run, AreTokens, BeginsWith, Bool, byte_len, EndsRun, Expected, expected_after, false, false_from_ne_true, goes_on, is_blank, IsBlank, IsLexeme, IsSentenceOf, IsTrue, lexemes_of, List, list_all, list_all-append, map, None, Option, Options, refl, Rules, rules, Some, sort_of, Spells, sym, Terminal, terminal_of, terminals_of, Token, tokens_of, true, ℕ, ⊤, ◌++◌, ◌+◌, ◌∙◌, ◌∷◌, ◌≡◌}
-use Rattle.duration_str.proofs.Characters.CharacterLemmas.{operator-not_blank, run-not_blank}
+use Rattle.duration_str.proofs.Common.{[], allows, and_parts, are_of_one_run, AreTokens, BeginsWith, Bool, byte_len, EndsRun, Expected, expected_after, false, false_from_ne_true, goes_on, is_blank, IsBlank, IsLexeme, IsSentenceOf, IsTrue, lexemes_of, List, list_all, list_all-append, map, None, Option, Options, refl, Rules, rules, Some, sort_of, Spells, sym, Terminal, terminal_of, terminals_of, Token, tokens_of, true, ℕ, ⊤, ◌++◌, ◌+◌, ◌∙◌, ◌∷◌, ◌≡◌, or_cases, arith, nat_tests}
+use Rattle.duration_str.proofs.Characters.CharacterLemmas.{run-not_blank, letter-not_digit}
 use Rattle.duration_str.proofs.Cutting.TokenLemmas.{tokens_are, tokens_once}
-use Rattle.duration_str.proofs.Cutting.SortLemmas.{digits_are_lexeme, letters_are_lexeme, lexeme_sort, run_sort, terminal_cases}
+use Rattle.duration_str.proofs.Cutting.SortLemmas.{digits_are_lexeme, letters_are_lexeme, lexeme_sort, terminal_cases}
 use Rattle.duration_str.proofs.Sentences.FrontLemmas.{AreAllowed, sentence_allowed}
 
 pub begins_with : {lexeme text : List ℕ} {IsRest : List ℕ → Type 0} (blanks rest : List ℕ) → IsBlank blanks
@@ -15,7 +15,7 @@ allowed_is_lexeme : (r : Rules) (expected : Expected) (w : List ℕ)
     → IsLexeme r.options w
 allowed_is_lexeme r expected = terminal_cases r (λ w t. IsTrue (allows expected t) → IsLexeme r.options w)
     (λ h. cc) (λ c cs digits h. digits_are_lexeme r.options c cs digits) (λ c cs letters h. letters_are_lexeme r.options c cs letters)
-    (λ c op _ _ sign h. (operator-not_blank c op sign, refl)) (λ c cs _ _ h. cc)
+    (λ c op _ _ sign h. (grind (arith, nat_tests), refl)) (λ c cs _ _ h. cc)
 
 -- The table allows no terminal after one of its own sort.
 sorts_apart : (r : Rules) (s t : Terminal)
@@ -31,8 +31,7 @@ module _ (o : Options) where
       → Spells (lexemes_of tokens) text
   tokens_spell_at at text [] h = h
   tokens_spell_at at text (p ∷ tokens) h =
-      let others = tokens_spell_at (p.start + byte_len p.characters) h.0 tokens h.2 in
-      begins_with h.1.blanks h.0 h.1.blank h.1.parts others
+      search (rules, begins_with, tokens_spell_at (p.start + byte_len p.characters) h.0 tokens h.2)
 
   pub tokens_spell : (text : List ℕ) → Spells (lexemes_of (tokens_of o text)) text
   tokens_spell text = tokens_spell_at 0 text (tokens_of o text) (tokens_are o 0 text)
@@ -45,7 +44,7 @@ module _ (r : Rules) where
   stops_before c cs (b ∷ blanks) w rest h p q a = stops_at_blank r.options c b (and_parts _ _ h).0
   stops_before c cs [] [] rest h p q a = absurd q
   stops_before c cs [] (d ∷ ds) rest h p q a = false_from_ne_true _ (λ run.
-      sorts_apart r _ _ a (sym (lexeme_sort r c cs p) ∙ run_sort r.options c d run ∙ lexeme_sort r d ds q))
+      sorts_apart r _ _ a (sym (lexeme_sort r c cs p) ∙ grind (arith, or_cases, and_parts, letter-not_digit) ∙ lexeme_sort r d ds q))
 
   -- A lexeme of a sentence is as long as possible: its run of characters ends where the lexeme ends.
   ends_in_sentence : (w rest : List ℕ) (ws : List (List ℕ)) → IsLexeme r.options w

@@ -1,6 +1,6 @@
 -- Terms that are added evaluate exactly if their sum is below 2^64, and the sum is their value.
-use Rattle.duration_str.proofs.Common.{[], AllPlus, ap, append-nil, append_assoc, arith, Bool, cases_lt, Cause, combination, CondUnit, Evaluates, evaluation_fault, fault_of_terms, first_fault, fits, is_same_operator, IsSentence, later_total, le-ltb, leb, leb-true, length, List, list_all, lt-ltb, ltb-true, Mixed, nanos_of, None, number, operator, Option, Options, or_else, Overflow, place_after, Plus, refl, Rules, rules, rules_with, running_fault, Second, Some, sum_of, Term, term_fault, Terminal, terms_after, terms_of, TimeUnit, true, unless, unwrap_or, value_of, value_of_term, word, ℕ, ⊤, ◌++◌, ◌+◌, ◌<◌, ◌^◌, ◌↔◌, ◌∷◌, ◌≡◌, ◌≤◌}
-use Rattle.duration_str.proofs.Characters.UnitLemmas.{all_units}
+use Rattle.duration_str.proofs.Common.{[], AllPlus, ap, append-nil, append_assoc, arith, Bool, cases_lt, Cause, combination, CondUnit, Evaluates, evaluation_fault, fault_of_terms, first_fault, fits, is_same_operator, IsSentence, later_total, le-ltb, length, List, list_all, lt-ltb, ltb-true, Mixed, None, number, operator, Option, Options, or_else, Overflow, place_after, Plus, refl, Rules, rules, rules_with, running_fault, Second, Some, sum_of, Term, term_fault, Terminal, terms_after, terms_of, TimeUnit, true, unless, unwrap_or, value_of, value_of_term, word, ℕ, ⊤, ◌++◌, ◌+◌, ◌<◌, ◌^◌, ◌↔◌, ◌∷◌, ◌≡◌, ◌≤◌}
+use Rattle.duration_str.proofs.Characters.UnitLemmas.{some_length}
 
 -- ---- When there is no fault: a set of equivalences for `simp`
 
@@ -45,15 +45,12 @@ abbrev pub AreLong : List Term → Type 0
 AreLong [] = ⊤
 AreLong (t ∷ terms) = (1 ≤ t.length) × AreLong terms
 
-unit_above_zero : (u : TimeUnit) → 1 ≤ nanos_of u
-unit_above_zero u = leb-true 1 (nanos_of u) (all_units (λ v. leb 1 (nanos_of v)) refl u)
-
 -- With the library's own table, each term has a length above 0.
 pub terms_long : (default_unit : Option TimeUnit) (o : Options) (op : CondUnit) (terminals : List Terminal)
     → AreLong (terms_after (rules_with o default_unit) op terminals)
-terms_long default_unit o op (number n ∷ word (Some u) ∷ more) = (unit_above_zero u, terms_long default_unit o Plus more)
+terms_long default_unit o op (number n ∷ word (Some u) ∷ more) = (some_length u, terms_long default_unit o Plus more)
 terms_long default_unit o op (number n ∷ more) =
-    (unit_above_zero (unwrap_or default_unit Second), terms_long default_unit o Plus more)
+    (some_length (unwrap_or default_unit Second), terms_long default_unit o Plus more)
 terms_long default_unit o op (operator next ∷ more) = terms_long default_unit o next more
 terms_long default_unit o op _ = tt
 
@@ -82,9 +79,6 @@ sum_fits_each (t ∷ terms) l h =
 abbrev pub overflow : ℕ → Option Cause
 overflow n = unless (fits n) (Overflow None)
 
-pub overflow_grows : (m n : ℕ) → m ≤ n → or_else (overflow m) (overflow n) ≡ overflow n
-overflow_grows m n h = search (rules, cases_lt, lt-ltb, le-ltb)
-
 pub running_overflow : (before terms : List Term) → AreAdded terms → EachFits terms
     → (or_else (overflow (sum_of before)) (running_fault before terms) ≡ overflow (sum_of (before ++ terms)))
     × (or_else (overflow (sum_of before)) (fault_of_terms Plus before terms) ≡ overflow (sum_of (before ++ terms)))
@@ -100,12 +94,8 @@ added_overflow (t ∷ u ∷ later) a f =
     let plus = ap (λ op. or_else (fault_of_terms op [] (u ∷ later))
     (unless (fits (combination op (value_of_term t) (later_total op (u ∷ later)))) (Overflow None))) a.1.0 in (
       term_below_no_fault (Some 0) t f.0 f.1,
-      rw (plus, (running_overflow [] (u ∷ later) a.1 f.2).1) (overflow_grows (sum_of (u ∷ later)) _ (omega arith)),
+      rw (plus, (running_overflow [] (u ∷ later) a.1 f.2).1) (search (rules, cases_lt, lt-ltb, le-ltb)),
     )
-
-pub running_none : (terms : List Term) → AreAdded terms → EachFits terms → sum_of terms < 2 ^ 64
-    → running_fault [] terms ≡ None
-running_none terms a f h = rw ((running_overflow [] terms a f).0, lt-ltb _ _ h)
 
 pub running_below : (before terms : List Term) → sum_of before < 2 ^ 64 → running_fault before terms ≡ None
     → sum_of (before ++ terms) < 2 ^ 64
@@ -128,11 +118,7 @@ later_fits op before (t ∷ later) h =
     (below.0, below.1, later_fits op (before ++ t ∷ []) later ((or_else-none _ _).0 own.1).1)
 
 pub evaluate_fits : (terms : List Term) → Evaluates terms → EachFits terms
-evaluate_fits [] e = tt
-evaluate_fits (t ∷ []) e = let own = simp no_fault at e.0 in (own.0, own.1, tt)
-evaluate_fits (t ∷ u ∷ later) e =
-    let own = simp no_fault at e.0 in
-    (own.0, own.1, later_fits u.operator [] (u ∷ later) ((or_else-none _ _).0 e.1).0)
+evaluate_fits terms e = search (rules, later_fits, or_else-none)
 
 pub below_evaluate : (terms : List Term) → 1 ≤ length terms → AreAdded terms → EachFits terms → sum_of terms < 2 ^ 64
     → Evaluates terms

@@ -29,9 +29,3 @@ loop-place-preserved c = record {
   bound = omega (arith, c.loop-place.invariant.bound);
   nearest = passed_one _ _ _ (search rules) c.loop-place.invariant.nearest;
 }
-
-pub returns-clause-bound : goal.returns-clause-bound
-returns-clause-bound c = c.loop-place.invariant.bound
-
-pub returns-clause-nearest : goal.returns-clause-nearest
-returns-clause-nearest c = c.loop-place.invariant.nearest

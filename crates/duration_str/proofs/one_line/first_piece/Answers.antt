@@ -1,5 +1,5 @@
-use Rattle.duration_str.proofs.Common.{refl, rules, sym, ◌∙◌}
-use Rattle.duration_str.proofs.Printer.OneLineLemmas.{taken_all, taken_boundary, taken_end, taken_first, taken_more, taken_other}
+use Rattle.duration_str.proofs.Common.{refl, rules, sym, ◌∙◌, take-nil}
+use Rattle.duration_str.proofs.Printer.OneLineLemmas.{taken_all, taken_boundary, taken_first, taken_more, taken_other, chars_of_none}
 use Rattle.duration_str.proofs.one_line.first_piece.Goals as goal
 use Rattle.duration_str.proofs.one_line.first_piece.Goals.{in-Some-next+then-left-eq0, in_default-next, then-left-eq0-via-else-left-eq0+then-not-is_like, then-left-eq0-via-then-left-eq0}
 
@@ -33,5 +33,5 @@ returns-clause-piece c =
             (sym held.same ∙ (w.in-Some-next.ensures {u = tt}).steps.0) (sym v.is_like.ensures ∙ v.if-not-is_like.true)
       ]
       | in_default-next w ↦
-          taken_end c.in-Some.first c.loop-c.rest.now c.loop-c.left (rw held.same at (w.in_default-next.ensures {u = tt}).steps.0.0)
+          rw (chars_of_none c.loop-c.rest.now (rw held.same at (w.in_default-next.ensures {u = tt}).steps.0.0)) (take-nil c.loop-c.left)
     ])

@@ -1,5 +1,4 @@
 use Rattle.duration_str.proofs.Common.{ap, arith, as_nanos, common_steps, length, length-take-le}
-use Rattle.duration_str.proofs.Printer.PrintedBytesLemmas.{ended_take}
 use Rattle.duration_str.proofs.Printer.FormatLemmas.{within_ended, within_fits, within_utf8}
 use Rattle.duration_str.proofs.printing.fill.Goals as goal
 
@@ -11,7 +10,7 @@ returns-then-end-eq0-clause-utf8 c =
     rw (returns-then-end-eq0-clause-text c) (within_utf8 c.args.format (as_nanos c.args.d) (omega arith))
 
 pub returns-clause-text : goal.returns-clause-text
-returns-clause-text c = grind (arith, common_steps, ended_take, within_ended)
+returns-clause-text c = grind (arith, common_steps, within_ended)
 
 pub returns-clause-utf8 : goal.returns-clause-utf8
 returns-clause-utf8 c = rw (returns-clause-text c) (within_utf8 c.args.format (as_nanos c.args.d) (omega arith))

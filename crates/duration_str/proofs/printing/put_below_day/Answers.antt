@@ -1,5 +1,5 @@
-use Rattle.duration_str.proofs.Common.{ap, arith, as_nanos, counts_of, refl, Short, sym, unit_lengths, units, with_counts, [], ◌*◌, ◌+◌, ◌^◌, ◌∙◌, ◌≡◌}
-use Rattle.duration_str.proofs.Printer.SpacedLemmas.{counts_below_day, counts_short, next_part}
+use Rattle.duration_str.proofs.Common.{ap, arith, as_nanos, counts_of, refl, Short, sym, unit_lengths, units, with_counts, [], ◌*◌, ◌+◌, ◌^◌, ◌∙◌, ◌≡◌, rules}
+use Rattle.duration_str.proofs.Printer.SpacedLemmas.{counts_below_day, next_part}
 use Rattle.duration_str.proofs.printing.put_below_day.Goals as goal
 
 pub loop-i-init : goal.loop-i-init
@@ -7,12 +7,8 @@ loop-i-init c = record {
   inside = omega arith;
   spaced = refl;
   same = refl;
-  short = counts_short c.as_secs-secs.result c.subsec_nanos-nanos.result (omega arith) (omega arith);
+  short = search rules;
 }
-
-pub put_spaced-end-requires-clause-short : goal.put_spaced-end-requires-clause-short
-put_spaced-end-requires-clause-short c =
-    c.loop-i.invariant.short c.loop-i.i 0 c.loop-i-test.true
 
 pub loop-i-preserved : goal.loop-i-preserved
 loop-i-preserved c = record {

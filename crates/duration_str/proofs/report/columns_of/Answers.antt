@@ -1,6 +1,6 @@
-use Rattle.duration_str.proofs.Common.{arith, chars, chars_rest, cond, IsUtf8-past_char, length, rules, ◌*◌, ◌+◌, ◌≡◌, ◌≤◌}
+use Rattle.duration_str.proofs.Common.{arith, chars, chars_rest, cond, IsUtf8-past_char, length, rules, ◌*◌, ◌+◌, ◌≡◌, ◌≤◌, sum_by-cons, chars_past_char, common_steps}
 use Rattle.duration_str.specs.Report.{columns_of, is_wide}
-use Rattle.duration_str.proofs.Printer.ReportLemmas.{columns_all, columns_more, columns_short}
+use Rattle.duration_str.proofs.Printer.ReportLemmas.{columns_all, columns_short}
 use Rattle.duration_str.proofs.report.columns_of.Goals.{After-from}
 use Rattle.duration_str.proofs.report.columns_of.Goals as goal
 
@@ -11,7 +11,7 @@ more : (c : After-from)
 more c =
     let held = c.loop-c.invariant in
     let one : c.from.result ≡ cond (is_wide c.in-Some.c) 1 0 = search rules in
-    rw one (columns_more _ _ c.in-Some.c c.loop-c.columns _ held.utf8 (c.in-Some.ensures {u = tt}).steps.0 held.whole)
+    rw one (grind (arith, common_steps, sum_by-cons, chars_past_char))
 
 pub overflow_add-columns-in-Some : goal.overflow_add-columns-in-Some
 overflow_add-columns-in-Some c =

@@ -1,10 +1,10 @@
 use Rattle.duration_str.proofs.Common.{refl, sym, ◌∙◌}
-use Rattle.duration_str.proofs.Cutting.PositionLemmas.{digits_head, digits_none}
-use Rattle.duration_str.proofs.Cutting.StepLemmas.{fewer_ahead, keeps_all, keeps_on}
+use Rattle.duration_str.proofs.Cutting.PositionLemmas.{digits_head, passes_none}
+use Rattle.duration_str.proofs.Cutting.StepLemmas.{fewer_ahead, keeps_on}
 use Rattle.duration_str.proofs.token.Tokens.take_digits.Goals as goal
 
 pub loop-self-init : goal.loop-self-init
-loop-self-init c = record { kept = keeps_all _; digits = digits_none }
+loop-self-init c = record { kept = record { text = refl; options = refl }; digits = record { run = passes_none; number = refl } }
 
 pub loop-self-preserved : goal.loop-self-preserved
 loop-self-preserved c =

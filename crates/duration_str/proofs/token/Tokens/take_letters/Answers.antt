@@ -1,7 +1,7 @@
 use Rattle.duration_str.proofs.Common.{arith, refl, rules, ◌∙◌}
 use Rattle.duration_str.proofs.Characters.PackedLemmas.{numbered_letter, unnumbered}
 use Rattle.duration_str.proofs.Cutting.PositionLemmas.{letters_head, letters_none}
-use Rattle.duration_str.proofs.Cutting.StepLemmas.{fewer_ahead, keeps_on, letter_ahead}
+use Rattle.duration_str.proofs.Cutting.StepLemmas.{fewer_ahead, keeps_on}
 use Rattle.duration_str.proofs.token.Tokens.take_letters.Goals as goal
 
 pub loop-self-init : goal.loop-self-init
@@ -11,7 +11,7 @@ loop-self-init c =
     record {
       kept = c.advance.ensures.kept;
       letters = letters_head letters_none (c.advance.ensures.past first c.in-Some.is)
-          (letter_ahead s first c.requires c.in-Some.is)
+          (search rules)
           (omega (arith, c.first_number-packed.ensures, c.first_number-packed.type_inv));
     }
 

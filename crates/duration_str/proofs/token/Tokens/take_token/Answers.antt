@@ -1,11 +1,11 @@
-use Rattle.duration_str.proofs.Common.{number, options_of, refl, rules_of}
-use Rattle.duration_str.proofs.Cutting.StepLemmas.{other_what, sign_what}
+use Rattle.duration_str.proofs.Common.{number, options_of, refl, rules_of, rules}
+use Rattle.duration_str.proofs.Cutting.StepLemmas.{other_what}
 use Rattle.duration_str.proofs.token.Tokens.take_token.Goals as goal
 
 pub returns-in-Operator : goal.returns-in-Operator
 returns-in-Operator c =
     let taken = c.advance.ensures.sign (rules_of (options_of c.args.self.now)) _ tt (rw c.in-Operator.is at c.requires) in
-    record { terminal = taken.terminal; token = taken.token; has = sign_what taken.terminal _ taken.has }
+    record { terminal = taken.terminal; token = taken.token; has = search rules }
 
 pub returns-in-Other : goal.returns-in-Other
 returns-in-Other c =
