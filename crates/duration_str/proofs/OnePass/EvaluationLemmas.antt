@@ -1,5 +1,5 @@
 -- Combining the later terms one by one finds the same first fault as looking at the whole list.
-use Rattle.duration_str.proofs.Common.{[], append-nil, append_assoc, arith, Bool, cases_Bool, Cause, checked_combination, checked_term, CondUnit, Err, evaluation_fault, false, fault_of_terms, fault_or, first_fault, fits, fold-append, if◌then◌else◌, inl, inr, IsTrue, later_total, List, lt-ltb, None, Ok, ok_or, Option, or_else, Overflow, Plus, refl, Result, rules, running_fault, Some, sum_of, Term, term_fault, total_with, true, u64_from, unless, unwrap_or, value_of, value_of_term, ℕ, ◌++◌, ◌<◌, ◌^◌, ◌∷◌, ◌≡◌}
+use Rattle.duration_str.proofs.Common.{[], append-nil, append_assoc, arith, Bool, cases_Bool, Cause, checked_combination, checked_term, combination, CondUnit, Err, evaluation_fault, false, fault_of_terms, fault_or, first_fault, fits, fold-append, if◌then◌else◌, inl, inr, IsTrue, later_total, List, lt-ltb, None, Ok, ok_or, Option, or_else, Overflow, Plus, refl, Result, rules, running_fault, Some, sum_of, Term, term_fault, total_with, true, u64_from, unless, unwrap_or, value_of, value_of_term, ℕ, ◌++◌, ◌<◌, ◌^◌, ◌∷◌, ◌≡◌}
 use Rattle.duration_str.proofs.Sentences.SumLemmas.{AreAdded, no_fault, running_below, sum-append, value_is_sum}
 use Rattle.duration_str.proofs.Sentences.AnswerLemmas.{later_value}
 
@@ -50,6 +50,15 @@ pub checked_term_is : (place : Option ℕ) (t : Term)
     → checked_term place (u64_from t.number) t.length ≡ fault_or (term_fault place t) (Ok (value_of_term t))
 checked_term_is place t = search (rules)
 
+together-push : (op : CondUnit) (before : List Term) (t : Term)
+    → combination op (later_total op before) (value_of_term t) ≡ later_total op (before ++ t ∷ [])
+together-push op before t = search (rules, sum-append, fold-append)
+
+one_more : (op : CondUnit) (before : List Term) (t : Term) → fault_of_terms op [] before ≡ None
+    → total_with (Some (op, later_total op before)) t.operator (u64_from t.number) t.length
+    ≡ value_by op (before ++ t ∷ [])
+one_more op before t none = search (rules, later_append, together-push)
+
 -- ---- All terms, one by one
 
 -- the answer after a later term, given the total of the later terms so far, or its fault. Except under `no_calc`, a
@@ -82,8 +91,7 @@ default_left : (first : ℕ) (op : CondUnit) (before later : List Term) (syntax 
     ≡ fault_or syntax (checked_combination op first (value_by op (before ++ later)))
 default_left first op before [] syntax none = rw (append-nil, none)
 default_left first op before (t ∷ later) syntax none =
-    let more = default_left first op (before ++ t ∷ []) later syntax in
-    search (rules, append_assoc, sum-append, fold-append, later_append, no_fault, more)
+    search (rules, append_assoc, later_append, one_more, no_fault, default_left first op (before ++ t ∷ []) later syntax)
 
 default_first : (first : ℕ) (u : Term) (later : List Term) (syntax : Option Cause)
     → answer_given false first None (u ∷ later) syntax
@@ -95,13 +103,19 @@ unless_fault : {x y : Result ℕ Cause} (fault : Option Cause) → (fault ≡ No
     → fault_or fault x ≡ fault_or fault y
 unless_fault fault h = search rules
 
+-- Adding one more term, as `no_calc` does, gives the new sum, or the fault of the term or of that sum.
+one_added : (f : Term) (before : List Term) (t : Term) → t.operator ≡ Plus
+    → total_with (Some (Plus, sum_of (f ∷ before))) t.operator (u64_from t.number) t.length
+    ≡ fault_or (running_fault (f ∷ before) (t ∷ [])) (Ok (sum_of (f ∷ (before ++ t ∷ []))))
+one_added f before t plus = search (rules, sum-append)
+
 no_calc_left : (f : Term) (before later : List Term) (syntax : Option Cause) → sum_of (f ∷ before) < 2 ^ 64
     → AreAdded later
     → answer_given true 0 (Some (Plus, sum_of (f ∷ before))) later syntax
     ≡ fault_or (running_fault (f ∷ before) later) (fault_or syntax (Ok (sum_of (f ∷ (before ++ later)))))
 no_calc_left f before [] syntax h a = search (rules, append-nil)
 no_calc_left f before (t ∷ later) syntax h a =
-    search (rules, running_append, append_assoc, running_below, no_calc_left f (before ++ t ∷ []) later syntax, sum-append)
+    search (rules, one_added, running_append, append_assoc, running_below, no_calc_left f (before ++ t ∷ []) later syntax)
 
 -- Combining the first value with the total of all later terms gives the value of the whole list, or its fault.
 whole_value : (f u : Term) (later : List Term)
