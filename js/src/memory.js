@@ -38,9 +38,10 @@ export function start() {
     WRITTEN = ANSWER + 32;
     TEXT = WRITTEN + WRITTEN_SIZE;
     memory = all;
-    // The page that is added here is room for the text.
-    memory.grow(1);
     makeViews();
+    // A short text always has room. Usually the memory needn't grow for that. In V8 growing makes
+    // all typed arrays slower, which then may have lost their memory.
+    reserve(SHORT_TEXT);
     calls = others;
 }
 
