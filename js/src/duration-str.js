@@ -4,7 +4,7 @@
 // index, and don't use their methods. Tables of names and descriptions of properties have no
 // prototype, and a field is defined before it is assigned. All files of this folder do so.
 import {
-    ANSWER, calls, fields, output, placesFor, start, TEXT, write, WRITTEN,
+    ANSWER, calls, fields, loneSurrogateIn, output, placesFor, start, TEXT, write, WRITTEN,
 } from "./memory.js";
 import {
     ALL_UNITS, bitsOf, COUNTED_UNITS, COUNTED_WHOLE, countOf, formatOf, indexIn, PARTS,
@@ -112,36 +112,34 @@ function faultIn(value, options) {
     const bits = bitsOf(options);
     const text = isText ? value : digitsOf(value, bits);
     if (!calls) start();
-    const { length, lone } = write(text);
+    const length = write(text);
+    const lone = loneSurrogateIn(text, length);
     if (lone >= 0) return loneSurrogateAt(text, lone);
     const taken = bits & ~READS_NUMBERS;
     const reportLength = calls.duration_str_report(TEXT, length, taken, ANSWER, WRITTEN);
     return reportLength > 0 ? faultOf(text, length, reportLength) : null;
 }
 
-function resultOf(fault, value) {
-    return fault ? { ok: false, fault } : { ok: true, value: value() };
-}
-
-function valueOf(fault, value) {
-    if (fault) throw new DurationError(fault);
-    return value();
-}
-
 export function tryParseNs(value, options) {
-    return resultOf(faultIn(value, options), nanoseconds);
+    const fault = faultIn(value, options);
+    return fault ? { ok: false, fault } : { ok: true, value: nanoseconds() };
 }
 
 export function parseNs(value, options) {
-    return valueOf(faultIn(value, options), nanoseconds);
+    const fault = faultIn(value, options);
+    if (fault) throw new DurationError(fault);
+    return nanoseconds();
 }
 
 export function tryParse(value, options) {
-    return resultOf(faultIn(value, options), milliseconds);
+    const fault = faultIn(value, options);
+    return fault ? { ok: false, fault } : { ok: true, value: milliseconds() };
 }
 
 export function parse(value, options) {
-    return valueOf(faultIn(value, options), milliseconds);
+    const fault = faultIn(value, options);
+    if (fault) throw new DurationError(fault);
+    return milliseconds();
 }
 
 // ---- Printing

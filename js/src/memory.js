@@ -5,7 +5,7 @@ import { instance } from "instance";
 
 /** The size of a page in bytes, by which a memory of WebAssembly grows. */
 const PAGE = 65_536;
-const LONE_SURROGATE = /\p{Surrogate}/u;
+const LONE_SURROGATE = /\p{Surrogate}/gu;
 
 /** The size of the buffer that the module writes to. Everything that it writes fits. */
 const WRITTEN_SIZE = 867;
@@ -101,35 +101,36 @@ export function output(length) {
 
 let encoder;
 
-/** Copies a short ASCII text to TEXT and returns its length. Returns -1 for any other text. */
+/** Copies a short text to TEXT, and returns whether it is ASCII. If it isn't, the copy is wrong. */
 function copyShort(text) {
-    if (text.length > SHORT_TEXT) return -1;
+    const bytes = texts;
+    let all = 0;
     for (let index = 0; index < text.length; index++) {
         const unit = text.charCodeAt(index);
-        if (unit > 0x7f) return -1;
-        texts[index] = unit;
+        all |= unit;
+        bytes[index] = unit;
     }
-    return text.length;
+    return all <= 0x7f;
 }
 
 /** Does what `write` does, if there is no encoder. */
 function writeEscaped(text) {
-    const lone = text.search(LONE_SURROGATE);
-    const bytes = lone >= 0 ? "" : unescape(encodeURIComponent(text));
+    const bytes = unescape(encodeURIComponent(text.replace(LONE_SURROGATE, "\ufffd")));
     for (let index = 0; index < bytes.length; index++) texts[index] = bytes.charCodeAt(index);
-    return { length: bytes.length, lone };
+    return bytes.length;
 }
 
-/** Writes a text in UTF-8 to TEXT. Returns its length in bytes, and the index of the first lone
- * surrogate, which is -1 if there is none. */
+/** Writes a text in UTF-8 to TEXT, and returns its length in bytes. A lone surrogate is written as
+ * U+FFFD. */
 export function write(text) {
+    if (text.length <= SHORT_TEXT && copyShort(text)) return text.length;
     reserve(3 * text.length);
-    const short = copyShort(text);
-    if (short >= 0) return { length: short, lone: -1 };
     if (typeof TextEncoder === "undefined") return writeEscaped(text);
     encoder ??= new TextEncoder();
-    const { written: length } = encoder.encodeInto(text, texts);
-    // A text that has no more bytes than UTF-16 units is ASCII, and has no surrogates.
-    const lone = length > text.length ? text.search(LONE_SURROGATE) : -1;
-    return { length, lone };
+    return encoder.encodeInto(text, texts).written;
 }
+
+/** The index of the first lone surrogate of a text that has this many bytes, or -1. A text that has
+ * no more bytes than UTF-16 units is ASCII, and has no surrogates. */
+export const loneSurrogateIn = (text, length) =>
+    length > text.length ? text.search(LONE_SURROGATE) : -1;

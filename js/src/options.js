@@ -73,7 +73,7 @@ function unitOf(what, name) {
     const printed = indexIn(UNITS, name);
     if (printed >= 0) return printed;
     if (!calls) start();
-    const unit = calls.duration_str_unit(TEXT, write(name).length);
+    const unit = calls.duration_str_unit(TEXT, write(name));
     if (unit >= 0) return unit;
     throw new RangeError(`${what} must be one of ${listed(UNITS)}, not ${name}`);
 }
