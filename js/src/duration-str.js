@@ -1,14 +1,14 @@
 // Reads and prints durations as people write them. index.d.ts documents the exports.
 //
 // A page may have changed the prototypes of arrays and of objects. So loops go over arrays by
-// index, and don't use their methods. Tables of names and descriptions of properties have no
-// prototype, and a field is defined before it is assigned. All files of this folder do so.
+// index, and don't use their methods. Tables of names are arrays, descriptions of properties have
+// no prototype, and a field is defined before it is assigned. All files of this folder do so.
 import {
     ANSWER, calls, fields, loneSurrogateIn, output, placesFor, start, TEXT, write, WRITTEN,
 } from "./memory.js";
 import {
-    ALL_UNITS, bitsOf, COUNTED_UNITS, COUNTED_WHOLE, countOf, formatOf, indexIn, PARTS,
-    PRINTED_WHOLE, READS_NUMBERS, styleOf, typeOf, UNITS, unitsLeft,
+    ALL_UNITS, bitsOf, COUNTED, COUNTED_UNITS, countOf, formatOf, indexIn, PARTS, PRINTED,
+    READS_NUMBERS, styleOf, typeOf, UNITS, unitsLeft,
 } from "./options.js";
 import { DurationError, faultOf, loneSurrogateAt } from "./refusals.js";
 
@@ -154,7 +154,7 @@ function print(options) {
     // The duration is taken before the options are looked at, since an option may have a getter
     // that calls this package.
     const { low, high, nanos } = secondsAndNanos();
-    const chosen = formatOf(options, PRINTED_WHOLE);
+    const chosen = formatOf(options, PRINTED);
     const { left } = unitsLeft(chosen, ALL_UNITS, "y");
     const parts = countOf(chosen.parts);
     const style = styleOf(chosen.style);
@@ -194,7 +194,7 @@ function breakDown(value, options, all, longest) {
     }
     put(value);
     const { low, high, nanos } = secondsAndNanos();
-    const chosen = formatOf(options, COUNTED_WHOLE);
+    const chosen = formatOf(options, COUNTED);
     const { left, named } = unitsLeft(chosen, all, longest);
     // `breakdown` counts all units, and `parts` all except the quarter.
     if (named & ~all) throw new RangeError("parts has no quarters");
