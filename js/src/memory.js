@@ -83,18 +83,39 @@ export function decode(bytes) {
  * element, which is called if the array itself lacks the element. */
 export const placesFor = (length) => " ".repeat(length).split("");
 
-/** Arrays for the codes of short texts, one for each length. */
-const codesOf = { __proto__: null };
+/** The text of these ASCII codes. `String.fromCharCode` takes an array of codes by `apply`, but
+ * needs twice the time for it. So longer texts are cut from the text of 16 or of 28 codes. */
+function textOf(c, length) {
+    switch (length) {
+        case 2: return String.fromCharCode(c[0], c[1]);
+        case 3: return String.fromCharCode(c[0], c[1], c[2]);
+        case 4: return String.fromCharCode(c[0], c[1], c[2], c[3]);
+        case 5: return String.fromCharCode(c[0], c[1], c[2], c[3], c[4]);
+        case 6: return String.fromCharCode(c[0], c[1], c[2], c[3], c[4], c[5]);
+        case 7: return String.fromCharCode(c[0], c[1], c[2], c[3], c[4], c[5], c[6]);
+        case 8: return String.fromCharCode(c[0], c[1], c[2], c[3], c[4], c[5], c[6], c[7]);
+        case 9: return String.fromCharCode(c[0], c[1], c[2], c[3], c[4], c[5], c[6], c[7], c[8]);
+    }
+    const whole = length <= 16 ? String.fromCharCode(
+        c[0], c[1], c[2], c[3], c[4], c[5], c[6], c[7], c[8], c[9], c[10], c[11], c[12], c[13],
+        c[14], c[15],
+    ) : String.fromCharCode(
+        c[0], c[1], c[2], c[3], c[4], c[5], c[6], c[7], c[8], c[9], c[10], c[11], c[12], c[13],
+        c[14], c[15], c[16], c[17], c[18], c[19], c[20], c[21], c[22], c[23], c[24], c[25], c[26],
+        c[27],
+    );
+    return whole.slice(0, length);
+}
 
 /** The text of this length that a call has written. */
 export function output(length) {
-    if (length > SHORT_WRITTEN) return decode(written.subarray(0, length));
-    const codes = codesOf[length] ??= placesFor(length);
-    for (let place = 0; place < length; place++) {
-        codes[place] = written[place];
-        if (codes[place] > 0x7f) return decode(written.subarray(0, length));
+    const codes = written;
+    if (length <= SHORT_WRITTEN) {
+        let all = 0;
+        for (let place = 0; place < length; place++) all |= codes[place];
+        if (all <= 0x7f) return textOf(codes, length);
     }
-    return String.fromCharCode.apply(null, codes);
+    return decode(codes.subarray(0, length));
 }
 
 // ---- Texts into the memory
