@@ -83,7 +83,7 @@ export function decode(bytes) {
  * element, which is called if the array itself lacks the element. */
 export const placesFor = (length) => " ".repeat(length).split("");
 
-/** The text of these ASCII codes. `String.fromCharCode` takes an array of codes by `apply`, but
+/** The text of these codes. `String.fromCharCode` takes an array of codes by `apply`, but
  * needs twice the time for it. So longer texts are cut from the text of 16 or of 28 codes. */
 function textOf(c, length) {
     switch (length) {
@@ -107,15 +107,24 @@ function textOf(c, length) {
     return whole.slice(0, length);
 }
 
+/** The codes of a short text that has a µ. */
+const codes = new Uint8Array(SHORT_WRITTEN);
+
 /** The text of this length that a call has written. */
 export function output(length) {
-    const codes = written;
-    if (length <= SHORT_WRITTEN) {
-        let all = 0;
-        for (let place = 0; place < length; place++) all |= codes[place];
-        if (all <= 0x7f) return textOf(codes, length);
+    const bytes = written;
+    if (length > SHORT_WRITTEN) return decode(bytes.subarray(0, length));
+    let all = 0;
+    for (let place = 0; place < length; place++) all |= bytes[place];
+    if (all <= 0x7f) return textOf(bytes, length);
+    let count = 0;
+    for (let place = 0; place < length; place++) {
+        const byte = bytes[place];
+        if (byte > 0xc2) return decode(bytes.subarray(0, length));
+        // From U+0080 to U+00BF, as for µ, the bytes are C2 and the code.
+        if (byte !== 0xc2) codes[count++] = byte;
     }
-    return decode(codes.subarray(0, length));
+    return textOf(codes, count);
 }
 
 // ---- Texts into the memory
