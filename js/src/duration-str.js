@@ -1,8 +1,10 @@
 // Reads and prints durations as people write them. index.d.ts documents the exports.
-import { ANSWER, calls, fields, output, start, TEXT, write, WRITTEN } from "./memory.js";
 import {
-    ALL_UNITS, bitsOf, COUNTED_UNITS, COUNTED_WHOLE, countOf, formatOf, PARTS,
-    PRINTED_WHOLE, READS_NUMBERS, styleOf, typeOf, UNITS, unitsLeft,
+    ANSWER, calls, fields, loneSurrogateIn, output, start, TEXT, write, WRITTEN,
+} from "./memory.js";
+import {
+    ALL_UNITS, bitsOf, COUNTED, COUNTED_UNITS, countOf, formatOf, PARTS, PRINTED, READS_NUMBERS,
+    styleOf, typeOf, UNITS, unitsLeft,
 } from "./options.js";
 import { DurationError, faultOf, loneSurrogateAt } from "./refusals.js";
 
@@ -106,36 +108,34 @@ function faultIn(value, options) {
     const bits = bitsOf(options);
     const text = isText ? value : digitsOf(value, bits);
     if (!calls) start();
-    const { length, lone } = write(text);
+    const length = write(text);
+    const lone = loneSurrogateIn(text, length);
     if (lone >= 0) return loneSurrogateAt(text, lone);
     const taken = bits & ~READS_NUMBERS;
     const reportLength = calls.duration_str_report(TEXT, length, taken, ANSWER, WRITTEN);
     return reportLength > 0 ? faultOf(text, length, reportLength) : null;
 }
 
-function resultOf(fault, value) {
-    return fault ? { ok: false, fault } : { ok: true, value: value() };
-}
-
-function valueOf(fault, value) {
-    if (fault) throw new DurationError(fault);
-    return value();
-}
-
 export function tryParseNs(value, options) {
-    return resultOf(faultIn(value, options), nanoseconds);
+    const fault = faultIn(value, options);
+    return fault ? { ok: false, fault } : { ok: true, value: nanoseconds() };
 }
 
 export function parseNs(value, options) {
-    return valueOf(faultIn(value, options), nanoseconds);
+    const fault = faultIn(value, options);
+    if (fault) throw new DurationError(fault);
+    return nanoseconds();
 }
 
 export function tryParse(value, options) {
-    return resultOf(faultIn(value, options), milliseconds);
+    const fault = faultIn(value, options);
+    return fault ? { ok: false, fault } : { ok: true, value: milliseconds() };
 }
 
 export function parse(value, options) {
-    return valueOf(faultIn(value, options), milliseconds);
+    const fault = faultIn(value, options);
+    if (fault) throw new DurationError(fault);
+    return milliseconds();
 }
 
 // ---- Printing
@@ -150,7 +150,7 @@ function print(options) {
     // The duration is taken before the options are looked at, since an option may have a getter
     // that calls this package.
     const { low, high, nanos } = secondsAndNanos();
-    const chosen = formatOf(options, PRINTED_WHOLE);
+    const chosen = formatOf(options, PRINTED);
     const { left } = unitsLeft(chosen, ALL_UNITS, "y");
     const parts = countOf(chosen.parts);
     const style = styleOf(chosen.style);
@@ -190,7 +190,7 @@ function breakDown(value, options, all, longest) {
     }
     put(value);
     const { low, high, nanos } = secondsAndNanos();
-    const chosen = formatOf(options, COUNTED_WHOLE);
+    const chosen = formatOf(options, COUNTED);
     const { left, named } = unitsLeft(chosen, all, longest);
     // `breakdown` counts all units, and `parts` all except the quarter.
     if (named & ~all) throw new RangeError("parts has no quarters");

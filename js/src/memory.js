@@ -5,7 +5,7 @@ import { instance } from "instance";
 
 /** The size of a page in bytes, by which a memory of WebAssembly grows. */
 const PAGE = 65_536;
-const LONE_SURROGATE = /\p{Surrogate}/u;
+const LONE_SURROGATE = /\p{Surrogate}/gu;
 
 /** The size of the buffer that the module writes to. Everything that it writes fits. */
 const WRITTEN_SIZE = 867;
@@ -38,9 +38,10 @@ export function start() {
     WRITTEN = ANSWER + 32;
     TEXT = WRITTEN + WRITTEN_SIZE;
     memory = all;
-    // The page that is added here is room for the text.
-    memory.grow(1);
     makeViews();
+    // A short text always has room. Usually the memory needn't grow for that. In V8 growing makes
+    // all typed arrays slower, which then may have lost their memory.
+    reserve(SHORT_TEXT);
     calls = others;
 }
 
@@ -78,53 +79,84 @@ export function decode(bytes) {
     return decoder.decode(bytes);
 }
 
-/** Arrays for the codes of short texts, one for each length. */
-const codesOf = [];
+/** The text of these codes. `String.fromCharCode` takes an array of codes by `apply`, but
+ * needs twice the time for it. So longer texts are cut from the text of 16 or of 28 codes. */
+function textOf(c, length) {
+    switch (length) {
+        case 2: return String.fromCharCode(c[0], c[1]);
+        case 3: return String.fromCharCode(c[0], c[1], c[2]);
+        case 4: return String.fromCharCode(c[0], c[1], c[2], c[3]);
+        case 5: return String.fromCharCode(c[0], c[1], c[2], c[3], c[4]);
+        case 6: return String.fromCharCode(c[0], c[1], c[2], c[3], c[4], c[5]);
+        case 7: return String.fromCharCode(c[0], c[1], c[2], c[3], c[4], c[5], c[6]);
+        case 8: return String.fromCharCode(c[0], c[1], c[2], c[3], c[4], c[5], c[6], c[7]);
+        case 9: return String.fromCharCode(c[0], c[1], c[2], c[3], c[4], c[5], c[6], c[7], c[8]);
+    }
+    const whole = length <= 16 ? String.fromCharCode(
+        c[0], c[1], c[2], c[3], c[4], c[5], c[6], c[7], c[8], c[9], c[10], c[11], c[12], c[13],
+        c[14], c[15],
+    ) : String.fromCharCode(
+        c[0], c[1], c[2], c[3], c[4], c[5], c[6], c[7], c[8], c[9], c[10], c[11], c[12], c[13],
+        c[14], c[15], c[16], c[17], c[18], c[19], c[20], c[21], c[22], c[23], c[24], c[25], c[26],
+        c[27],
+    );
+    return whole.slice(0, length);
+}
+
+/** The codes of a short text that has a µ. */
+const codes = new Uint8Array(SHORT_WRITTEN);
 
 /** The text of this length that a call has written. */
 export function output(length) {
-    if (length > SHORT_WRITTEN) return decode(written.subarray(0, length));
-    const codes = codesOf[length] ??= new Array(length).fill(0);
+    const bytes = written;
+    if (length > SHORT_WRITTEN) return decode(bytes.subarray(0, length));
+    let all = 0;
+    for (let place = 0; place < length; place++) all |= bytes[place];
+    if (all <= 0x7f) return textOf(bytes, length);
+    let count = 0;
     for (let place = 0; place < length; place++) {
-        codes[place] = written[place];
-        if (codes[place] > 0x7f) return decode(written.subarray(0, length));
+        const byte = bytes[place];
+        if (byte > 0xc2) return decode(bytes.subarray(0, length));
+        // From U+0080 to U+00BF, as for µ, the bytes are C2 and the code.
+        if (byte !== 0xc2) codes[count++] = byte;
     }
-    return String.fromCharCode.apply(null, codes);
+    return textOf(codes, count);
 }
 
 // ---- Texts into the memory
 
 let encoder;
 
-/** Copies a short ASCII text to TEXT and returns its length. Returns -1 for any other text. */
+/** Copies a short text to TEXT, and returns whether it is ASCII. If it isn't, the copy is wrong. */
 function copyShort(text) {
-    if (text.length > SHORT_TEXT) return -1;
+    const bytes = texts;
+    let all = 0;
     for (let index = 0; index < text.length; index++) {
         const unit = text.charCodeAt(index);
-        if (unit > 0x7f) return -1;
-        texts[index] = unit;
+        all |= unit;
+        bytes[index] = unit;
     }
-    return text.length;
+    return all <= 0x7f;
 }
 
 /** Does what `write` does, if there is no encoder. */
 function writeEscaped(text) {
-    const lone = text.search(LONE_SURROGATE);
-    const bytes = lone >= 0 ? "" : unescape(encodeURIComponent(text));
+    const bytes = unescape(encodeURIComponent(text.replace(LONE_SURROGATE, "\ufffd")));
     for (let index = 0; index < bytes.length; index++) texts[index] = bytes.charCodeAt(index);
-    return { length: bytes.length, lone };
+    return bytes.length;
 }
 
-/** Writes a text in UTF-8 to TEXT. Returns its length in bytes, and the index of the first lone
- * surrogate, which is -1 if there is none. */
+/** Writes a text in UTF-8 to TEXT, and returns its length in bytes. A lone surrogate is written as
+ * U+FFFD. */
 export function write(text) {
+    if (text.length <= SHORT_TEXT && copyShort(text)) return text.length;
     reserve(3 * text.length);
-    const short = copyShort(text);
-    if (short >= 0) return { length: short, lone: -1 };
     if (typeof TextEncoder === "undefined") return writeEscaped(text);
     encoder ??= new TextEncoder();
-    const { written: length } = encoder.encodeInto(text, texts);
-    // A text that has no more bytes than UTF-16 units is ASCII, and has no surrogates.
-    const lone = length > text.length ? text.search(LONE_SURROGATE) : -1;
-    return { length, lone };
+    return encoder.encodeInto(text, texts).written;
 }
+
+/** The index of the first lone surrogate of a text that has this many bytes, or -1. A text that has
+ * no more bytes than UTF-16 units is ASCII, and has no surrogates. */
+export const loneSurrogateIn = (text, length) =>
+    length > text.length ? text.search(LONE_SURROGATE) : -1;

@@ -15,8 +15,11 @@ export const ALL_UNITS = (1 << UNITS.length) - 1;
 export const COUNTED_UNITS = ALL_UNITS & ~(1 << PARTS.indexOf(null));
 /** The styles, in the order of `enum duration_str_style`. */
 const STYLES = ["short", "compact", "long"];
-/** The options of reading that are on or off, with their bits in `enum duration_str_option`. */
-const OPTIONS = { __proto__: null, noCalc: 1, lowercase: 2, cnUnit: 4, requireUnit: 8 };
+/** The options of reading that are on or off. Each has the bit `1 << index`, as in
+ * `enum duration_str_option`. */
+const OPTIONS = ["noCalc", "lowercase", "cnUnit", "requireUnit"];
+const NO_CALC = 1;
+const REQUIRE_UNIT = 8;
 /** From this bit on, the options hold the default unit's number plus 1, or 0 for the second. */
 const DEFAULT_UNIT = 16;
 /** A bit that the library doesn't know: a default unit is named, so numbers are read. */
@@ -56,7 +59,7 @@ function unitOf(what, name) {
     const printed = UNITS.indexOf(name);
     if (printed >= 0) return printed;
     if (!calls) start();
-    const unit = calls.duration_str_unit(TEXT, write(name).length);
+    const unit = calls.duration_str_unit(TEXT, write(name));
     if (unit >= 0) return unit;
     throw new RangeError(`${what} must be one of ${UNITS.join(", ")}, not ${name}`);
 }
@@ -66,7 +69,7 @@ function defaultUnitBits(name) {
     if (name === undefined) return 0;
     const unit = unitOf("the option defaultUnit", name);
     if (UNITS[unit] === "s") return READS_NUMBERS;
-    return READS_NUMBERS | OPTIONS.noCalc | (unit + 1) << DEFAULT_UNIT;
+    return READS_NUMBERS | NO_CALC | (unit + 1) << DEFAULT_UNIT;
 }
 
 /** The bits of the options that are on, and of the default unit. */
@@ -83,21 +86,23 @@ export function bitsOf(options) {
         const value = options[name];
         if (name === "defaultUnit") {
             bits |= defaultUnitBits(value);
-        } else if (!(name in OPTIONS)) {
-            throw unknown(name);
-        } else if (value === true) {
-            bits |= OPTIONS[name];
+            continue;
+        }
+        const number = OPTIONS.indexOf(name);
+        if (number < 0) throw unknown(name);
+        if (value === true) {
+            bits |= 1 << number;
         } else if (value === false) {
             wantsOperators ||= name === "noCalc";
         } else if (value !== undefined) {
             throw new TypeError(`the option ${name} must be a boolean, not ${typeOf(value)}`);
         }
     }
-    if (bits & OPTIONS.requireUnit && bits & READS_NUMBERS) {
+    if (bits & REQUIRE_UNIT && bits & READS_NUMBERS) {
         throw new RangeError("the options requireUnit and defaultUnit contradict each other");
     }
     // If `noCalc` is false and yet on, the default unit has turned it on.
-    if (wantsOperators && bits & OPTIONS.noCalc) {
+    if (wantsOperators && bits & NO_CALC) {
         const why = "a factor would count that unit too";
         throw new RangeError(
             `the option noCalc can't be false if defaultUnit is not the second: ${why}`,
@@ -140,22 +145,16 @@ export function countOf(parts) {
     return Math.min(parts, UNITS.length);
 }
 
-/** The options for printing and for counting, with their default values. */
-export const PRINTED_WHOLE = {
-    __proto__: null, units: undefined, largest: undefined, smallest: "ns", parts: Infinity,
-    style: "short",
-};
-export const COUNTED_WHOLE = {
-    __proto__: null, units: undefined, largest: undefined, smallest: "ns", parts: Infinity,
-};
+/** The names of the options for printing and for counting. */
+export const PRINTED = ["units", "largest", "smallest", "parts", "style"];
+export const COUNTED = ["units", "largest", "smallest", "parts"];
 
-/** The format with these options for printing or for counting. `whole` has their names and default
- * values. */
-export function formatOf(options, whole) {
+/** The format with these options. `known` are the names that they may have. */
+export function formatOf(options, known) {
     checkPlain(options);
-    let { units, largest, smallest, parts, style } = whole;
+    let units, largest, smallest = "ns", parts = Infinity, style = "short";
     for (const name of Object.keys(options)) {
-        if (!(name in whole)) throw unknown(name);
+        if (!known.includes(name)) throw unknown(name);
         const value = options[name];
         if (value === undefined) continue;
         if (name === "units") units = value;

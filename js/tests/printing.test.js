@@ -52,6 +52,29 @@ test("prints the vectors in the units that are chosen", () => {
     }
 });
 
+test("prints texts of each length", () => {
+    // Neighbouring digits differ, so that none can stand in the place of another.
+    const counts = {
+        d: [3, 6], h: [4, 17], min: [5, 28], s: [6, 39], ms: [7, 481], µs: [8, 592], ns: [9, 613],
+    };
+    const names = Object.keys(counts);
+    const ascii = new Set();
+    const others = new Set();
+    for (let set = 1; set < 2 ** names.length; set++) {
+        for (let longer = 0; longer < 2 ** names.length; longer++) {
+            const chosen = names
+                .map((name, index) => ({ name, count: counts[name][longer >> index & 1] }))
+                .filter((_, index) => set >> index & 1);
+            const text = chosen.map(({ name, count }) => `${count}${name}`).join(" ");
+            const lengths = chosen.map(({ name, count }) => BigInt(count) * LENGTHS[name]);
+            assert.equal(formatNs(lengths.reduce((sum, each) => sum + each)), text);
+            (text.includes("µ") ? others : ascii).add(text.length);
+        }
+    }
+    for (let length = 2; length <= 28; length++) assert.ok(ascii.has(length), `${length}`);
+    for (let length = 7; length <= 30; length++) assert.ok(others.has(length), `${length} with µ`);
+});
+
 test("prints the vectors, and refuses formats that contradict themselves", () => {
     for (const [text, largest, smallest, parts, short, long] of VECTORS.printed) {
         if (!tryParseNs(text).ok) continue;

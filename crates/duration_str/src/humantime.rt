@@ -3,6 +3,7 @@ ghost use Rattle.std.specs.Prelude.{◌≡◌};
 ghost use Rattle.duration_str.specs.Humantime.{humantime_row_of};
 ghost use Rattle.duration_str.specs.Internal.UnitTable.{unit_of_packed};
 
+use crate::packed::MODULUS;
 use crate::unit::TimeUnit;
 use crate::unit::TimeUnit::{
     Day, Hour, MicroSecond as Micro, MilliSecond as Milli, Minute, Month, NanoSecond as Nano,
@@ -35,7 +36,7 @@ pub(crate) fn unit_of_packed(packed: u64) -> Option<TimeUnit>
     ensures { result ≡ unit_of_packed humantime_row_of packed }
 {
     // The product is computed as in `packed.rt`.
-    let slot = (packed as u128 * SPREAD as u128 >> 56) % 256;
+    let slot = ((packed as u128 * SPREAD as u128) % MODULUS) as u64 >> 56;
     let name = SLOTS[slot as usize] as usize;
     if NAMES[name] == packed {
         Some(NAMED_UNITS[name])

@@ -149,8 +149,8 @@ pub(crate) fn unit_of_packed(packed: u64) -> Option<TimeUnit>
     ensures { result ≡ unit_of_packed row_of packed }
 {
     // The product is computed in 128 bits, which the compiler turns into one multiplication of 64
-    // bits.
-    let slot = (packed as u128 * SPREAD as u128 >> 57) % 128;
+    // bits, since only its lower half is used.
+    let slot = ((packed as u128 * SPREAD as u128) % MODULUS) as u64 >> 57;
     let name = SLOTS[slot as usize] as usize;
     if NAMES[name] == packed {
         Some(NAMED_UNITS[name])

@@ -29,17 +29,6 @@ impl UnitTable {
         }
     }
 
-    /// The unit's length in nanoseconds.
-    #[inline(always)]
-    pub(crate) fn nanos(self, unit: TimeUnit) -> u64
-        ensures { result ≡ (table_of self unit).nanos }
-    {
-        match self {
-            UnitTable::Own => unit.nanos(),
-            UnitTable::Humantime => humantime::nanos(unit),
-        }
-    }
-
     /// The nanoseconds of a term with this number and this unit. `number` is `None` if it is 2^64 or more, and `place`
     /// is the place of the error.
     #[inline]
@@ -54,7 +43,18 @@ impl UnitTable {
         let Some(n) = number else {
             return Err(Cause::NumberTooLarge { place });
         };
-        n.checked_mul(self.nanos(unit))
-            .ok_or(Cause::Overflow { place })
+        match self {
+            UnitTable::Own => {
+                let row = unit.printed();
+                // For processors of 32 bits, and in WebAssembly, `checked_mul` would be a call.
+                if n > row.most {
+                    return Err(Cause::Overflow { place });
+                }
+                Ok(n * row.nanos)
+            }
+            UnitTable::Humantime => n
+                .checked_mul(humantime::nanos(unit))
+                .ok_or(Cause::Overflow { place }),
+        }
     }
 }

@@ -1,6 +1,7 @@
 // Made by tools/erase of crates/duration_str/src/humantime.rt.
 //! The names and lengths of the units of the crate humantime, with the library's own names added.
 
+use crate::packed::MODULUS;
 use crate::unit::TimeUnit;
 use crate::unit::TimeUnit::{
     Day, Hour, MicroSecond as Micro, MilliSecond as Milli, Minute, Month, NanoSecond as Nano,
@@ -29,7 +30,7 @@ pub(crate) fn nanos(unit: TimeUnit) -> u64 {
 #[inline]
 pub(crate) fn unit_of_packed(packed: u64) -> Option<TimeUnit> {
     // The product is computed as in `packed.rt`.
-    let slot = (packed as u128 * SPREAD as u128 >> 56) % 256;
+    let slot = ((packed as u128 * SPREAD as u128) % MODULUS) as u64 >> 56;
     let name = SLOTS[slot as usize] as usize;
     if NAMES[name] == packed {
         Some(NAMED_UNITS[name])

@@ -153,8 +153,9 @@ const YEAR: u64 = 365 * DAY;
 pub(crate) struct Printed {
     pub(crate) unit: TimeUnit,
     pub(crate) nanos: u64,
-    /// The greatest `u64`, divided by the unit's length and rounded down.
-    reciprocal: u64,
+    /// The greatest count of the unit that is below 2^64 nanoseconds. It is also the reciprocal of the unit's length,
+    /// as a fraction of 2^64.
+    pub(crate) most: u64,
     /// The printed name, filled up with spaces, so that every name is copied as four bytes.
     pub(crate) letters: [u8; 4],
     /// How many bytes the name has.
@@ -166,7 +167,7 @@ impl Printed {
     /// reciprocal, which is faster than a division and gives the quotient or one less.
     #[inline(always)]
     pub(crate) fn division(&self, nanos: u64) -> (u64, u64) {
-        let count = (nanos as u128 * self.reciprocal as u128 >> 64) as u64;
+        let count = (nanos as u128 * self.most as u128 >> 64) as u64;
         let rest = nanos - count * self.nanos;
         if rest < self.nanos {
             (count, rest)
@@ -193,77 +194,77 @@ pub(crate) static PRINTED: [Printed; 11] = [
     Printed {
         unit: TimeUnit::Year,
         nanos: YEAR,
-        reciprocal: u64::MAX / YEAR,
+        most: u64::MAX / YEAR,
         letters: *b"y   ",
         width: 1,
     },
     Printed {
         unit: TimeUnit::Quarter,
         nanos: QUARTER,
-        reciprocal: u64::MAX / QUARTER,
+        most: u64::MAX / QUARTER,
         letters: *b"q   ",
         width: 1,
     },
     Printed {
         unit: TimeUnit::Month,
         nanos: MONTH,
-        reciprocal: u64::MAX / MONTH,
+        most: u64::MAX / MONTH,
         letters: *b"mon ",
         width: 3,
     },
     Printed {
         unit: TimeUnit::Week,
         nanos: WEEK,
-        reciprocal: u64::MAX / WEEK,
+        most: u64::MAX / WEEK,
         letters: *b"w   ",
         width: 1,
     },
     Printed {
         unit: TimeUnit::Day,
         nanos: DAY,
-        reciprocal: u64::MAX / DAY,
+        most: u64::MAX / DAY,
         letters: *b"d   ",
         width: 1,
     },
     Printed {
         unit: TimeUnit::Hour,
         nanos: HOUR,
-        reciprocal: u64::MAX / HOUR,
+        most: u64::MAX / HOUR,
         letters: *b"h   ",
         width: 1,
     },
     Printed {
         unit: TimeUnit::Minute,
         nanos: MINUTE,
-        reciprocal: u64::MAX / MINUTE,
+        most: u64::MAX / MINUTE,
         letters: *b"min ",
         width: 3,
     },
     Printed {
         unit: TimeUnit::Second,
         nanos: SECOND,
-        reciprocal: u64::MAX / SECOND,
+        most: u64::MAX / SECOND,
         letters: *b"s   ",
         width: 1,
     },
     Printed {
         unit: TimeUnit::MilliSecond,
         nanos: MILLISECOND,
-        reciprocal: u64::MAX / MILLISECOND,
+        most: u64::MAX / MILLISECOND,
         letters: *b"ms  ",
         width: 2,
     },
     Printed {
         unit: TimeUnit::MicroSecond,
         nanos: MICROSECOND,
-        reciprocal: u64::MAX / MICROSECOND,
+        most: u64::MAX / MICROSECOND,
         letters: *b"\xC2\xB5s ",
         width: 3,
     },
     Printed {
         unit: TimeUnit::NanoSecond,
         nanos: NANOSECOND,
-        reciprocal: u64::MAX / NANOSECOND,
+        most: u64::MAX / NANOSECOND,
         letters: *b"ns  ",
         width: 2,
     },

@@ -278,7 +278,7 @@ unit_by_number settings w letters = search (rules, named_by_number)
 
 -- the slot of a packed number among 2 ^ bits slots
 abbrev pub slot : ℕ → ℕ → ℕ → ℕ
-slot bits spread n = n * spread / 2 ^ (64 - bits) % 2 ^ bits
+slot bits spread n = n * spread % 2 ^ 64 / 2 ^ (64 - bits)
 
 -- each slot holds the index of one of `count` names
 pub slot_below : (slots : List ℕ) (count i : ℕ) → i < length slots

@@ -178,7 +178,7 @@ printed_within format nanos bytes utf8 same =
 
 -- the row that stands for one beyond the end of the table
 abbrev pub beyond : Printed
-beyond = record { unit = Year; nanos = 0; reciprocal = 0; letters = []; width = 0 }
+beyond = record { unit = Year; nanos = 0; most = 0; letters = []; width = 0 }
 
 pub row_at : (u : TimeUnit) → slice_index_or (map printed_row units) (rank_of u) beyond ≡ printed_row u
 row_at = each_unit (λ u. slice_index_or (map printed_row units) (rank_of u) beyond ≡ printed_row u) assumption

@@ -21,7 +21,7 @@ abbrev pub printed_row : TimeUnit → Printed
 printed_row u = record {
   unit = u;
   nanos = nanos_of u;
-  reciprocal = (2 ^ 64 - 1) / nanos_of u;
+  most = (2 ^ 64 - 1) / nanos_of u;
   letters = take 4 (encode_utf8_all (row_of u).printed ++ 32 ∷ 32 ∷ 32 ∷ []);
   width = length (encode_utf8_all (row_of u).printed);
 }
