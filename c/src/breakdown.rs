@@ -8,12 +8,13 @@ use core::time::Duration;
 /// How many units there are.
 pub const UNIT_COUNT: usize = UNITS.len();
 
-/// Breaks a duration down into the units of a set, in at most `parts` parts. Writes to `counts` the count of each unit,
-/// the longest unit first, and to `rest` the nanoseconds that no part has. A unit without a part has the count 0.
+/// Breaks a duration down into the units of a set, in at most `parts` parts. Writes to `counts` the
+/// count of each unit, the longest unit first, and to `rest` the nanoseconds that no part has. A
+/// unit without a part has the count 0.
 ///
-/// The set is given by its bits, as for `duration_str_format_with`. If `nanos` is a second or more, if `units` is 0 or
-/// above 2,047, or if a count or the rest needs more than 64 bits, the call returns false, and `counts` and `rest` are
-/// unchanged. Otherwise it returns true.
+/// The set is given by its bits, as for `duration_str_format_with`. If `nanos` is a second or more,
+/// if `units` is 0 or above 2,047, or if a count or the rest needs more than 64 bits, the call
+/// returns false, and `counts` and `rest` are unchanged. Otherwise it returns true.
 pub fn duration_str_breakdown(
     secs: u64,
     nanos: u32,
@@ -40,8 +41,8 @@ pub fn duration_str_breakdown(
     true
 }
 
-/// Takes the parts that are left, and returns the counts of all units among them, that of the longest unit first. It is
-/// `None` if a count needs more than 64 bits.
+/// Takes the parts that are left, and returns the counts of all units among them, that of the
+/// longest unit first. It is `None` if a count needs more than 64 bits.
 fn counts_of(parts: &mut Breakdown) -> Option<[u64; UNIT_COUNT]> {
     let mut counts = [0; UNIT_COUNT];
     while let Some((unit, count)) = parts.next() {

@@ -49,8 +49,8 @@ pub(crate) fn options_of_bits(bits: u32) -> Options {
     }
 }
 
-/// Whether each bit that is set belongs to an option. With a default unit among the bits, operators must be off, and
-/// units must not be required.
+/// Whether each bit that is set belongs to an option. With a default unit among the bits, operators
+/// must be off, and units must not be required.
 pub(crate) fn are_options(bits: u32) -> bool {
     let number = bits >> DEFAULT_UNIT;
     bits & OPTIONS == bits
@@ -58,7 +58,8 @@ pub(crate) fn are_options(bits: u32) -> bool {
             || number as usize <= UNITS.len() && bits & NO_CALC != 0 && bits & REQUIRE_UNIT == 0)
 }
 
-/// The default unit. There is none if the bit that requires a unit is set. It is the second if the bits hold no unit.
+/// The default unit. There is none if the bit that requires a unit is set. It is the second if the
+/// bits hold no unit.
 fn default_unit_of_bits(bits: u32) -> Option<TimeUnit> {
     if bits & REQUIRE_UNIT != 0 {
         return None;
@@ -70,8 +71,8 @@ fn default_unit_of_bits(bits: u32) -> Option<TimeUnit> {
     UNITS.get(number as usize - 1).copied()
 }
 
-/// Reads a text with all options off, and writes its value in nanoseconds to `nanos`. Returns true if the text is read.
-/// If it is refused, returns false and leaves `nanos` unchanged.
+/// Reads a text with all options off, and writes its value in nanoseconds to `nanos`. Returns true
+/// if the text is read. If it is refused, returns false and leaves `nanos` unchanged.
 pub fn duration_str_parse(text: &[u8], nanos: &mut u64) -> bool {
     let Some(text) = text_of(text) else {
         return false;
@@ -85,8 +86,8 @@ pub fn duration_str_parse(text: &[u8], nanos: &mut u64) -> bool {
     }
 }
 
-/// Prints a duration of this many nanoseconds to the start of the buffer, with a zero byte after it. Returns the length
-/// of the text without the zero. The rest of the buffer is unchanged.
+/// Prints a duration of this many nanoseconds to the start of the buffer, with a zero byte after
+/// it. Returns the length of the text without the zero. The rest of the buffer is unchanged.
 pub fn duration_str_format(nanos: u64, buffer: &mut [u8; FORMAT_BUFFER_SIZE]) -> usize {
     let mut printed = [0; FORMAT_BUFFER_SIZE];
     put(
@@ -118,7 +119,8 @@ pub(crate) fn read_by(text: &str, bits: u32) -> Result<u64, Fault<'_>> {
     parse_nanos(text, options_of_bits(bits), default_unit_of_bits(bits))
 }
 
-/// The version: the major number times a million, plus the minor number times a thousand, plus the patch number.
+/// The version: the major number times a million, plus the minor number times a thousand, plus the
+/// patch number.
 pub fn duration_str_version() -> u32 {
     19_000
 }

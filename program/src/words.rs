@@ -4,8 +4,8 @@
 use crate::fault::RunFault;
 use duration_str_core::Options;
 
-/// Returns the options with the field of this name on and the other fields unchanged, or `None` if the word is no
-/// option's name.
+/// Returns the options with the field of this name on and the other fields unchanged, or `None` if
+/// the word is no option's name.
 ///
 /// ```text
 /// with_word(Options::off(), "no_calc") // Some(Options { no_calc: true, ..Options::off() })
@@ -29,7 +29,8 @@ pub fn with_word(options: Options, word: &str) -> Option<Options> {
     }
 }
 
-/// Returns the exit status for this result of `run`, and the line for standard error, which is empty if there is none.
+/// Returns the exit status for this result of `run`, and the line for standard error, which is
+/// empty if there is none.
 ///
 /// ```text
 /// ending(Ok(false))             // (1, "")

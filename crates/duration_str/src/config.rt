@@ -19,9 +19,10 @@ use std::time::Duration;
 
 /// A type that can be read from a configuration value.
 ///
-/// A `Duration` or `SignedDuration` is a required value: a text is read by `parse`, and any other value is refused as
-/// `NotText { optional: false }`. An `Option` of either is an optional value: null and the empty text are read as
-/// `None`, any other text is read by `parse`, and any other value is refused as `NotText { optional: true }`.
+/// A `Duration` or `SignedDuration` is a required value: a text is read by `parse`, and any other
+/// value is refused as `NotText { optional: false }`. An `Option` of either is an optional value:
+/// null and the empty text are read as `None`, any other text is read by `parse`, and any other
+/// value is refused as `NotText { optional: true }`.
 ///
 /// ```text
 /// Option::<Duration>::deserialize_duration(&Value::Null) // Ok(None)
@@ -30,7 +31,8 @@ pub trait DeserializeDuration<'de>: Sized {
     /// The result of reading a value with this data.
     ghost gives: { Data → Result Self PlainFault → Type 0 };
 
-    /// Reads the value. If its text is refused, the fault borrows that text. The text of a `NotText` fault is empty.
+    /// Reads the value. If its text is refused, the fault borrows that text. The text of a
+    /// `NotText` fault is empty.
     fn deserialize_duration(value: &'de Value) -> Result<Self, Fault<'de>>
         ensures { gives (view value.now) result };
 }
@@ -108,8 +110,8 @@ impl<'de> DeserializeDuration<'de> for Option<SignedDuration> {
     }
 }
 
-/// Reads a configuration value into the type `T`: a `Duration` or `SignedDuration` is required, and an `Option` of
-/// either is optional.
+/// Reads a configuration value into the type `T`: a `Duration` or `SignedDuration` is required, and
+/// an `Option` of either is optional.
 ///
 /// ```text
 /// deserialize_duration::<Duration>(&json!(in alloc; "1min+30")?)  // Ok, 90 s
@@ -118,8 +120,8 @@ impl<'de> DeserializeDuration<'de> for Option<SignedDuration> {
 ///
 /// # Errors
 ///
-/// It returns the fault of a text that `parse` refuses, and `NotText` for a value that is not a text. If the value is
-/// optional, null and the empty text are no errors: they are read as `None`.
+/// It returns the fault of a text that `parse` refuses, and `NotText` for a value that is not a
+/// text. If the value is optional, null and the empty text are no errors: they are read as `None`.
 pub fn deserialize_duration<'de, T: DeserializeDuration<'de>>(
     value: &'de Value,
 ) -> Result<T, Fault<'de>>

@@ -27,8 +27,8 @@ pub enum DError<A: Allocator = Global> {
 pub type DResult<T> = Result<T, DError>;
 
 impl Fault<'_> {
-    /// Turns this fault into an error. An overflow becomes `OverflowError`. Any other cause becomes `ParseError` with
-    /// the fault's line, and this fails only if memory for the line is refused.
+    /// Turns this fault into an error. An overflow becomes `OverflowError`. Any other cause becomes
+    /// `ParseError` with the fault's line, and this fails only if memory for the line is refused.
     ///
     /// ```text
     /// match parse("") {

@@ -23,8 +23,8 @@ pub trait HumanFormat {
     fn is_printable(&self) -> bool
         ensures { IsTrue result ↔ (pos 0 ≤ℤ nanos self.now) };
 
-    /// Prints a length that is not negative, and returns its text, which has at most `MAX_PRINTED_LEN` bytes. It fails
-    /// only if memory is refused.
+    /// Prints a length that is not negative, and returns its text, which has at most
+    /// `MAX_PRINTED_LEN` bytes. It fails only if memory is refused.
     fn human_format<A: Allocator>(&self, alloc: A) -> Result<String<A>, AllocError>
         requires { pos 0 ≤ℤ nanos self.now }
         ensures text { IfOk result (λ text.

@@ -1,4 +1,5 @@
-//! The only access to a text while it is cut into tokens. It takes one character after another, and counts each look.
+//! The only access to a text while it is cut into tokens. It takes one character after another, and
+//! counts each look.
 ghost use Rattle.std.specs.Prelude.{◌≡◌, ◌+◌, ◌<◌, ◌≤◌, ◌^◌, [], is_some, IfSome, IfNone, if◌then◌else◌, slice_range, IsUtf8, length};
 ghost use Rattle.std.specs.Str.{IsCharBoundary};
 ghost use Rattle.duration_str.specs.Internal.Positions.{Stands, ahead};

@@ -61,9 +61,9 @@ impl<'a> Fault<'a> {
 
     /// Returns the token that starts at the place of a syntax fault, as a slice of the text.
     ///
-    /// The text is cut into tokens under these options. The result is `None` if no token starts at the place, and for
-    /// every other cause. If these are the options under which the text was read, a syntax fault has no token exactly
-    /// if it is at the end of the text.
+    /// The text is cut into tokens under these options. The result is `None` if no token starts at
+    /// the place, and for every other cause. If these are the options under which the text was
+    /// read, a syntax fault has no token exactly if it is at the end of the text.
     ///
     /// ```text
     /// parse("3ms-2ms").unwrap_err().found(Options::off()) // Some("-")

@@ -6,11 +6,12 @@ ghost use Rattle.duration_str.specs.Format.{down_to, intersection, is_in, is_one
 
 use crate::unit::{TimeUnit, UNITS};
 
-/// How a duration is printed: the units, the greatest number of parts, and the style. A part is a count with its unit,
-/// such as `3min`.
+/// How a duration is printed: the units, the greatest number of parts, and the style. A part is a
+/// count with its unit, such as `3min`.
 ///
-/// Start from [`Format::whole`], since a later version may have more fields. `largest`, `smallest`, `only` and
-/// `without` each take units out of the set. So their order does not matter, and none of them brings a unit back.
+/// Start from [`Format::whole`], since a later version may have more fields. `largest`, `smallest`,
+/// `only` and `without` each take units out of the set. So their order does not matter, and none of
+/// them brings a unit back.
 ///
 /// ```
 /// use duration_str::{Format, STYLED_BUFFER_SIZE, TimeUnit, write_format};
@@ -22,8 +23,8 @@ use crate::unit::{TimeUnit, UNITS};
 /// ```
 #[derive(Clone, Copy, Debug, PartialEq, Eq, Hash)]
 pub struct Format {
-    /// The units that are printed. If the set is empty, every duration prints as zero seconds,
-    /// such as `0s`.
+    /// The units that are printed. If the set is empty, every duration prints as zero seconds, such
+    /// as `0s`.
     pub units: Units,
     /// The greatest number of parts. If it is 0, every duration prints as a duration of 0 does.
     pub parts: usize,
@@ -56,9 +57,9 @@ impl Units {
     /// No unit.
     pub const NONE: Units = Units { bits: 0 };
 
-    /// Returns the set that these bits stand for. The bit 2^n stands for the unit at index n of `UNITS`: 1 is the year,
-    /// 2 is the quarter, and 1,024 is the nanosecond. The result is `None` if a bit above that of the nanosecond is
-    /// set.
+    /// Returns the set that these bits stand for. The bit 2^n stands for the unit at index n of
+    /// `UNITS`: 1 is the year, 2 is the quarter, and 1,024 is the nanosecond. The result is `None`
+    /// if a bit above that of the nanosecond is set.
     ///
     /// ```
     /// use duration_str::{TimeUnit, Units};

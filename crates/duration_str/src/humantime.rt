@@ -45,8 +45,8 @@ pub(crate) fn unit_of_packed(packed: u64) -> Option<TimeUnit>
     }
 }
 
-/// A multiplier that gives each packed name a slot of its own: bits 56 to 63 of the product. `tools/slots` finds it,
-/// and writes the tables below.
+/// A multiplier that gives each packed name a slot of its own: bits 56 to 63 of the product.
+/// `tools/slots` finds it, and writes the tables below.
 const SPREAD: u64 = 13_603_574_470_924_864_137;
 
 /// The index of the name in each slot, and 0 in an empty one.

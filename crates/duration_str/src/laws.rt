@@ -2,9 +2,10 @@
 //! proved.
 ghost use Rattle.duration_str.specs.Laws.{OneSentence, OneCut, OneReading, AnswerIsReading, PlaceAndKinds, NoCalcAgrees, OptionsIdle, BlanksFree, SumOfTexts, Reorder, TwoFactors, GreatestBreakdown, EqualTexts, ReadsBack, LastLine, OlderTexts, AllParts, NeverMore, PartsAndRest, NearWords};
 
-/// At most one sentence spells a text, and the lexemes of that sentence are those of the text's tokens. Each text is
-/// either read as one value or refused for one cause, and the computed answer says which. So `3m31s` is spelled by `3`,
-/// `m`, `31`, `s` and by no other sentence, and is read as 211 seconds.
+/// At most one sentence spells a text, and the lexemes of that sentence are those of the text's
+/// tokens. Each text is either read as one value or refused for one cause, and the computed answer
+/// says which. So `3m31s` is spelled by `3`, `m`, `31`, `s` and by no other sentence, and is read
+/// as 211 seconds.
 #[tactic(auto, using(crate::proofs::LawProofs::OneSentence::each_holds))]
 pub fn one_sentence()
     ensures sentence { OneSentence }
@@ -13,124 +14,133 @@ pub fn one_sentence()
     ensures computed { AnswerIsReading }
 {}
 
-/// The last terminal of the beginning of a sentence, `no_calc` and whether there is a default unit decide what can
-/// follow. Nothing else does. The longest prefix of a text's terminals that begins a sentence ends before the first
-/// terminal that can't follow the one before it. So `1m` can be followed by a number, an operator (not under
-/// `no_calc`) or the end, and the longest such prefix of `1m 3-5` is `1m 3`.
+/// The last terminal of the beginning of a sentence, `no_calc` and whether there is a default unit
+/// decide what can follow. Nothing else does. The longest prefix of a text's terminals that begins
+/// a sentence ends before the first terminal that can't follow the one before it. So `1m` can be
+/// followed by a number, an operator (not under `no_calc`) or the end, and the longest such prefix
+/// of `1m 3-5` is `1m 3`.
 #[tactic(auto, using(crate::proofs::LawProofs::PlaceAndKinds::place_and_kinds_hold))]
 pub fn place_and_kinds()
     ensures { PlaceAndKinds }
 {}
 
-/// For texts without operators, `no_calc` changes neither which are accepted nor their values. So `2h 37m` is 9,420
-/// seconds with and without `no_calc`. If a text is refused both with and without `no_calc`, the causes may differ.
+/// For texts without operators, `no_calc` changes neither which are accepted nor their values. So
+/// `2h 37m` is 9,420 seconds with and without `no_calc`. If a text is refused both with and without
+/// `no_calc`, the causes may differ.
 #[tactic(auto, using(crate::proofs::LawProofs::NoCalcAgrees::no_calc_agrees_holds))]
 pub fn no_calc_agrees()
     ensures { NoCalcAgrees }
 {}
 
-/// `lowercase` changes neither the value nor the cause of a text without ASCII capitals, and `cn_unit` changes neither
-/// for a text without the Chinese characters of the units. So `1m` is 60 seconds with and without them, and `0mxyz` is
-/// a syntax fault at byte 1.
+/// `lowercase` changes neither the value nor the cause of a text without ASCII capitals, and
+/// `cn_unit` changes neither for a text without the Chinese characters of the units. So `1m` is 60
+/// seconds with and without them, and `0mxyz` is a syntax fault at byte 1.
 #[tactic(auto, using(crate::proofs::LawProofs::OptionsIdle::options_idle_holds))]
 pub fn options_idle()
     ensures { OptionsIdle }
 {}
 
-/// If one sentence spells two texts, they differ only in blanks, and they have the same value or are refused for the
-/// same cause. So `3 m31 s0 ns` and `3m31s0ns` are both 211 seconds.
+/// If one sentence spells two texts, they differ only in blanks, and they have the same value or
+/// are refused for the same cause. So `3 m31 s0 ns` and `3m31s0ns` are both 211 seconds.
 #[tactic(auto, using(crate::proofs::LawProofs::BlanksFree::blanks_free_holds))]
 pub fn blanks_free()
     ensures { BlanksFree }
 {}
 
-/// If `no_calc` is off, two accepted texts without `*`, joined by a plus, have the sum of their values. But if that sum
-/// is 2^64 nanoseconds or more, the joined text is refused as an overflow without a place. So `1m 2s` and `3` are
-/// joined to `1m 2s+3`, which is 65 seconds, and `580y+580y` overflows.
+/// If `no_calc` is off, two accepted texts without `*`, joined by a plus, have the sum of their
+/// values. But if that sum is 2^64 nanoseconds or more, the joined text is refused as an overflow
+/// without a place. So `1m 2s` and `3` are joined to `1m 2s+3`, which is 65 seconds, and
+/// `580y+580y` overflows.
 #[tactic(auto, using(crate::proofs::LawProofs::SumOfTexts::sum_of_texts_holds))]
 pub fn sum_of_texts()
     ensures { SumOfTexts }
 {}
 
-/// If the terms of two sums have the same values, maybe in another order, either both sums are accepted and have the
-/// same value, or neither is accepted. So `1ns+30s` and `30s+1ns` are both 30,000,000,001 nanoseconds.
+/// If the terms of two sums have the same values, maybe in another order, either both sums are
+/// accepted and have the same value, or neither is accepted. So `1ns+30s` and `30s+1ns` are both
+/// 30,000,000,001 nanoseconds.
 #[tactic(auto, using(crate::proofs::LawProofs::Reorder::reorder_holds))]
 pub fn reorder()
     ensures { Reorder }
 {}
 
-/// A product of two terms is accepted exactly if both numbers, both terms and the product, rounded down to nanoseconds,
-/// are below 2^64. If its terms are exchanged, it is accepted too, and has the same value. So `1m*10ms` and `10ms*1m`
-/// are both 600 milliseconds.
+/// A product of two terms is accepted exactly if both numbers, both terms and the product, rounded
+/// down to nanoseconds, are below 2^64. If its terms are exchanged, it is accepted too, and has the
+/// same value. So `1m*10ms` and `10ms*1m` are both 600 milliseconds.
 #[tactic(auto, using(crate::proofs::LawProofs::TwoFactors::two_factors_hold))]
 pub fn two_factors()
     ensures { TwoFactors }
 {}
 
-/// Dividing by each unit in turn, and going on with the remainder, gives the greatest breakdown. So 364 days are 4
-/// quarters, not 52 weeks.
+/// Dividing by each unit in turn, and going on with the remainder, gives the greatest breakdown. So
+/// 364 days are 4 quarters, not 52 weeks.
 #[tactic(auto, using(crate::proofs::LawProofs::GreatestBreakdown::greatest_breakdown_holds))]
 pub fn greatest_breakdown()
     ensures { GreatestBreakdown }
 {}
 
-/// Printed in full and in one style, two durations have the same text exactly if they are equal. So only 211 seconds
-/// print in full as `3min 31s`.
+/// Printed in full and in one style, two durations have the same text exactly if they are equal. So
+/// only 211 seconds print in full as `3min 31s`.
 pub fn equal_texts()
     ensures { EqualTexts }
 {}
 
-/// A duration that is printed in full, in any style, is read back as itself if it is below 2^64 nanoseconds. Otherwise
-/// its text is refused as an overflow: without a place below 585 years, and with place 0 from there on. So
-/// `584y 3q 2mon 1w 3d 23h 34min 33s 709ms 551µs 615ns` is read as 2^64 - 1 nanoseconds, and with `616ns` it overflows.
+/// A duration that is printed in full, in any style, is read back as itself if it is below 2^64
+/// nanoseconds. Otherwise its text is refused as an overflow: without a place below 585 years, and
+/// with place 0 from there on. So `584y 3q 2mon 1w 3d 23h 34min 33s 709ms 551µs 615ns` is read as
+/// 2^64 - 1 nanoseconds, and with `616ns` it overflows.
 #[tactic(auto, using(crate::proofs::LawProofs::ReadsBack::reads_back_holds))]
 pub fn reads_back()
     ensures { ReadsBack }
 {}
 
-/// Neither a cause's line nor a fault's message ends with a line feed. So a log entry with such a line ends with
-/// exactly one line feed, which the log adds.
+/// Neither a cause's line nor a fault's message ends with a line feed. So a log entry with such a
+/// line ends with exactly one line feed, which the log adds.
 #[tactic(auto, using(crate::proofs::Printer::MessageLemmas::last_line_holds))]
 pub fn last_line()
     ensures { LastLine }
 {}
 
-/// Each name that was there before the quarter was added still names its unit, and that unit has the same length and
-/// the same printed names. A text that was read then is read as the same value, under all options. A text that a
-/// sentence spelled, but whose evaluation was refused then, is refused for the same cause. So a stored `1y 2mon` keeps
-/// its 425 days. The law says nothing about other texts, such as `1q`, which was a syntax fault and is read now. Nor
-/// does it say that a duration prints as it did then: 91 days were printed as `3mon 1d`.
+/// Each name that was there before the quarter was added still names its unit, and that unit has
+/// the same length and the same printed names. A text that was read then is read as the same value,
+/// under all options. A text that a sentence spelled, but whose evaluation was refused then, is
+/// refused for the same cause. So a stored `1y 2mon` keeps its 425 days. The law says nothing about
+/// other texts, such as `1q`, which was a syntax fault and is read now. Nor does it say that a
+/// duration prints as it did then: 91 days were printed as `3mon 1d`.
 #[tactic(auto, using(crate::proofs::LawProofs::OlderTexts::older_texts_hold))]
 pub fn older_texts()
     ensures { OlderTexts }
 {}
 
-/// With all units and at least as many parts as there are units, `write_format` prints the whole duration in the
-/// format's style. In the short style it prints what `write_human` prints. So eleven parts of 193,029 milliseconds are
-/// `3min 13s 29ms`.
+/// With all units and at least as many parts as there are units, `write_format` prints the whole
+/// duration in the format's style. In the short style it prints what `write_human` prints. So
+/// eleven parts of 193,029 milliseconds are `3min 13s 29ms`.
 pub fn all_parts()
     ensures { AllParts }
 {}
 
-/// A text printed in a format stands for the greatest duration that fits into the format and is not above the given
-/// one. A duration fits into a format if its own greatest breakdown, into the format's units and all shorter ones, has
-/// no more parts than the format allows, and has parts only in the format's units. That greatest duration prints as the
-/// same text, and the text is read as that duration if the duration is below 2^64 nanoseconds. So a countdown never
-/// shows more than is left, and 366 days in one part are `1y`.
+/// A text printed in a format stands for the greatest duration that fits into the format and is not
+/// above the given one. A duration fits into a format if its own greatest breakdown, into the
+/// format's units and all shorter ones, has no more parts than the format allows, and has parts
+/// only in the format's units. That greatest duration prints as the same text, and the text is read
+/// as that duration if the duration is below 2^64 nanoseconds. So a countdown never shows more than
+/// is left, and 366 days in one part are `1y`.
 #[tactic(auto, using(crate::proofs::LawProofs::NeverMore::never_more_holds))]
 pub fn never_more()
     ensures { NeverMore }
 {}
 
-/// The parts that `Breakdown` has returned so far, and the nanoseconds that they leave (`rest`), are together the whole
-/// duration. So two parts of 193,029 milliseconds are 3 minutes and 13 seconds, and leave 29,000,000 nanoseconds.
+/// The parts that `Breakdown` has returned so far, and the nanoseconds that they leave (`rest`),
+/// are together the whole duration. So two parts of 193,029 milliseconds are 3 minutes and 13
+/// seconds, and leave 29,000,000 nanoseconds.
 #[tactic(auto, using(crate::proofs::LawProofs::PartsAndRest::parts_and_rest_hold))]
 pub fn parts_and_rest()
     ensures { PartsAndRest }
 {}
 
-/// Under all options, the name that a fault's line advises for a word names the unit that people mean by the word, and
-/// the word itself names no unit. So if an error advises `min` for `mins`, no choice of options reads `mins`.
+/// Under all options, the name that a fault's line advises for a word names the unit that people
+/// mean by the word, and the word itself names no unit. So if an error advises `min` for `mins`, no
+/// choice of options reads `mins`.
 #[tactic(auto, using(crate::proofs::LawProofs::NearWords::near_words_hold))]
 pub fn near_words()
     ensures { NearWords }

@@ -27,9 +27,9 @@ impl Fault<'_> {
     }
 }
 
-/// Prints the line that says what is wrong. If the fault has a place, the text and a caret under the place are printed
-/// above the line. But if the text has a line feed, the place is printed before the line instead, as in
-/// `byte 5: expected number`.
+/// Prints the line that says what is wrong. If the fault has a place, the text and a caret under
+/// the place are printed above the line. But if the text has a line feed, the place is printed
+/// before the line instead, as in `byte 5: expected number`.
 ///
 /// ```text
 /// 3ms-2ms
@@ -49,8 +49,8 @@ impl fmt::Display for Fault<'_> {
         if let Layout::Line = layout {
             return f.write_str(line);
         }
-        // Most messages are short and fit into this buffer. Then one call of the formatter is enough, which takes less
-        // time than several.
+        // Most messages are short and fit into this buffer. Then one call of the formatter is
+        // enough, which takes less time than several.
         match layout.message(&mut [0; 256], self.text, line) {
             Some(message) => f.write_str(message),
             None => layout.write(f, self.text, line),

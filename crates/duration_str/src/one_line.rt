@@ -1,7 +1,8 @@
 //! A fault in one line: what is wrong, at which column, and what stands there.
 //!
-//! Each function that writes returns the index where its part ends, or `None` if there is no room. So no contract has
-//! to bound what is in the buffer before a part. One proof, for the whole line, shows that everything fits.
+//! Each function that writes returns the index where its part ends, or `None` if there is no room.
+//! So no contract has to bound what is in the buffer before a part. One proof, for the whole line,
+//! shows that everything fits.
 ghost use Rattle.std.specs.Prelude.{◌≡◌, ◌≤◌, ◌++◌, ◌+◌, ◌-◌, ◌&&◌, ◌==◌, not, slice_index, length, take, map, encode_utf8_all, IsTrue, ◌||◌, None, if◌then◌else◌};
 ghost use Rattle.std.specs.Char.{to_ascii_lowercase};
 ghost use Rattle.std.specs.Char.Escape.{escape_default};
@@ -186,8 +187,8 @@ fn put_text(buffer: &mut [u8], at: usize, text: &str) -> Option<usize>
     put(buffer, at, text.as_bytes())
 }
 
-/// Writes a text in quotes, cut to what fits into 40 characters. Most texts are short and need no escapes, so they are
-/// copied whole.
+/// Writes a text in quotes, cut to what fits into 40 characters. Most texts are short and need no
+/// escapes, so they are copied whole.
 #[inline(never)]
 fn put_quoted(buffer: &mut [u8], at: usize, text: &str) -> Option<usize>
     requires { at ≤ length buffer.old }
@@ -254,8 +255,8 @@ fn put_escaped(buffer: &mut [u8], at: usize, c: char) -> Option<usize>
     Some(end)
 }
 
-/// The run of digits or of letters at the start of a text, or its first character if that is neither. A run is cut to
-/// 41 characters, one more than a quote shows.
+/// The run of digits or of letters at the start of a text, or its first character if that is
+/// neither. A run is cut to 41 characters, one more than a quote shows.
 fn first_piece(text: &str) -> &str
     ensures piece { chars result.now ≡ first_piece (chars text.now) }
     ensures short { length result.now ≤ length text.now }
@@ -356,8 +357,8 @@ fn expected_words(expected: Expected) -> &'static str
     }
 }
 
-/// Writes the help for a word that is no unit. It is the name that the word is near; or, if there is none, the help for
-/// the word's place; or, if there is none either, the names of all units.
+/// Writes the help for a word that is no unit. It is the name that the word is near; or, if there
+/// is none, the help for the word's place; or, if there is none either, the names of all units.
 fn put_unit_help(buffer: &mut [u8], at: usize, word: &str, help: &str) -> Option<usize>
     requires { at ≤ length buffer.old }
     ensures { IsInFront (take at buffer.old ++ unit_help (near_name word.now) help.now)
@@ -419,9 +420,9 @@ fn is_near(near: &[u8; 9], word: &str) -> bool
     word.as_bytes().eq_ignore_ascii_case(near.trim_ascii_end())
 }
 
-/// The words that people write for a unit but that aren't read, each with the name to write instead. Words and
-/// names are filled up with spaces to a fixed length, since the addresses in string slices would make a program larger.
-/// The words after `micros` have a Greek mu.
+/// The words that people write for a unit but that aren't read, each with the name to write
+/// instead. Words and names are filled up with spaces to a fixed length, since the addresses in
+/// string slices would make a program larger. The words after `micros` have a Greek mu.
 static NEAR_WORDS: [([u8; 9], [u8; 3]); 28] = [
     (*b"usecs    ", *b"us "),
     (*b"useconds ", *b"us "),
@@ -461,8 +462,8 @@ fn is_word(word: &str, name: &str) -> bool
     word.eq_ignore_ascii_case(name)
 }
 
-/// The help for the piece at a place, or an empty text if there is none. The place is after a unit exactly if both a
-/// number and the end could stand there.
+/// The help for the piece at a place, or an empty text if there is none. The place is after a unit
+/// exactly if both a number and the end could stand there.
 fn help_at(expected: Expected, text: &[u8], place: usize, piece: &str) -> &'static str
     requires { place + length piece.now ≤ length text.now }
     ensures { result.now ≡ help_at expected text.now place piece.now }
@@ -517,9 +518,10 @@ fn digit_help(piece: &str, next: u8) -> &'static str
     }
 }
 
-/// The help at the end of a line that says what was expected. It is `help`, if that is not empty. Otherwise, if a unit
-/// could stand at the place, and neither an operator nor the end, a number lacks its unit, and the help says what to
-/// write. That is `0s` if the whole text is zeros and blanks, since zero is the same in each unit.
+/// The help at the end of a line that says what was expected. It is `help`, if that is not empty.
+/// Otherwise, if a unit could stand at the place, and neither an operator nor the end, a number
+/// lacks its unit, and the help says what to write. That is `0s` if the whole text is zeros and
+/// blanks, since zero is the same in each unit.
 fn missing_unit_help(expected: Expected, text: &[u8], help: &'static str) -> &'static str
     ensures { result.now ≡ missing_unit_help expected text.now help.now }
 {

@@ -1,4 +1,5 @@
-//! A word's letters packed into one number, and the unit that such a number names. The letters are digits to the base
+//! A word's letters packed into one number, and the unit that such a number names. The letters are
+//! digits to the base
 //! 40. A capital has the same digit as its small letter, unless the option `lowercase` is on.
 ghost use Rattle.std.specs.Prelude.{◌≡◌, ◌+◌, ◌*◌, ◌%◌, ◌^◌, ◌&&◌, ◌||◌, ◌==◌, true, if◌then◌else◌, Some};
 ghost use Rattle.std.specs.Char.{is_ascii_alphabetic};
@@ -95,9 +96,9 @@ pub(crate) fn first_number(c: char, o: Options) -> u64
     wide_number(c, o.cn_unit)
 }
 
-/// The digit for an ASCII letter: its code modulo 32, which is 1 to 26 for small letters and for capitals. Under
-/// `lowercase` `M` has a digit of its own, since it is a name of humantime, and the other capitals have a digit that no
-/// letter of a name has.
+/// The digit for an ASCII letter: its code modulo 32, which is 1 to 26 for small letters and for
+/// capitals. Under `lowercase` `M` has a digit of its own, since it is a name of humantime, and the
+/// other capitals have a digit that no letter of a name has.
 #[inline(always)]
 fn ascii_number(c: char, o: Options) -> u64
     requires { is_ascii_alphabetic c ≡ true }
@@ -109,8 +110,8 @@ fn ascii_number(c: char, o: Options) -> u64
     u64::from(c as u32 % 32)
 }
 
-/// The digit for a unit letter beyond ASCII, which is `µ` or a letter that the option `cn_unit` adds. For any other
-/// character it is 0.
+/// The digit for a unit letter beyond ASCII, which is `µ` or a letter that the option `cn_unit`
+/// adds. For any other character it is 0.
 #[inline]
 fn wide_number(c: char, cn_unit: bool) -> u64
     ensures { result ≡ (if c == 0xB5 || (cn_unit && is_chinese c) then wide_number c else 0) }
@@ -137,7 +138,8 @@ fn wide_number(c: char, cn_unit: bool) -> u64
     }
 }
 
-/// The digit for a capital under `lowercase`, except `M`. It is the digit of `z`, which is in no name.
+/// The digit for a capital under `lowercase`, except `M`. It is the digit of `z`, which is in no
+/// name.
 const CAPITAL: u64 = 26;
 
 /// The digit for `M` under `lowercase`.
@@ -159,8 +161,8 @@ pub(crate) fn unit_of_packed(packed: u64) -> Option<TimeUnit>
     }
 }
 
-/// A multiplier that gives each packed name a slot of its own: bits 57 to 63 of the product. `tools/slots` finds it,
-/// and writes the tables below.
+/// A multiplier that gives each packed name a slot of its own: bits 57 to 63 of the product.
+/// `tools/slots` finds it, and writes the tables below.
 const SPREAD: u64 = 439_394_506_952_439_165;
 
 /// The index of the name in each slot, and 0 in an empty one.

@@ -1,11 +1,12 @@
 //! Durations printed for people, such as `3min 13s 29ms`: whole, or in a format.
 //!
-//! The text has the greatest possible count of the largest unit, then the greatest count of the next unit in what is
-//! left, and so on down to the smallest unit, or until there are as many parts as were asked for. Counts of 0 are left
-//! out, and so is what remains at the end. A duration of 0 is `0s`.
+//! The text has the greatest possible count of the largest unit, then the greatest count of the
+//! next unit in what is left, and so on down to the smallest unit, or until there are as many parts
+//! as were asked for. Counts of 0 are left out, and so is what remains at the end. A duration of 0
+//! is `0s`.
 //!
-//! Each function that writes keeps the first `at` bytes of the buffer, writes its part after them, and returns where
-//! that part ends.
+//! Each function that writes keeps the first `at` bytes of the buffer, writes its part after them,
+//! and returns where that part ends.
 ghost use Rattle.std.specs.Prelude.{ℕ, List, ◌≡◌, ◌+◌, ◌-◌, ◌<◌, ◌≤◌, ◌++◌, ◌^◌, ◌∷◌, [], take, length, decimal, encode_utf8_all, chars, IsUtf8};
 ghost use Rattle.std.specs.Duration.{as_nanos};
 ghost use Rattle.duration_str.specs.declared.format.Style.{Style};
@@ -64,9 +65,9 @@ pub fn write_human<'b>(d: &Duration, buffer: &'b mut [u8; FORMAT_BUFFER_SIZE]) -
     printed(buffer, end)
 }
 
-/// The length in bytes of the longest printed duration in the long style:
-/// `100000000000 years 3 quarters 2 months 3 weeks 6 days 23 hours 59 minutes 59 seconds 999 milliseconds
-/// 999 microseconds 999 nanoseconds`.
+/// The length in bytes of the longest printed duration in the long style: `100000000000 years 3
+/// quarters 2 months 3 weeks 6 days 23 hours 59 minutes 59 seconds 999 milliseconds 999
+/// microseconds 999 nanoseconds`.
 pub const MAX_LONG_LEN: usize = 134;
 
 /// The size of the buffer for `write_format`. It is the same for all styles.
@@ -139,8 +140,8 @@ pub(crate) fn put_number(buffer: &mut [u8], at: usize, n: u64) -> usize
     put_digit(buffer, end, n % 10)
 }
 
-/// Writes a number of one or two digits. A single digit is written twice to the same place, so that no branch is
-/// needed. (A branch on the number of digits can't be predicted.)
+/// Writes a number of one or two digits. A single digit is written twice to the same place, so that
+/// no branch is needed. (A branch on the number of digits can't be predicted.)
 #[inline(always)]
 #[tactic(auto, using(crate::proofs::Printer::DigitLemmas::put_steps))]
 fn put_tens(buffer: &mut [u8], at: usize, n: u64) -> usize
@@ -227,8 +228,8 @@ fn put_wide(buffer: &mut [u8], at: usize, n: u128) -> usize
     put_digit(buffer, end, (n % 10) as u64)
 }
 
-/// Writes a unit's printed name. It copies four bytes (the name, and the spaces after it in the row), which takes no
-/// call and no branch.
+/// Writes a unit's printed name. It copies four bytes (the name, and the spaces after it in the
+/// row), which takes no call and no branch.
 #[tactic(auto, using(crate::proofs::Printer::FormatLemmas::name_copied, crate::proofs::Printer::FormatLemmas::name_spaced, crate::proofs::Printer::FormatLemmas::name_short))]
 #[inline(always)]
 fn put_name(buffer: &mut [u8], at: usize, row: &Printed) -> usize
@@ -329,8 +330,9 @@ fn put_parts(
     end
 }
 
-/// Writes a part and a space after it. If the count is 0, it returns `at`, so that the next part is written over this
-/// one. A part with the count 0 is written too, since a processor can't predict a branch that skips it.
+/// Writes a part and a space after it. If the count is 0, it returns `at`, so that the next part is
+/// written over this one. A part with the count 0 is written too, since a processor can't predict a
+/// branch that skips it.
 #[inline(always)]
 fn put_spaced(buffer: &mut [u8], at: usize, count: u32, unit: TimeUnit) -> usize
     requires short { count < 1000 }
@@ -347,8 +349,8 @@ fn put_spaced(buffer: &mut [u8], at: usize, count: u32, unit: TimeUnit) -> usize
     if count == 0 { at } else { at + next + 1 }
 }
 
-/// Writes all parts of a duration below a day. Each count is computed from the seconds or from the nanoseconds, so that
-/// none has to wait for the count before it.
+/// Writes all parts of a duration below a day. Each count is computed from the seconds or from the
+/// nanoseconds, so that none has to wait for the count before it.
 #[inline(never)]
 fn put_below_day(buffer: &mut [u8], d: Duration) -> usize
     requires short { as_nanos d < nanos_of Day }

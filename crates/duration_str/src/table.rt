@@ -1,4 +1,5 @@
-//! The tables of units by which a text can be read: the names of the units, their lengths, and the values of terms.
+//! The tables of units by which a text can be read: the names of the units, their lengths, and the
+//! values of terms.
 ghost use Rattle.std.specs.Prelude.{◌≡◌};
 ghost use Rattle.duration_str.specs.Internal.Numbers.{checked_term};
 ghost use Rattle.duration_str.specs.Internal.UnitTable.{table_of, unit_of_packed};
@@ -29,8 +30,8 @@ impl UnitTable {
         }
     }
 
-    /// The nanoseconds of a term with this number and this unit. `number` is `None` if it is 2^64 or more, and `place`
-    /// is the place of the error.
+    /// The nanoseconds of a term with this number and this unit. `number` is `None` if it is 2^64
+    /// or more, and `place` is the place of the error.
     #[inline]
     pub(crate) fn times(
         self,

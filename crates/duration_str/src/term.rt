@@ -9,12 +9,13 @@ use crate::table::UnitTable;
 use crate::unit::TimeUnit;
 
 impl TimeUnit {
-    /// Returns the nanoseconds of a term with this number and this unit. The number must be a nonempty run of digits.
+    /// Returns the nanoseconds of a term with this number and this unit. The number must be a
+    /// nonempty run of digits.
     ///
     /// # Errors
     ///
-    /// It returns `NumberTooLarge` if the number is 2^64 or more, and otherwise `Overflow` if the value is 2^64 or
-    /// more. Neither has a place.
+    /// It returns `NumberTooLarge` if the number is 2^64 or more, and otherwise `Overflow` if the
+    /// value is 2^64 or more. Neither has a place.
     ///
     /// ```
     /// assert_eq!(duration_str::TimeUnit::Hour.value("2"), Ok(7_200_000_000_000));

@@ -22,7 +22,8 @@ use crate::packed::{
 use crate::settings::Settings;
 use crate::unit::TimeUnit;
 
-/// What a token is: a number, a word with the unit that it names, an operator, or another character.
+/// What a token is: a number, a word with the unit that it names, an operator, or another
+/// character.
 ///
 /// ```
 /// use duration_str::{Options, TimeUnit, Tokens, What};
@@ -90,7 +91,8 @@ impl TokenStart {
     }
 }
 
-/// An iterator over the tokens of a text, in order. Each character is looked at once, when it is reached.
+/// An iterator over the tokens of a text, in order. Each character is looked at once, when it is
+/// reached.
 ///
 /// ```
 /// use duration_str::{Options, Tokens};
@@ -166,8 +168,8 @@ impl<'a> Tokens<'a> {
         self.eye.place()
     }
 
-    /// Moves past the character ahead, and looks at the next one. This takes an operator, or another single character,
-    /// as a token.
+    /// Moves past the character ahead, and looks at the next one. This takes an operator, or
+    /// another single character, as a token.
     #[inline(always)]
     pub(crate) fn advance(&mut self)
         ensures kept { KeepsInput self.old self.new }
@@ -232,8 +234,9 @@ impl<'a> Tokens<'a> {
         fits(self.eye.bytes_since(start), low).then_some(low)
     }
 
-    /// Moves past the letters of the word ahead, and returns their packed number modulo 2^64. The word's first
-    /// character is known to be a unit letter, and is handled before the loop, since that takes fewer instructions.
+    /// Moves past the letters of the word ahead, and returns their packed number modulo 2^64. The
+    /// word's first character is known to be a unit letter, and is handled before the loop, since
+    /// that takes fewer instructions.
     #[inline(always)]
     fn take_letters(&mut self) -> u64
         requires { IsAhead self.old (Some a_word) }
@@ -317,7 +320,8 @@ impl<'a> Tokens<'a> {
         }
     }
 
-    /// Returns what `sort_ahead` returns. After a number a word is most likely, so letters are tested first.
+    /// Returns what `sort_ahead` returns. After a number a word is most likely, so letters are
+    /// tested first.
     #[inline(always)]
     pub(crate) fn sort_after_number(&mut self) -> Option<TokenStart>
         ensures { LooksAhead self.old self.new result }
@@ -352,7 +356,8 @@ impl<'a> Iterator for Tokens<'a> {
 /// Each number of up to 19 digits is below 2^64.
 const MOST_DIGITS: usize = 19;
 
-/// Whether each character up to the space is a blank. A table takes fewer instructions than comparisons.
+/// Whether each character up to the space is a blank. A table takes fewer instructions than
+/// comparisons.
 static BLANKS: [bool; 33] = [
     false, false, false, false, false, false, false, false, false, true, true, false, false, true,
     false, false, false, false, false, false, false, false, false, false, false, false, false,
@@ -367,9 +372,10 @@ pub(crate) fn is_blank(c: char) -> bool
     c <= ' ' && BLANKS[c as usize]
 }
 
-/// Whether a number of more than 19 digits is below 2^64. `low` is that number modulo 2^64. Before its last 19 digits,
-/// a number below 2^64 has only zeros, or zeros and then a `1`. With the `1` the number is from 10^19 to below 2 *
-/// 10^19, so it is below 2^64 exactly if `low` is 10^19 or more.
+/// Whether a number of more than 19 digits is below 2^64. `low` is that number modulo 2^64. Before
+/// its last 19 digits, a number below 2^64 has only zeros, or zeros and then a `1`. With the `1`
+/// the number is from 10^19 to below 2 * 10^19, so it is below 2^64 exactly if `low` is 10^19 or
+/// more.
 #[cold]
 #[inline(never)]
 fn fits(digits: &[u8], low: u64) -> bool

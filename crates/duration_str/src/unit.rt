@@ -176,8 +176,8 @@ const YEAR: u64 = 365 * DAY;
 pub(crate) struct Printed {
     pub(crate) unit: TimeUnit,
     pub(crate) nanos: u64,
-    /// The greatest count of the unit that is below 2^64 nanoseconds. It is also the reciprocal of the unit's length,
-    /// as a fraction of 2^64.
+    /// The greatest count of the unit that is below 2^64 nanoseconds. It is also the reciprocal of
+    /// the unit's length, as a fraction of 2^64.
     pub(crate) most: u64,
     /// The printed name, filled up with spaces, so that every name is copied as four bytes.
     pub(crate) letters: [u8; 4],
@@ -186,8 +186,9 @@ pub(crate) struct Printed {
 }
 
 impl Printed {
-    /// Divides nanoseconds by the unit's length, and returns the quotient and the remainder. It multiplies by the
-    /// reciprocal, which is faster than a division and gives the quotient or one less.
+    /// Divides nanoseconds by the unit's length, and returns the quotient and the remainder. It
+    /// multiplies by the reciprocal, which is faster than a division and gives the quotient or one
+    /// less.
     #[inline(always)]
     pub(crate) fn division(&self, nanos: u64) -> (u64, u64)
         requires right { self.now ≡ printed_row self.now.unit }
@@ -219,8 +220,8 @@ impl Printed {
     }
 }
 
-/// The names and lengths that printing uses, the longest unit first. The names that are read are in another table, so
-/// that a program that only prints does not contain them.
+/// The names and lengths that printing uses, the longest unit first. The names that are read are in
+/// another table, so that a program that only prints does not contain them.
 pub(crate) static PRINTED: [Printed; 11] = [
     Printed {
         unit: TimeUnit::Year,

@@ -9,12 +9,14 @@ use crate::put;
 use duration_str::{Format, STYLED_BUFFER_SIZE, Style, Units, write_format};
 use std::time::Duration;
 
-/// Prints a duration in the units of a set, in at most `parts` parts and in a style, to the start of the buffer, with a
-/// zero byte after it. Returns the length of the text without the zero. The rest of the buffer is unchanged.
+/// Prints a duration in the units of a set, in at most `parts` parts and in a style, to the start
+/// of the buffer, with a zero byte after it. Returns the length of the text without the zero. The
+/// rest of the buffer is unchanged.
 ///
-/// In the set the bit 2^n stands for the unit at index n of `UNITS`: 1 is the year, 1,024 is the nanosecond, and 2,047
-/// is all units. The styles are 0 for short, 1 for compact and 2 for long. If `nanos` is a second or more, `units` is 0
-/// or above 2,047, or `style` is above 2, the call returns 0, and the text is empty.
+/// In the set the bit 2^n stands for the unit at index n of `UNITS`: 1 is the year, 1,024 is the
+/// nanosecond, and 2,047 is all units. The styles are 0 for short, 1 for compact and 2 for long. If
+/// `nanos` is a second or more, `units` is 0 or above 2,047, or `style` is above 2, the call
+/// returns 0, and the text is empty.
 pub fn duration_str_format_with(
     secs: u64,
     nanos: u32,
@@ -42,8 +44,9 @@ pub fn duration_str_format_with(
     }
 }
 
-/// The format with the units of these bits, at most `parts` parts, and the style with this number. It is `None` if no
-/// bit is set, if a bit is above that of the last unit, or if no style has this number.
+/// The format with the units of these bits, at most `parts` parts, and the style with this number.
+/// It is `None` if no bit is set, if a bit is above that of the last unit, or if no style has this
+/// number.
 fn format_of(units: u32, parts: u32, style: u32) -> Option<Format>
     ensures format { IfSome result (λ format. (0 < units) × (units < 2048) × (style ≤ 2)
         × (format ≡ format_of units parts (style_numbered style))) }
@@ -53,8 +56,8 @@ fn format_of(units: u32, parts: u32, style: u32) -> Option<Format>
     Some(short_format_of(units, parts)?.style(style))
 }
 
-/// The format with the units of these bits, at most `parts` parts, and the short style. It is `None` if no bit is set,
-/// or if a bit is above that of the last unit.
+/// The format with the units of these bits, at most `parts` parts, and the short style. It is
+/// `None` if no bit is set, or if a bit is above that of the last unit.
 pub(crate) fn short_format_of(units: u32, parts: u32) -> Option<Format>
     ensures format { IfSome result (λ format. (0 < units) × (units < 2048)
         × (format ≡ format_of units parts Short)) }
@@ -65,7 +68,8 @@ pub(crate) fn short_format_of(units: u32, parts: u32) -> Option<Format>
     Some(format)
 }
 
-/// The set of the units of these bits, or `None` if no bit is set, or if a bit is above that of the last unit.
+/// The set of the units of these bits, or `None` if no bit is set, or if a bit is above that of the
+/// last unit.
 fn units_of(bits: u32) -> Option<Units>
     ensures some { IfSome result (λ units. (0 < bits) × (bits < 2048) × (units ≡ units_of bits)) }
     ensures none { IfNone result ((bits ≡ 0) ⊎ (2048 ≤ bits)) }

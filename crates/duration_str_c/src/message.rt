@@ -13,9 +13,10 @@ use crate::answer::{Answer, refused};
 use crate::{are_options, options_of_bits, put, read_by, text_of};
 use duration_str::{Cause, Fault, ONE_LINE_BUFFER_SIZE, REPORT_BUFFER_SIZE};
 
-/// Reads a text under the options whose bits are set, as `duration_str_parse_with` does, and writes a line to the start
-/// of the buffer, with a zero byte after it. The line says what is wrong with the text, and is empty if the text is
-/// read. Returns the length of the line in bytes, without the zero. The rest of the buffer is unchanged.
+/// Reads a text under the options whose bits are set, as `duration_str_parse_with` does, and writes
+/// a line to the start of the buffer, with a zero byte after it. The line says what is wrong with
+/// the text, and is empty if the text is read. Returns the length of the line in bytes, without the
+/// zero. The rest of the buffer is unchanged.
 pub fn duration_str_one_line(
     text: &[u8],
     options: u32,
@@ -35,8 +36,8 @@ pub fn duration_str_one_line(
     }
 }
 
-/// Does what `duration_str_one_line` does, but writes the report. It is the line. For a syntax fault in a text that can
-/// stand above a caret, the text and the caret are above the line.
+/// Does what `duration_str_one_line` does, but writes the report. It is the line. For a syntax
+/// fault in a text that can stand above a caret, the text and the caret are above the line.
 pub fn duration_str_report(
     text: &[u8],
     options: u32,

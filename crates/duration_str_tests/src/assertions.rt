@@ -1,5 +1,5 @@
-// Assertions with a message, and questions about what calls answer and print. They are functions
-// so that they are proved once, and not again in each test.
+// Assertions with a message, and questions about what calls answer and print. They are functions so
+// that they are proved once, and not again in each test.
 use duration_str::{Fault, HumanFormat, Options};
 use std::alloc::{AllocError, Allocator};
 use std::fmt::Display;

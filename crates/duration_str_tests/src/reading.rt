@@ -1,5 +1,5 @@
-// What texts are read as, by each call that reads under their options, and what the durations
-// print as.
+// What texts are read as, by each call that reads under their options, and what the durations print
+// as.
 use crate::assertions::{holds, holds_in_memory, is_human_format, is_value};
 use crate::rows::{
     excludes, includes, list_at, listed, named_options, named_unit, number_at, options_of,
@@ -17,8 +17,8 @@ use std::alloc::{AllocError, Global};
 use std::process::Abort;
 use std::time::Duration;
 
-/// Whether each call that reads under these options, and counts seconds, reads the text as this many
-/// nanoseconds.
+/// Whether each call that reads under these options, and counts seconds, reads the text as this
+/// many nanoseconds.
 fn is_read_in_seconds(text: &str, o: Options, nanos: u64) -> bool {
     let plain = Duration::from_nanos(nanos);
     let signed = SignedDuration::from_nanos_i128(i128::from(nanos));
@@ -30,8 +30,8 @@ fn is_read_in_seconds(text: &str, o: Options, nanos: u64) -> bool {
             || is_value(parse_chrono(text), signed) && is_value(parse_time(text), signed))
 }
 
-/// Whether each call that reads with these options and this default unit reads the text as this many
-/// nanoseconds.
+/// Whether each call that reads with these options and this default unit reads the text as this
+/// many nanoseconds.
 fn is_read(text: &str, o: Options, default_unit: Option<TimeUnit>, nanos: u64) -> bool {
     let length = parse_with_default_unit(text, o, default_unit);
     is_value(length, Duration::from_nanos(nanos))
@@ -155,8 +155,8 @@ fn format_of(row: &Value) -> Option<Format> {
     )
 }
 
-/// Whether the text of a row is read as a duration that prints as the row says, in two styles. Texts
-/// of more than 584 years are not read.
+/// Whether the text of a row is read as a duration that prints as the row says, in two styles.
+/// Texts of more than 584 years are not read.
 fn prints_in_format(row: &Value, format: Format) -> bool {
     let Ok(length) = parse(text_at(row, 0)) else {
         return true;

@@ -11,18 +11,19 @@ use std::io::{Read, Write};
 
 /// Reads the whole input, then writes the output for its lines.
 ///
-/// Lines end at line feeds. For each line the output has a text and a line feed. For an accepted line, the text is its
-/// value in nanoseconds, a space and the printed duration. For a refused line, it is the fault's message. For a line
-/// that is not UTF-8, it says so.
+/// Lines end at line feeds. For each line the output has a text and a line feed. For an accepted
+/// line, the text is its value in nanoseconds, a space and the printed duration. For a refused
+/// line, it is the fault's message. For a line that is not UTF-8, it says so.
 ///
-/// The clauses are about the bytes that the reader says it has left (`R.remaining`), and the bytes that the writer says
-/// it holds (`W.contents`). If the reader is a `&[u8]` and the writer a `Vec<u8>`, the clauses say exactly which bytes
-/// were read and added. Standard input and output, files and sockets don't say which bytes they have, so the clauses
-/// say nothing about them.
+/// The clauses are about the bytes that the reader says it has left (`R.remaining`), and the bytes
+/// that the writer says it holds (`W.contents`). If the reader is a `&[u8]` and the writer a
+/// `Vec<u8>`, the clauses say exactly which bytes were read and added. Standard input and output,
+/// files and sockets don't say which bytes they have, so the clauses say nothing about them.
 ///
-/// The result is `Ok(true)` if every line was accepted, and `Ok(false)` if some line was not. In both cases everything
-/// was written and flushed. The input may have at most 1,048,576 bytes. After the errors `Read`, `TooLong` and `Memory`
-/// nothing was written. After `Write` a beginning of the output was written.
+/// The result is `Ok(true)` if every line was accepted, and `Ok(false)` if some line was not. In
+/// both cases everything was written and flushed. The input may have at most 1,048,576 bytes. After
+/// the errors `Read`, `TooLong` and `Memory` nothing was written. After `Write` a beginning of the
+/// output was written.
 ///
 /// ```text
 /// run(alloc, &mut "3m31".as_bytes(), &mut output, Options::off()) // Ok(true)

@@ -5,8 +5,8 @@ ghost use Rattle.durstr_run.specs.Ending.{status_of, error_line};
 use crate::fault::RunFault;
 use duration_str::Options;
 
-/// Returns the options with the field of this name on and the other fields unchanged, or `None` if the word is no
-/// option's name.
+/// Returns the options with the field of this name on and the other fields unchanged, or `None` if
+/// the word is no option's name.
 ///
 /// ```text
 /// with_word(Options::off(), "no_calc") // Some(Options { no_calc: true, ..Options::off() })
@@ -41,7 +41,8 @@ pub fn with_word(options: Options, word: &str) -> Option<Options>
     }
 }
 
-/// Returns the exit status for this result of `run`, and the line for standard error, which is empty if there is none.
+/// Returns the exit status for this result of `run`, and the line for standard error, which is
+/// empty if there is none.
 ///
 /// ```text
 /// ending(Ok(false))             // (1, "")

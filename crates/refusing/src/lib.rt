@@ -19,8 +19,8 @@ impl Requests {
     }
 }
 
-/// Passes each request for memory on to another allocator, except one, which it refuses. Growing or shrinking a block
-/// is a request too.
+/// Passes each request for memory on to another allocator, except one, which it refuses. Growing or
+/// shrinking a block is a request too.
 #[derive(Drop)]
 pub struct Refusing<B: Allocator> {
     inner: B,

@@ -14,9 +14,9 @@ use std::time::Duration;
 /// The least number of nanoseconds that no text is read as.
 const LIMIT: u128 = 1 << 64;
 
-/// Writes the key of a duration to the caller's buffer, and returns it: the duration's printed text in a style. It is
-/// the only text of this duration in that style, and no other breakdown into units begins with larger counts of the
-/// longer units.
+/// Writes the key of a duration to the caller's buffer, and returns it: the duration's printed text
+/// in a style. It is the only text of this duration in that style, and no other breakdown into
+/// units begins with larger counts of the longer units.
 pub fn key<'b>(length: Duration, style: Style, buffer: &'b mut [u8; STYLED_BUFFER_SIZE]) -> &'b str
     ensures { IsKey style (as_nanos length) (chars result.now) }
 {
@@ -25,9 +25,9 @@ pub fn key<'b>(length: Duration, style: Style, buffer: &'b mut [u8; STYLED_BUFFE
     in_parts(&length, 11, style, buffer)
 }
 
-/// Writes the canonical text of an expression to the caller's buffer, and returns it: the key of the expression's
-/// value. The text is read back as this value, and as no other, under every choice of options and with each default
-/// unit.
+/// Writes the canonical text of an expression to the caller's buffer, and returns it: the key of
+/// the expression's value. The text is read back as this value, and as no other, under every choice
+/// of options and with each default unit.
 ///
 /// ```text
 /// canonical("30 + 1m", Style::Short, &mut buffer) // Ok("1min 30s")
@@ -46,7 +46,8 @@ pub fn canonical<'a, 'b>(
     Ok(key(parse(text)?, style, buffer))
 }
 
-/// Returns whether two expressions have the same value, and so share an entry of the cache. It compares their keys.
+/// Returns whether two expressions have the same value, and so share an entry of the cache. It
+/// compares their keys.
 pub fn share_entry<'a>(text: &'a str, other: &'a str) -> Result<bool, Fault<'a>>
     ensures same { IfOk result (λ same. (m n : ℕ) → IsRead (rules_of off) (chars text.now) m
         → IsRead (rules_of off) (chars other.now) n → (IsTrue same ↔ (m ≡ n))) }
@@ -62,9 +63,9 @@ pub fn share_entry<'a>(text: &'a str, other: &'a str) -> Result<bool, Fault<'a>>
     )
 }
 
-/// Returns what reading the printed text of a duration would return, in any style, under any options and with any
-/// default unit or none. The text is neither made nor read, so a program can ask this before it stores a duration as its
-/// text.
+/// Returns what reading the printed text of a duration would return, in any style, under any
+/// options and with any default unit or none. The text is neither made nor read, so a program can
+/// ask this before it stores a duration as its text.
 ///
 /// ```text
 /// read_back(Duration::new(18_446_744_073, 709_551_615)) // Ok, the same duration

@@ -20,10 +20,10 @@ pub struct Completion {
     pub expected: Expected,
 }
 
-/// Returns what a person can type at the place of a syntax fault, or `None` for a text without one. If a blank and a
-/// token of an expected kind (a number, a unit's name or an operator) follow the text before the place, the whole
-/// begins an expression. With any other token it does not. If the end is expected, the text before the place is an
-/// expression already.
+/// Returns what a person can type at the place of a syntax fault, or `None` for a text without one.
+/// If a blank and a token of an expected kind (a number, a unit's name or an operator) follow the
+/// text before the place, the whole begins an expression. With any other token it does not. If the
+/// end is expected, the text before the place is an expression already.
 ///
 /// ```text
 /// let seconds = Some(TimeUnit::Second);

@@ -5,9 +5,10 @@ ghost use Rattle.uses.specs.Common.{IsRead, IsRefused, Syntax, Expected, rules_o
 use duration_str::laws::one_sentence;
 use duration_str::{Options, parse_looked};
 
-/// Returns the price of reading a text, at a price per look. An accepted text takes one look per character. A text with
-/// a syntax fault takes at least one look per character before the fault's place. No text takes more than one look per
-/// character. So a sender knows beforehand how high the price can be.
+/// Returns the price of reading a text, at a price per look. An accepted text takes one look per
+/// character. A text with a syntax fault takes at least one look per character before the fault's
+/// place. No text takes more than one look per character. So a sender knows beforehand how high the
+/// price can be.
 ///
 /// ```text
 /// price("1m 3-5", 2, Options::off()) // at least 8, at most 12

@@ -11,9 +11,9 @@ use duration_str::laws::{all_parts, never_more, parts_and_rest};
 use duration_str::{Breakdown, Format, STYLED_BUFFER_SIZE, Style, TimeUnit, write_format};
 use std::time::Duration;
 
-/// Writes the time that is left to the caller's buffer, and returns the text. It has at most two parts, and no unit
-/// shorter than the second. It never shows more than is left, and is read as the time that it shows, whatever the
-/// options and the default unit.
+/// Writes the time that is left to the caller's buffer, and returns the text. It has at most two
+/// parts, and no unit shorter than the second. It never shows more than is left, and is read as the
+/// time that it shows, whatever the options and the default unit.
 ///
 /// ```text
 /// time_left(&Duration::new(5_400, 999_999_999), &mut buffer) // "1h 30min"
@@ -45,8 +45,8 @@ pub fn not_shown(left: &Duration) -> u128
     parts.rest()
 }
 
-/// Writes the duration to the caller's buffer, in at most `parts` parts and in a style, and returns the text. With
-/// eleven parts or more, the whole duration is printed.
+/// Writes the duration to the caller's buffer, in at most `parts` parts and in a style, and returns
+/// the text. With eleven parts or more, the whole duration is printed.
 pub fn in_parts<'b>(
     length: &Duration,
     parts: usize,

@@ -7,7 +7,8 @@ use duration_str::laws::{near_words, one_sentence};
 use duration_str::{Cause, Expected, Options, TimeUnit};
 use std::time::Duration;
 
-/// A text, the options under which it is read, the default unit, and the duration or the cause of the refusal.
+/// A text, the options under which it is read, the default unit, and the duration or the cause of
+/// the refusal.
 pub type Example = (
     &'static str,
     Options,
@@ -49,7 +50,8 @@ const NO_UNIT: Cause = Cause::Syntax {
     },
 };
 
-/// The cause of the refusal of a text of five bytes that ends with a number, if each number needs its unit.
+/// The cause of the refusal of a text of five bytes that ends with a number, if each number needs
+/// its unit.
 const UNIT_MISSING: Cause = Cause::Syntax {
     place: 5,
     expected: Expected {
@@ -60,8 +62,9 @@ const UNIT_MISSING: Cause = Cause::Syntax {
     },
 };
 
-/// Returns the examples of a help page. Each text has the answer that is given with it, and no other. The answers are
-/// constants: no text is read to show them, and the prover refuses a wrong answer.
+/// Returns the examples of a help page. Each text has the answer that is given with it, and no
+/// other. The answers are constants: no text is read to show them, and the prover refuses a wrong
+/// answer.
 ///
 /// ```text
 /// examples()[0] // `3m + 13s + 29ms`, with all options off, is 193,029 ms
@@ -88,7 +91,8 @@ pub fn examples() -> [Example; 7]
     ]
 }
 
-/// Returns texts with the only answers that they have by the names and the lengths of humantime's units.
+/// Returns texts with the only answers that they have by the names and the lengths of humantime's
+/// units.
 ///
 /// ```text
 /// humantime_examples()[1] // `1M`, which is 30.44 days if `lowercase` is on
@@ -105,8 +109,9 @@ pub fn humantime_examples() -> [(&'static str, Options, Result<Duration, Cause>)
     ]
 }
 
-/// Returns words for a help page that people write for units, but that name no unit under any options, each after the
-/// name to write instead. Under all options that name is the unit that people mean by the word.
+/// Returns words for a help page that people write for units, but that name no unit under any
+/// options, each after the name to write instead. Under all options that name is the unit that
+/// people mean by the word.
 ///
 /// ```text
 /// refused_words()[1] // `min` for `mins`

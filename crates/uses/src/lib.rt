@@ -1,4 +1,5 @@
-//! Callers of `duration_str`. They rely on its public contracts and its laws, and on no private contract.
+//! Callers of `duration_str`. They rely on its public contracts and its laws, and on no private
+//! contract.
 #![tactic(auto)]
 
 pub mod cache;

@@ -7,8 +7,8 @@ ghost use Rattle.uses.specs.Line.{IsWithoutLineFeed, with_line_feed, IsReadAsBef
 
 use duration_str::laws::{blanks_free, one_sentence};
 
-/// Returns a line without the line feed at its end, if it has one. An expression is read as before: under every choice
-/// of options, it has the same value or is refused for the same cause.
+/// Returns a line without the line feed at its end, if it has one. An expression is read as before:
+/// under every choice of options, it has the same value or is refused for the same cause.
 ///
 /// ```text
 /// without_line_feed("1m 30s\n") // "1m 30s"
@@ -25,8 +25,8 @@ pub fn without_line_feed(line: &str) -> &str
     }
 }
 
-/// Writes an expression and a line feed to the start of a buffer, and returns their length, or `None` if the buffer is
-/// too short. The line is read as the expression is.
+/// Writes an expression and a line feed to the start of a buffer, and returns their length, or
+/// `None` if the buffer is too short. The line is read as the expression is.
 ///
 /// ```text
 /// write_line("1m 30s", &mut buffer) // Some(7): "1m 30s\n"

@@ -6,8 +6,8 @@ use duration_str::Fault;
 use duration_str::laws::last_line;
 use std::alloc::{AllocError, Allocator};
 
-/// Adds the message of a fault and one line feed to a log. No message ends with a line feed, so each entry ends with
-/// exactly one.
+/// Adds the message of a fault and one line feed to a log. No message ends with a line feed, so
+/// each entry ends with exactly one.
 ///
 /// ```text
 /// add_entry(&mut log, &fault) // adds "overflow error\n"

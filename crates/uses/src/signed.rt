@@ -8,8 +8,8 @@ use duration_str::laws::one_sentence;
 use duration_str::{Fault, parse_chrono, parse_time};
 use jiff::SignedDuration;
 
-/// Returns how much longer the first duration is than the other. The difference is negative if the first is shorter,
-/// and never out of range.
+/// Returns how much longer the first duration is than the other. The difference is negative if the
+/// first is shorter, and never out of range.
 ///
 /// ```text
 /// difference("1m", "90s") // Ok, -30 s

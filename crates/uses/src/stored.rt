@@ -13,9 +13,9 @@ use duration_str::laws::{older_texts, one_sentence};
 use duration_str::{Fault, Options, TimeUnit, Tokens, What, parse_with};
 use std::time::Duration;
 
-/// Reads a text that was stored before the quarter became a unit, and returns its duration. A text that an older
-/// version accepted is accepted with the same value. A text whose evaluation an older version refused is refused for
-/// the same cause.
+/// Reads a text that was stored before the quarter became a unit, and returns its duration. A text
+/// that an older version accepted is accepted with the same value. A text whose evaluation an older
+/// version refused is refused for the same cause.
 ///
 /// ```text
 /// stored_duration("1y 2mon", Options::off()) // 425 days, as before
@@ -31,8 +31,9 @@ pub fn stored_duration(text: &str, o: Options) -> Result<Duration, Fault<'_>>
     parse_with(text, o)
 }
 
-/// Returns the unit in which the first number of a stored text is written, or `None` if the unit is left out. With it a
-/// program can show the duration as its author wrote it. It is the unit that an older version found there.
+/// Returns the unit in which the first number of a stored text is written, or `None` if the unit is
+/// left out. With it a program can show the duration as its author wrote it. It is the unit that an
+/// older version found there.
 ///
 /// ```text
 /// first_unit("90 min + 1h", Options::off()) // Some(TimeUnit::Minute)
@@ -48,8 +49,9 @@ pub fn first_unit(text: &str, o: Options) -> Option<TimeUnit>
     unit_named(tokens.next()?.what)
 }
 
-/// Returns the unit that a stored name means, such as the unit of a chart's axis, and the unit's length in nanoseconds. A
-/// name that an older version knew means the same unit as then, with the same length.
+/// Returns the unit that a stored name means, such as the unit of a chart's axis, and the unit's
+/// length in nanoseconds. A name that an older version knew means the same unit as then, with the
+/// same length.
 ///
 /// ```text
 /// stored_unit("mon", Options::off()) // Some((TimeUnit::Month, 2_592_000_000_000_000))

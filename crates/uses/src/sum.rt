@@ -11,8 +11,9 @@ use duration_str::laws::{one_sentence, reorder, sum_of_texts};
 use duration_str::{Options, TimeUnit, parse_humantime_specialized, parse_with_default_unit};
 use std::time::Duration;
 
-/// Sorts the terms of a sum in place, the longest first, as a list of laps is often shown. The sorted sum is accepted
-/// exactly if the old one is, and has the same value, with whatever default unit.
+/// Sorts the terms of a sum in place, the longest first, as a list of laps is often shown. The
+/// sorted sum is accepted exactly if the old one is, and has the same value, with whatever default
+/// unit.
 ///
 /// ```text
 /// // 29ms + 3min + 13s is written as 3min + 13s + 29ms
@@ -29,9 +30,9 @@ pub fn longest_first(parts: &mut [Part])
     parts.reverse();
 }
 
-/// Returns the duration that two texts, joined by a plus, are read as under these options and with this default unit.
-/// It is `None` if one of them is refused or has a `*`, if operators are not read, or if the joined text is refused
-/// because the sum is 2^64 nanoseconds or more.
+/// Returns the duration that two texts, joined by a plus, are read as under these options and with
+/// this default unit. It is `None` if one of them is refused or has a `*`, if operators are not
+/// read, or if the joined text is refused because the sum is 2^64 nanoseconds or more.
 ///
 /// ```text
 /// total_of("1m 2s", "3", Options::off(), Some(TimeUnit::Second)) // Some(Duration::from_secs(65))

@@ -5,11 +5,11 @@ use crate::format::{Format, Units};
 use crate::unit::{PRINTED, Printed, TimeUnit, UNITS};
 use core::time::Duration;
 
-/// The breakdown of a duration in a format: an iterator over its parts, which are units with their counts, the longest
-/// unit first.
+/// The breakdown of a duration in a format: an iterator over its parts, which are units with their
+/// counts, the longest unit first.
 ///
-/// These are the parts that [`write_format`](crate::write_format) prints, without counts of 0. So a duration of 0 has
-/// none. The format's style does not matter.
+/// These are the parts that [`write_format`](crate::write_format) prints, without counts of 0. So a
+/// duration of 0 has none. The format's style does not matter.
 ///
 /// ```
 /// use duration_str::{Breakdown, Format, TimeUnit};
@@ -49,8 +49,8 @@ impl Breakdown {
         Breakdown::of(d.as_nanos(), format.units, format.parts)
     }
 
-    /// Returns the nanoseconds that the parts so far leave: the whole duration at first, and at the end what is in no
-    /// part.
+    /// Returns the nanoseconds that the parts so far leave: the whole duration at first, and at the
+    /// end what is in no part.
     ///
     /// ```
     /// use duration_str::{Breakdown, Format, TimeUnit};

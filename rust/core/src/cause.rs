@@ -5,7 +5,8 @@
 use crate::operator::CondUnit;
 use crate::settings::Settings;
 
-/// What could stand at the place of a syntax fault. Each field says whether one kind of item could stand there.
+/// What could stand at the place of a syntax fault. Each field says whether one kind of item could
+/// stand there.
 ///
 /// ```
 /// use duration_str::{Cause, Options, parse_with};
@@ -73,8 +74,8 @@ pub enum Cause {
     Empty,
     /// The text stops being valid at `place`.
     Syntax {
-        /// The byte at which the first token starts that can't follow the text before it. If there is no such token,
-        /// the place is the length of the text.
+        /// The byte at which the first token starts that can't follow the text before it. If there
+        /// is no such token, the place is the length of the text.
         place: usize,
         /// What could stand at `place`.
         expected: Expected,
@@ -86,7 +87,8 @@ pub enum Cause {
     },
     /// A term, a step of the evaluation or the value is 2^64 nanoseconds or more.
     Overflow {
-        /// 0 if the first term is too large. `None` if a later term, a step or the value is too large.
+        /// 0 if the first term is too large. `None` if a later term, a step or the value is too
+        /// large.
         place: Option<usize>,
     },
     /// The text has both operators: `later` follows `first`, and differs from it.

@@ -1,5 +1,6 @@
 // Made by tools/erase of crates/duration_str/src/eye.rt.
-//! The only access to a text while it is cut into tokens. It takes one character after another, and counts each look.
+//! The only access to a text while it is cut into tokens. It takes one character after another, and
+//! counts each look.
 
 /// A text, the place up to which it is cut into tokens, and the number of looks.
 pub(crate) struct Eye<'a> {

@@ -13,9 +13,9 @@ use core::time::Duration;
 
 /// Reads a text with all options off, and returns the duration that it means.
 ///
-/// It returns what `parse_with` returns for `Options::off()`. Terms such as `3m`, `29ms` or `10` (a number without a
-/// unit counts seconds) are joined by `+` or by `*`. If an operator is left out, it is a plus. The value is below 2^64
-/// nanoseconds.
+/// It returns what `parse_with` returns for `Options::off()`. Terms such as `3m`, `29ms` or `10` (a
+/// number without a unit counts seconds) are joined by `+` or by `*`. If an operator is left out,
+/// it is a plus. The value is below 2^64 nanoseconds.
 ///
 /// # Errors
 ///
@@ -79,15 +79,15 @@ pub fn parse_with(input: &str, o: Options) -> Result<Duration, Fault<'_>> {
     parse_with_default_unit(input, o, Some(TimeUnit::Second))
 }
 
-/// Reads a text under these options and with this default unit, which a number without a unit has, and returns the
-/// duration that it means.
+/// Reads a text under these options and with this default unit, which a number without a unit has,
+/// and returns the duration that it means.
 ///
-/// `parse_with` is this call with the second as the default unit. If the default unit is `None`, each number must have
-/// its unit, so only a unit can follow a number.
+/// `parse_with` is this call with the second as the default unit. If the default unit is `None`,
+/// each number must have its unit, so only a unit can follow a number.
 ///
-/// A product multiplies its terms in seconds, and a factor without a unit counts the default unit too: in milliseconds
-/// `90s*2` is 180 ms. If the numbers in your texts are milliseconds, turn on `no_calc`, so that operators are refused.
-/// The call allocates nothing.
+/// A product multiplies its terms in seconds, and a factor without a unit counts the default unit
+/// too: in milliseconds `90s*2` is 180 ms. If the numbers in your texts are milliseconds, turn on
+/// `no_calc`, so that operators are refused. The call allocates nothing.
 ///
 /// # Errors
 ///
@@ -110,8 +110,8 @@ pub fn parse_with_default_unit(
 
 /// Reads a text as `parse_with_default_unit` does, and returns the duration in nanoseconds.
 ///
-/// The reader is compiled twice: once for the case that all options are off and the default unit is the second, which
-/// is faster, and once for all other cases.
+/// The reader is compiled twice: once for the case that all options are off and the default unit is
+/// the second, which is faster, and once for all other cases.
 ///
 /// # Errors
 ///
@@ -142,8 +142,9 @@ fn nanos_chosen(input: &str, o: Options, default_unit: Option<TimeUnit>) -> Resu
     parse_nanos_specialized(input, o, default_unit)
 }
 
-/// Returns what `parse_nanos` returns. The whole reader is compiled into each place in the source that calls this, and
-/// adds 3 to 6 kB to the program there. It is faster if the compiler knows the options of the call.
+/// Returns what `parse_nanos` returns. The whole reader is compiled into each place in the source
+/// that calls this, and adds 3 to 6 kB to the program there. It is faster if the compiler knows the
+/// options of the call.
 ///
 /// # Errors
 ///
@@ -161,12 +162,13 @@ pub fn parse_nanos_specialized(
     read_text(input, Settings::with(o, default_unit)).0
 }
 
-/// Reads a text by the names and the lengths of the units of the crate humantime, and returns the duration in
-/// nanoseconds.
+/// Reads a text by the names and the lengths of the units of the crate humantime, and returns the
+/// duration in nanoseconds.
 ///
-/// A month has 30.44 days and a year 365.25. Each number needs a unit. The library's own names are read too, and `+`
-/// and `*`. For humantime's texts turn on `lowercase`, so that `1M` is a month and `1m` a minute. As with
-/// `parse_nanos_specialized`, the whole reader is compiled into each place in the source that calls this.
+/// A month has 30.44 days and a year 365.25. Each number needs a unit. The library's own names are
+/// read too, and `+` and `*`. For humantime's texts turn on `lowercase`, so that `1M` is a month
+/// and `1m` a minute. As with `parse_nanos_specialized`, the whole reader is compiled into each
+/// place in the source that calls this.
 ///
 /// # Errors
 ///
@@ -189,9 +191,9 @@ pub fn parse_humantime_specialized(input: &str, o: Options) -> Result<u64, Fault
 
 /// Returns what `parse_with` returns, and how many times a character of the text was looked at.
 ///
-/// There are at most as many looks as characters. Reading a token again after it was cut off is not counted. If the
-/// text is accepted, all its characters are looked at. If it has a syntax fault, at least the characters before the
-/// fault's place are looked at.
+/// There are at most as many looks as characters. Reading a token again after it was cut off is not
+/// counted. If the text is accepted, all its characters are looked at. If it has a syntax fault, at
+/// least the characters before the fault's place are looked at.
 ///
 /// ```text
 /// parse_looked("3m 13s", Options::off()) // (Ok(Duration::from_secs(193)), 6)

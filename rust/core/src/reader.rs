@@ -7,16 +7,17 @@ use crate::settings::Settings;
 use crate::token::{TokenStart, Tokens};
 use crate::unit::TimeUnit;
 
-/// What is known of the later terms, which are all terms except the first: the operator between them and their total.
-/// It is `None` if there are no later terms, and their first fault if they have one.
+/// What is known of the later terms, which are all terms except the first: the operator between
+/// them and their total. It is `None` if there are no later terms, and their first fault if they
+/// have one.
 type Later = Result<Option<(CondUnit, u64)>, Cause>;
 
 /// Reads the tokens. Returns their value in nanoseconds, or the cause of their refusal.
 ///
-/// The later terms are combined first, by the operator before the second term, and the first term is combined with
-/// their total at the end. Under `no_calc` the total starts with the first term instead, and the first fault of a later
-/// term is returned at once. Otherwise that fault is kept in place of the total while the rest is read, since a syntax
-/// fault in the rest comes first.
+/// The later terms are combined first, by the operator before the second term, and the first term
+/// is combined with their total at the end. Under `no_calc` the total starts with the first term
+/// instead, and the first fault of a later term is returned at once. Otherwise that fault is kept
+/// in place of the total while the rest is read, since a syntax fault in the rest comes first.
 #[inline(always)]
 pub(crate) fn read(tokens: &mut Tokens<'_>, settings: Settings) -> Result<u64, Cause> {
     expect_number(tokens)?;
@@ -52,8 +53,8 @@ fn expect_number(tokens: &mut Tokens<'_>) -> Result<(), Cause> {
     Err(Cause::syntax(tokens.place(), Expected::at_start()))
 }
 
-/// Reads the unit after a number. If an operator or the end follows, the unit is the default unit, and no token is
-/// taken.
+/// Reads the unit after a number. If an operator or the end follows, the unit is the default unit,
+/// and no token is taken.
 #[inline(always)]
 fn read_unit(tokens: &mut Tokens<'_>, settings: Settings) -> Result<TimeUnit, Cause> {
     let Some(sort) = tokens.sort_after_number() else {
@@ -73,8 +74,8 @@ fn read_unit(tokens: &mut Tokens<'_>, settings: Settings) -> Result<TimeUnit, Ca
     }
 }
 
-/// Returns the default unit, which a number without a unit has. If there is no default unit, returns a syntax fault at
-/// `place`, where only a unit could stand.
+/// Returns the default unit, which a number without a unit has. If there is no default unit,
+/// returns a syntax fault at `place`, where only a unit could stand.
 #[inline(always)]
 fn unit_left_out(place: usize, settings: Settings) -> Result<TimeUnit, Cause> {
     match settings.default_unit {
@@ -89,8 +90,8 @@ fn no_unit(place: usize, settings: Settings) -> Cause {
     Cause::syntax(place, Expected::after_number(settings))
 }
 
-/// Reads the operator after a unit, and moves to the number that must follow. If the operator is left out, it is a
-/// plus. At the end of the text the result is `None`.
+/// Reads the operator after a unit, and moves to the number that must follow. If the operator is
+/// left out, it is a plus. At the end of the text the result is `None`.
 #[inline(always)]
 fn read_operator(tokens: &mut Tokens<'_>, settings: Settings) -> Result<Option<CondUnit>, Cause> {
     let Some(sort) = tokens.sort_ahead() else {

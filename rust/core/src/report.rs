@@ -6,20 +6,21 @@ use crate::fault::Fault;
 use crate::message::Layout;
 use crate::one_line::{ONE_LINE_BUFFER_SIZE, is_clear};
 
-/// The size of a buffer that has room for every report: 80 characters of four bytes, two spaces for each of them before
-/// the caret, the caret, two line feeds, and a line.
+/// The size of a buffer that has room for every report: 80 characters of four bytes, two spaces for
+/// each of them before the caret, the caret, two line feeds, and a line.
 pub const REPORT_BUFFER_SIZE: usize = 80 * 4 + 80 * 2 + 3 + ONE_LINE_BUFFER_SIZE;
 
 /// The most characters of a text that can stand above a caret.
 const MOST_ABOVE: usize = 80;
 
 impl Fault<'_> {
-    /// Writes the fault for a terminal to the start of a buffer, and returns this report: the text, below it a caret at
-    /// the place of a syntax fault, and below that the line of `write_one_line`.
+    /// Writes the fault for a terminal to the start of a buffer, and returns this report: the text,
+    /// below it a caret at the place of a syntax fault, and below that the line of
+    /// `write_one_line`.
     ///
-    /// The report is the line alone if the cause is not `Syntax`, if the text has more than 80 characters, or if the
-    /// line would escape one of its characters. The buffer's old contents do not matter. The call allocates nothing and
-    /// cannot fail.
+    /// The report is the line alone if the cause is not `Syntax`, if the text has more than 80
+    /// characters, or if the line would escape one of its characters. The buffer's old contents do
+    /// not matter. The call allocates nothing and cannot fail.
     ///
     /// ```
     /// use duration_str_core::{Options, REPORT_BUFFER_SIZE, parse_with};
@@ -59,8 +60,8 @@ fn are_clear(text: &str) -> bool {
     text.chars().all(is_clear)
 }
 
-/// How many columns of a terminal a text takes. Every character from U+2E80 on is counted as two, but only the Chinese
-/// letters among them can stand before a syntax fault.
+/// How many columns of a terminal a text takes. Every character from U+2E80 on is counted as two,
+/// but only the Chinese letters among them can stand before a syntax fault.
 fn columns_of(text: &str) -> usize {
     let mut columns = 0;
     let mut chars = text.chars();

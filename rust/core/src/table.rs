@@ -1,5 +1,6 @@
 // Made by tools/erase of crates/duration_str/src/table.rt.
-//! The tables of units by which a text can be read: the names of the units, their lengths, and the values of terms.
+//! The tables of units by which a text can be read: the names of the units, their lengths, and the
+//! values of terms.
 
 use crate::cause::Cause;
 use crate::humantime;
@@ -25,8 +26,8 @@ impl UnitTable {
         }
     }
 
-    /// The nanoseconds of a term with this number and this unit. `number` is `None` if it is 2^64 or more, and `place`
-    /// is the place of the error.
+    /// The nanoseconds of a term with this number and this unit. `number` is `None` if it is 2^64
+    /// or more, and `place` is the place of the error.
     #[inline]
     pub(crate) fn times(
         self,

@@ -13,8 +13,8 @@ const INPUT: &[u8] = b"3m31\n\n580y*2";
 
 const OUTPUT: &[u8] = b"211000000000 3min 31s\nEmpty input\noverflow error\n";
 
-/// A reader that gives at most `step` bytes per call, and counts the calls. The call after `calls` calls fails, and
-/// later ones work again.
+/// A reader that gives at most `step` bytes per call, and counts the calls. The call after `calls`
+/// calls fails, and later ones work again.
 #[derive(Drop)]
 struct Source<'a> {
     bytes: &'a [u8],
@@ -72,8 +72,9 @@ impl Read for Blanks {
 /// The bytes that a `Sink` can hold.
 const ROOM: usize = 2_048;
 
-/// A writer that takes at most `step` bytes per call into a fixed buffer, and counts the flushes. The call after
-/// `calls` calls fails, and so does the first flush if `flushes` is not set. Later calls work again.
+/// A writer that takes at most `step` bytes per call into a fixed buffer, and counts the flushes.
+/// The call after `calls` calls fails, and so does the first flush if `flushes` is not set. Later
+/// calls work again.
 #[derive(Drop)]
 struct Sink {
     held: [u8; ROOM],
@@ -135,8 +136,8 @@ impl Write for Sink {
     }
 }
 
-/// Whether a run with all options off ends with this answer, has written this text, and has flushed it if no call
-/// failed. After a call failed, the run may make no other.
+/// Whether a run with all options off ends with this answer, has written this text, and has flushed
+/// it if no call failed. After a call failed, the run may make no other.
 fn ends(
     alloc: Global,
     mut source: Source<'_>,
