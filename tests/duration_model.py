@@ -4,6 +4,7 @@ shell/README.md and `duration --help`.
 """
 import collections
 import fractions
+import itertools
 import json
 import operator
 import pathlib
@@ -169,8 +170,18 @@ def json_object(text, answer, options, where):
     )
 
 
-def said_of(line, options, where):
-    """The message about an argument or a line. `where` is, for example, `line 1`."""
+def advice_on(answer, before):
+    """The advice to quote, if an argument begins with what goes on with the one before it."""
+    goes_on = "[+*A-Za-z\x80-\U0010ffff]" if before[-1:].isdigit() else "[+*]"
+    if answer.column != 1 or not re.match(goes_on, answer.found or ""):
+        return ""
+    return " (put a text with blanks in quotation marks)"
+
+
+def said_of(line, options, where, before=None):
+    """The message about an argument or a line. `where` is, for example, `line 1`. `before` is the
+    argument before, if there is one.
+    """
     too_long, begin, end = len(line) > LONGEST_LINE, 0, len(line)
     if "field" in options:
         begin, end = field_in(line, options) or (None, None)
@@ -186,9 +197,10 @@ def said_of(line, options, where):
             line[:begin] + printed(answer, options).encode() + line[end:] + end_of(options), b"", 0
         )
     field = f", field {options['field']}" if "field" in options else ""
+    advice = "" if before is None else advice_on(answer, before)
     return Said(
         (line + end_of(options)) * bool(field),
-        f"duration: {where}{field}: {answer.message}\n".encode(),
+        f"duration: {where}{field}: {answer.message}{advice}\n".encode(),
         1,
     )
 
@@ -212,9 +224,10 @@ def wanted(options, texts, data):
     lines = texts or (data.removesuffix(end).split(end) if data else [])
     header, kind = options.get("header", 0), "argument" if texts else "line"
     said = [Said(line + end, b"", 0) for line in lines[:header]]
+    befores = itertools.chain([None], texts, itertools.repeat(None))
     said += [
-        said_of(line, options, f"{kind} {number}")
-        for number, line in enumerate(lines[header:], header + 1)
+        said_of(line, options, f"{kind} {number}", before)
+        for number, line, before in zip(itertools.count(header + 1), lines[header:], befores)
     ]
     if {"field", "header"} & set(options) and data and not (texts or data.endswith(end)):
         said[-1] = said[-1]._replace(output=said[-1].output.removesuffix(end))

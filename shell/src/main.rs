@@ -245,6 +245,11 @@ impl Run<'_> {
         if self.choices.quiet {
             return Ok(());
         }
+        let advice = if self.is_cut(&refusal, number) {
+            " (put a text with blanks in quotation marks)"
+        } else {
+            ""
+        };
         // A terminal should show the answers before this one first.
         self.output.flush()?;
         let field = self
@@ -256,7 +261,23 @@ impl Run<'_> {
         } else {
             (' ', refusal.message)
         };
-        io::stderr().write_all(format!("duration: {what} {number}{field}:{gap}{said}\n").as_bytes())
+        io::stderr()
+            .write_all(format!("duration: {what} {number}{field}:{gap}{said}{advice}\n").as_bytes())
+    }
+
+    /// Whether the shell has perhaps cut a text at a blank before this argument. Then the argument
+    /// begins with an operator, as in `3m + 13s`. Or it begins with a word, and the one before it
+    /// ends with the word's number, as in `5 min`.
+    fn is_cut(&self, refusal: &Refusal, number: u64) -> bool {
+        let texts = &self.choices.texts;
+        let Some(before) = number.checked_sub(2).and_then(|at| texts.get(at as usize)) else {
+            return false;
+        };
+        let ends_with_digit = before.as_bytes().last().is_some_and(u8::is_ascii_digit);
+        refusal.first().is_some_and(|first| match first {
+            '+' | '*' => true,
+            _ => ends_with_digit && (first.is_ascii_alphabetic() || !first.is_ascii()),
+        })
     }
 
     /// Writes an answer, which is given in several slices, and the end of its line.

@@ -21,6 +21,12 @@ impl Refusal {
         }
     }
 
+    /// The first character of the text, if it is what can't stand there.
+    pub fn first(&self) -> Option<char> {
+        let found = self.found.as_ref().filter(|_| self.place == Some(0))?;
+        found.chars().next()
+    }
+
     /// The JSON object for the refused text of a line or an argument.
     pub fn json(&self, text: &[u8], what: &str, number: u64) -> String {
         let text = String::from_utf8_lossy(text);

@@ -77,6 +77,32 @@ fn answers_each_argument() {
     );
 }
 
+/// Advises to quote a text of which the shell seems to have made several arguments.
+#[test]
+fn advises_quotation_marks() {
+    let advice = " (put a text with blanks in quotation marks)";
+    for (words, number, advice) in [
+        (&["5", "mins"][..], 2, advice),
+        (&["1h 30", "min"], 2, advice),
+        (&["1h", "5", "\u{b5}s"], 3, advice),
+        (&["5", "\u{5206}"], 2, advice),
+        (&["3m", "+", "13s"], 2, advice),
+        (&["3m", "*2"], 2, advice),
+        (&["mins", "5"], 1, ""),
+        (&["1h", "mins"], 2, ""),
+        (&["5", "-3"], 2, ""),
+        (&["5", "3x"], 2, ""),
+        (&["5", ""], 2, ""),
+    ] {
+        let line = line(words[number - 1]);
+        let errors = format!("duration: argument {number}: {line}{advice}\n");
+        assert_eq!(run(words, b"").2, errors, "{words:?}");
+    }
+    let errors = format!("duration: line 2: {}\n", line("mins"));
+    assert_eq!(run(&[], b"5\nmins\n").2, errors);
+    assert!(!run(&["--json", "5", "mins"], b"").1.contains("quotation"));
+}
+
 #[test]
 fn takes_a_minus_for_a_text() {
     for words in [
