@@ -79,27 +79,24 @@ export function decode(bytes) {
     return decoder.decode(bytes);
 }
 
-/** The text of these codes. `String.fromCharCode` takes an array of codes by `apply`, but
- * needs twice the time for it. So longer texts are cut from the text of 16 or of 28 codes. */
+/** The text of the codes `c`. `String.fromCharCode` also takes an array of codes, by `apply`, but
+ * needs some 300 instructions more for that. So a text is cut from that of 9, 16 or 28 codes. */
 function textOf(c, length) {
-    switch (length) {
-        case 2: return String.fromCharCode(c[0], c[1]);
-        case 3: return String.fromCharCode(c[0], c[1], c[2]);
-        case 4: return String.fromCharCode(c[0], c[1], c[2], c[3]);
-        case 5: return String.fromCharCode(c[0], c[1], c[2], c[3], c[4]);
-        case 6: return String.fromCharCode(c[0], c[1], c[2], c[3], c[4], c[5]);
-        case 7: return String.fromCharCode(c[0], c[1], c[2], c[3], c[4], c[5], c[6]);
-        case 8: return String.fromCharCode(c[0], c[1], c[2], c[3], c[4], c[5], c[6], c[7]);
-        case 9: return String.fromCharCode(c[0], c[1], c[2], c[3], c[4], c[5], c[6], c[7], c[8]);
+    let whole;
+    if (length <= 9) {
+        whole = String.fromCharCode(c[0], c[1], c[2], c[3], c[4], c[5], c[6], c[7], c[8]);
+    } else if (length <= 16) {
+        whole = String.fromCharCode(
+            c[0], c[1], c[2], c[3], c[4], c[5], c[6], c[7], c[8], c[9], c[10], c[11], c[12], c[13],
+            c[14], c[15],
+        );
+    } else {
+        whole = String.fromCharCode(
+            c[0], c[1], c[2], c[3], c[4], c[5], c[6], c[7], c[8], c[9], c[10], c[11], c[12], c[13],
+            c[14], c[15], c[16], c[17], c[18], c[19], c[20], c[21], c[22], c[23], c[24], c[25],
+            c[26], c[27],
+        );
     }
-    const whole = length <= 16 ? String.fromCharCode(
-        c[0], c[1], c[2], c[3], c[4], c[5], c[6], c[7], c[8], c[9], c[10], c[11], c[12], c[13],
-        c[14], c[15],
-    ) : String.fromCharCode(
-        c[0], c[1], c[2], c[3], c[4], c[5], c[6], c[7], c[8], c[9], c[10], c[11], c[12], c[13],
-        c[14], c[15], c[16], c[17], c[18], c[19], c[20], c[21], c[22], c[23], c[24], c[25], c[26],
-        c[27],
-    );
     return whole.slice(0, length);
 }
 
