@@ -869,7 +869,9 @@ static int read_value(struct state *state, const struct list *list, Py_ssize_t a
                              : read_other(state, list, at, value, missing);
     Py_XDECREF(text);
     Py_DECREF(value);
-    return is_read ? (is_read < 0 ? -1 : 0) : add_position(refused, at);
+    if (is_read)
+        return is_read < 0 ? -1 : 0;
+    return add_position(refused, at);
 }
 
 /* Raises the error of the first value that is refused. */
