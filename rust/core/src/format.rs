@@ -250,7 +250,8 @@ impl Format {
     /// use std::time::Duration;
     ///
     /// let minutes = Format::whole().largest(TimeUnit::Minute);
-    /// assert_eq!(write_format(&Duration::new(5_430, 0), minutes, &mut [0; STYLED_BUFFER_SIZE]), "90min 30s");
+    /// let mut buffer = [0; STYLED_BUFFER_SIZE];
+    /// assert_eq!(write_format(&Duration::new(5_430, 0), minutes, &mut buffer), "90min 30s");
     /// ```
     #[inline]
     #[must_use]
@@ -288,7 +289,8 @@ impl Format {
     /// use std::time::Duration;
     ///
     /// let one_part = Format::whole().parts(1);
-    /// assert_eq!(write_format(&Duration::new(5_430, 0), one_part, &mut [0; STYLED_BUFFER_SIZE]), "1h");
+    /// let mut buffer = [0; STYLED_BUFFER_SIZE];
+    /// assert_eq!(write_format(&Duration::new(5_430, 0), one_part, &mut buffer), "1h");
     /// ```
     #[inline]
     #[must_use]
@@ -303,7 +305,8 @@ impl Format {
     /// use std::time::Duration;
     ///
     /// let long = Format::whole().style(Style::Long);
-    /// assert_eq!(write_format(&Duration::new(5_400, 0), long, &mut [0; STYLED_BUFFER_SIZE]), "1 hour 30 minutes");
+    /// let mut buffer = [0; STYLED_BUFFER_SIZE];
+    /// assert_eq!(write_format(&Duration::new(5_400, 0), long, &mut buffer), "1 hour 30 minutes");
     /// ```
     #[inline]
     #[must_use]
