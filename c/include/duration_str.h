@@ -62,7 +62,7 @@
 /* The most bytes that a text of duration_str_format_with has, in any style. */
 #define DURATION_STR_MAX_STYLED_LEN 134
 /* The size of the buffer that duration_str_format_with prints into. */
-#define DURATION_STR_STYLED_BUFFER_SIZE 144
+#define DURATION_STR_FORMAT_WITH_BUFFER_SIZE 144
 
 /* The most bytes that a line of duration_str_one_line has. */
 #define DURATION_STR_MAX_ONE_LINE_LEN 294
@@ -266,8 +266,8 @@ size_t duration_str_format(
     char buffer[DURATION_STR_AT_LEAST DURATION_STR_FORMAT_BUFFER_SIZE]);
 
 /* Prints a duration of `secs` seconds and `nanos` nanoseconds to the start of
- * `buffer`, which has DURATION_STR_STYLED_BUFFER_SIZE bytes. Returns the length
- * of the text, at most DURATION_STR_MAX_STYLED_LEN.
+ * `buffer`, which has DURATION_STR_FORMAT_WITH_BUFFER_SIZE bytes. Returns the
+ * length of the text, at most DURATION_STR_MAX_STYLED_LEN.
  *
  * `style` is one of `enum duration_str_style`. The text has as many of the
  * largest unit in the set `units` as fit, then as many of the next, and so on,
@@ -286,7 +286,7 @@ DURATION_STR_NONNULL(6)
 size_t duration_str_format_with(
     uint64_t secs, uint32_t nanos, uint32_t units, uint32_t parts,
     uint32_t style,
-    char buffer[DURATION_STR_AT_LEAST DURATION_STR_STYLED_BUFFER_SIZE]);
+    char buffer[DURATION_STR_AT_LEAST DURATION_STR_FORMAT_WITH_BUFFER_SIZE]);
 
 /* Breaks a duration of `secs` seconds and `nanos` nanoseconds down into the
  * units of the set `units`, in at most `parts` parts. These are the parts that
