@@ -6,8 +6,8 @@ use Rattle.std.proofs.Math.Bool.{beq}
 use Rattle.duration_str.proofs.Characters.CharacterLemmas.{all_weaker}
 use Rattle.uses.specs.Portable.{HasSameCause, HasSameCauseByAll, HasSameValue, HasSameValueByAll, is_unaffected, IsReadAlike}
 
--- If `b` and `d` are equal, or if the property holds for both values of Bool or for neither, it holds for `b` exactly
--- if it holds for `d`.
+-- If `b` and `d` are equal, or if the property holds for both values of Bool or for neither, it
+-- holds for `b` exactly if it holds for `d`.
 either_way : (P : Bool → Type 0) (b d : Bool) → (beq b d ≡ false → (P true ↔ P false)) → (P b ↔ P d)
 either_way P b d ways = search rules
 
@@ -25,8 +25,8 @@ module _ (o p : Options) (text : List ℕ) (h : IsTrue (list_all (is_unaffected 
   no_chinese : beq o.cn_unit p.cn_unit ≡ false → HasNoChinese text
   no_chinese differ = search (rules, all_weaker, last_passes)
 
-  -- Goes from the options `o` to the options `p`. If they differ in `lowercase`, that is changed first. If they differ
-  -- in `cn_unit`, that is changed next.
+  -- Goes from the options `o` to the options `p`. If they differ in `lowercase`, that is changed
+  -- first. If they differ in `cn_unit`, that is changed next.
   others_changed : (P : Options → Type 0)
       → ((q : Options) → HasNoCapital text → (P (record q { lowercase = true }) ↔ P (record q { lowercase = false })))
       → ((q : Options) → HasNoChinese text → (P (record q { cn_unit = true }) ↔ P (record q { cn_unit = false })))
