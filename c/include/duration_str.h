@@ -135,8 +135,8 @@ enum duration_str_option {
  * Bindings that can't call macros, such as those of Go and ctypes, compute it.
  * For seconds it is 0. For any other unit the bits from bit 16 on are the
  * unit's number plus 1, and DURATION_STR_OPTION_NO_CALC is on. So with
- * milliseconds the option is 0x90001. (0x80001 is the second without `+` and
- * `*`, the same as DURATION_STR_OPTION_NO_CALC.) */
+ * milliseconds the option is 0x90001. (For seconds 0x80001 is read too. It is
+ * the same as DURATION_STR_OPTION_NO_CALC.) */
 #define DURATION_STR_OPTION_DEFAULT_UNIT(unit) \
     (DURATION_STR_CAST(uint64_t, unit) == DURATION_STR_UNIT_SECOND \
          ? UINT32_C(0) \
