@@ -216,7 +216,7 @@ static void check_null_results(void) {
  * */
 static bool is_printed(uint64_t secs, uint32_t nanos, uint32_t units, uint32_t parts,
     uint32_t style, const char *wanted) {
-    char printed[DURATION_STR_STYLED_BUFFER_SIZE];
+    char printed[DURATION_STR_FORMAT_WITH_BUFFER_SIZE];
     memset(printed, '#', sizeof printed);
     return is_written(
         printed, duration_str_format_with(secs, nanos, units, parts, style, printed), wanted);

@@ -118,7 +118,7 @@ function cPrintCall(format) {
     }
     const { parts = UNITS.length, style = "short" } = format;
     return [
-        "char buffer[DURATION_STR_STYLED_BUFFER_SIZE];",
+        "char buffer[DURATION_STR_FORMAT_WITH_BUFFER_SIZE];",
         "duration_str_format_with(",
         "    answer.nanos / 1000000000, answer.nanos % 1000000000,",
         `    ${cUnits(format)},`,

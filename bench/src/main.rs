@@ -16,7 +16,7 @@ mod ours;
 mod texts;
 
 use duration_str::{
-    Format, HumanFormat, STYLED_BUFFER_SIZE, Style, TimeUnit, format_duration, parse,
+    FORMAT_BUFFER_SIZE, Format, HumanFormat, Style, TimeUnit, format_duration, parse,
     parse_duration, write_format,
 };
 use ours::{Crate, Library, ROOM, calls};
@@ -147,7 +147,7 @@ fn styles() {
         ("compact", whole.style(Style::Compact)),
         ("long", whole.style(Style::Long)),
     ] {
-        let print = |length| write_format(&length, format, &mut [0; STYLED_BUFFER_SIZE]).len();
+        let print = |length| write_format(&length, format, &mut [0; FORMAT_BUFFER_SIZE]).len();
         let [below_day, all] = nanos_a_call(
             lengths.len(),
             [&|| all(&short, print), &|| all(&lengths, print)],

@@ -1,8 +1,8 @@
 //! The calls that are measured: the calls of the Rust crate, and those of the archive through C.
 use crate::texts::{EXPRESSION, below_day, expressions, long_text, refusal, repeat};
 use duration_str::{
-    DurationError, FORMAT_BUFFER_SIZE, Format, HumanFormat, ONE_LINE_BUFFER_SIZE, Options,
-    STYLED_BUFFER_SIZE, TimeUnit,
+    DurationError, FORMAT_BUFFER_SIZE, Format, HUMAN_BUFFER_SIZE, HumanFormat,
+    ONE_LINE_BUFFER_SIZE, Options, TimeUnit,
 };
 use duration_str::{
     parse, parse_duration, parse_in, parse_require_unit, parse_with, write_format, write_human,
@@ -96,12 +96,12 @@ impl Library for Crate {
     }
 
     fn printing(length: Duration) -> usize {
-        black_box(write_human(&length, &mut [0; FORMAT_BUFFER_SIZE])).len()
+        black_box(write_human(&length, &mut [0; HUMAN_BUFFER_SIZE])).len()
     }
 
     fn printing_parts(length: Duration, parts: u32) -> usize {
         let format = Format::whole().parts(parts as usize);
-        black_box(write_format(&length, format, &mut [0; STYLED_BUFFER_SIZE])).len()
+        black_box(write_format(&length, format, &mut [0; FORMAT_BUFFER_SIZE])).len()
     }
 
     fn printing_string(length: Duration) -> String {
@@ -196,7 +196,7 @@ impl Library for Archive {
 
     fn printing(length: Duration) -> usize {
         let nanos = length.as_secs() * 1_000_000_000 + u64::from(length.subsec_nanos());
-        let mut buffer = [0; FORMAT_BUFFER_SIZE];
+        let mut buffer = [0; HUMAN_BUFFER_SIZE];
         // SAFETY: the buffer has the 64 bytes that may be written.
         let end = unsafe { duration_str_format(nanos, buffer.as_mut_ptr()) };
         black_box(&buffer);

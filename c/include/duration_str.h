@@ -62,7 +62,7 @@
 /* The most bytes that a text of duration_str_format_with has, in any style. */
 #define DURATION_STR_MAX_STYLED_LEN 134
 /* The size of the buffer that duration_str_format_with prints into. */
-#define DURATION_STR_STYLED_BUFFER_SIZE 144
+#define DURATION_STR_FORMAT_WITH_BUFFER_SIZE 144
 
 /* The most bytes that a line of duration_str_one_line has. */
 #define DURATION_STR_MAX_ONE_LINE_LEN 294
@@ -135,8 +135,8 @@ enum duration_str_option {
  * Bindings that can't call macros, such as those of Go and ctypes, compute it.
  * For seconds it is 0. For any other unit the bits from bit 16 on are the
  * unit's number plus 1, and DURATION_STR_OPTION_NO_CALC is on. So with
- * milliseconds the option is 0x90001. (0x80001 is the second without `+` and
- * `*`, the same as DURATION_STR_OPTION_NO_CALC.) */
+ * milliseconds the option is 0x90001. (For seconds 0x80001 is read too. It is
+ * the same as DURATION_STR_OPTION_NO_CALC.) */
 #define DURATION_STR_OPTION_DEFAULT_UNIT(unit) \
     (DURATION_STR_CAST(uint64_t, unit) == DURATION_STR_UNIT_SECOND \
          ? UINT32_C(0) \
@@ -266,8 +266,8 @@ size_t duration_str_format(
     char buffer[DURATION_STR_AT_LEAST DURATION_STR_FORMAT_BUFFER_SIZE]);
 
 /* Prints a duration of `secs` seconds and `nanos` nanoseconds to the start of
- * `buffer`, which has DURATION_STR_STYLED_BUFFER_SIZE bytes. Returns the length
- * of the text, at most DURATION_STR_MAX_STYLED_LEN.
+ * `buffer`, which has DURATION_STR_FORMAT_WITH_BUFFER_SIZE bytes. Returns the
+ * length of the text, at most DURATION_STR_MAX_STYLED_LEN.
  *
  * `style` is one of `enum duration_str_style`. The text has as many of the
  * largest unit in the set `units` as fit, then as many of the next, and so on,
@@ -286,7 +286,7 @@ DURATION_STR_NONNULL(6)
 size_t duration_str_format_with(
     uint64_t secs, uint32_t nanos, uint32_t units, uint32_t parts,
     uint32_t style,
-    char buffer[DURATION_STR_AT_LEAST DURATION_STR_STYLED_BUFFER_SIZE]);
+    char buffer[DURATION_STR_AT_LEAST DURATION_STR_FORMAT_WITH_BUFFER_SIZE]);
 
 /* Breaks a duration of `secs` seconds and `nanos` nanoseconds down into the
  * units of the set `units`, in at most `parts` parts. These are the parts that

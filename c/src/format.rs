@@ -2,7 +2,7 @@
 //! Durations printed in a format.
 
 use crate::put;
-use duration_str_core::{Format, STYLED_BUFFER_SIZE, Style, Units, write_format};
+use duration_str_core::{FORMAT_BUFFER_SIZE, Format, Style, Units, write_format};
 use core::time::Duration;
 
 /// Prints a duration in the units of a set, in at most `parts` parts and in a style, to the start
@@ -19,11 +19,11 @@ pub fn duration_str_format_with(
     units: u32,
     parts: u32,
     style: u32,
-    buffer: &mut [u8; STYLED_BUFFER_SIZE],
+    buffer: &mut [u8; FORMAT_BUFFER_SIZE],
 ) -> usize {
     match format_of(units, parts, style) {
         Some(format) if nanos < 1_000_000_000 => {
-            let mut printed = [0; STYLED_BUFFER_SIZE];
+            let mut printed = [0; FORMAT_BUFFER_SIZE];
             let text = write_format(&Duration::new(secs, nanos), format, &mut printed);
             put(text, buffer)
         }

@@ -21,7 +21,7 @@ pub mod unit;
 use crate::answer::Answer;
 use crate::message::refusal_of;
 use duration_str_core::{
-    FORMAT_BUFFER_SIZE, Fault, Options, TimeUnit, UNITS, parse_nanos, parse_nanos_specialized,
+    Fault, HUMAN_BUFFER_SIZE, Options, TimeUnit, UNITS, parse_nanos, parse_nanos_specialized,
     write_human,
 };
 use core::time::Duration;
@@ -88,8 +88,8 @@ pub fn duration_str_parse(text: &[u8], nanos: &mut u64) -> bool {
 
 /// Prints a duration of this many nanoseconds to the start of the buffer, with a zero byte after
 /// it. Returns the length of the text without the zero. The rest of the buffer is unchanged.
-pub fn duration_str_format(nanos: u64, buffer: &mut [u8; FORMAT_BUFFER_SIZE]) -> usize {
-    let mut printed = [0; FORMAT_BUFFER_SIZE];
+pub fn duration_str_format(nanos: u64, buffer: &mut [u8; HUMAN_BUFFER_SIZE]) -> usize {
+    let mut printed = [0; HUMAN_BUFFER_SIZE];
     put(
         write_human(&Duration::from_nanos(nanos), &mut printed),
         buffer,

@@ -3,7 +3,7 @@
 
 use crate::fault::RunFault;
 use crate::lines::first_line;
-use duration_str_core::{FORMAT_BUFFER_SIZE, Options, parse_with, write_human};
+use duration_str_core::{HUMAN_BUFFER_SIZE, Options, parse_with, write_human};
 use crate::outside::{AllocError, Allocator, String};
 use std::io::Write;
 use std::time::Duration;
@@ -21,7 +21,7 @@ fn text_of(bytes: &[u8]) -> Option<&str> {
 /// Adds a duration in nanoseconds, a space, the printed duration and a line feed.
 fn push_value<A: Allocator>(out: &mut String<A>, duration: Duration) -> Result<(), AllocError> {
     let nanos = duration.as_nanos() as u64;
-    let mut buffer = [0; FORMAT_BUFFER_SIZE];
+    let mut buffer = [0; HUMAN_BUFFER_SIZE];
     let human = write_human(&duration, &mut buffer);
     writeln!(out, "{nanos} {human}")?;
     Ok(())

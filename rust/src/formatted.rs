@@ -3,7 +3,7 @@ use crate::human_duration::HumanDuration;
 use alloc::string::String;
 use core::fmt::{self, Write};
 use core::time::Duration;
-use duration_str_core::{Breakdown, Format, STYLED_BUFFER_SIZE, Style, TimeUnit, write_format};
+use duration_str_core::{Breakdown, FORMAT_BUFFER_SIZE, Format, Style, TimeUnit, write_format};
 
 /// A duration whose `Display` prints it for people, without allocating. You choose the units, the
 /// number of parts and the style.
@@ -119,7 +119,7 @@ impl FormattedDuration {
     #[expect(clippy::inherent_to_string_shadow_display, reason = "the same text")]
     #[must_use]
     pub fn to_string(&self) -> String {
-        <[&str; 2]>::from(self.parts_of_text(&mut [0; STYLED_BUFFER_SIZE])).concat()
+        <[&str; 2]>::from(self.parts_of_text(&mut [0; FORMAT_BUFFER_SIZE])).concat()
     }
 
     /// Returns the parts that are printed as numbers: the units with their counts, the longest unit
@@ -146,7 +146,7 @@ impl FormattedDuration {
     #[inline(always)]
     fn parts_of_text<'b>(
         &self,
-        buffer: &'b mut [u8; STYLED_BUFFER_SIZE],
+        buffer: &'b mut [u8; FORMAT_BUFFER_SIZE],
     ) -> (&'static str, &'b str) {
         let magnitude = write_format(&self.magnitude, self.format, buffer);
         // Only a zero begins with `0`.
@@ -260,7 +260,7 @@ chooses! {
 /// cut the text at it.
 impl fmt::Display for FormattedDuration {
     fn fmt(&self, f: &mut fmt::Formatter<'_>) -> fmt::Result {
-        match (self.parts_of_text(&mut [0; STYLED_BUFFER_SIZE]), f.width()) {
+        match (self.parts_of_text(&mut [0; FORMAT_BUFFER_SIZE]), f.width()) {
             (("", magnitude), None) => f.write_str(magnitude),
             ((sign, magnitude), _) => pad(f, &[sign, magnitude]),
         }

@@ -2,7 +2,7 @@
 use crate::formatted::{FormattedDuration, format_duration};
 use alloc::string::String;
 use core::time::Duration;
-use duration_str_core::{FORMAT_BUFFER_SIZE, write_human};
+use duration_str_core::{HUMAN_BUFFER_SIZE, write_human};
 
 /// Durations that can be printed for people: those of `std`, `chrono` and `time`.
 ///
@@ -56,7 +56,7 @@ impl HumanFormat for Duration {
     }
 
     fn human_format(&self) -> String {
-        String::from(write_human(self, &mut [0; FORMAT_BUFFER_SIZE]))
+        String::from(write_human(self, &mut [0; HUMAN_BUFFER_SIZE]))
     }
 }
 

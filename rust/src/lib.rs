@@ -194,8 +194,8 @@ pub use default_unit::{parse_in, parse_require_unit, parse_with_default_unit};
 pub use derror::{DError, DResult};
 #[doc(inline)]
 pub use duration_str_core::{
-    Breakdown, Cause, CondUnit, Expected, FORMAT_BUFFER_SIZE, Format, ONE_LINE_BUFFER_SIZE,
-    Options, STYLED_BUFFER_SIZE, Style, TimeUnit, Units, UnknownStyle, UnknownUnit, write_format,
+    Breakdown, Cause, CondUnit, Expected, FORMAT_BUFFER_SIZE, Format, HUMAN_BUFFER_SIZE,
+    ONE_LINE_BUFFER_SIZE, Options, Style, TimeUnit, Units, UnknownStyle, UnknownUnit, write_format,
     write_human,
 };
 // `MAX_LONG_LEN`, `MAX_PRINTED_LEN` and `UNITS`, below, are hidden, since they are only for the

@@ -5,7 +5,7 @@ mod options;
 mod patterns;
 mod reading;
 
-use duration_str::{STYLED_BUFFER_SIZE, TimeUnit};
+use duration_str::{FORMAT_BUFFER_SIZE, TimeUnit};
 use options::{Choices, Round};
 use reading::Refusal;
 use std::ffi::{CStr, OsStr, OsString, c_char, c_int};
@@ -172,7 +172,7 @@ impl Run<'_> {
             Err(refusal) => self.refuse(refusal, [before, text, after], number),
             Ok((text, nanos)) if self.choices.json => self.object(text, nanos),
             Ok((_, nanos)) => {
-                let mut buffer = [0; STYLED_BUFFER_SIZE];
+                let mut buffer = [0; FORMAT_BUFFER_SIZE];
                 let printed = self.choices.printed(nanos, &mut buffer);
                 self.put(&[before, printed.as_bytes(), after])
             }
@@ -186,7 +186,7 @@ impl Run<'_> {
         serde_json::to_writer(&mut self.output, text)?;
         let seconds = options::in_unit(nanos, TimeUnit::Second, None, Round::Down);
         let mark = if self.choices.to.is_some() { "" } else { "\"" };
-        let mut buffer = [0; STYLED_BUFFER_SIZE];
+        let mut buffer = [0; FORMAT_BUFFER_SIZE];
         let printed = self.choices.printed(nanos, &mut buffer);
         let mut breakdown = self.choices.breakdown(nanos);
         let parts: Vec<String> = breakdown

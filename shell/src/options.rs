@@ -4,7 +4,7 @@ use clap::error::ErrorKind;
 use clap::{Command, CommandFactory, Parser, ValueEnum, value_parser};
 use clap_complete::Shell;
 use duration_str::{
-    Breakdown, Format, Options, STYLED_BUFFER_SIZE, Style, TimeUnit, Units, UnknownUnit,
+    Breakdown, FORMAT_BUFFER_SIZE, Format, Options, Style, TimeUnit, Units, UnknownUnit,
     parse_duration, write_format,
 };
 use std::borrow::Cow;
@@ -168,7 +168,7 @@ impl Choices {
     pub fn printed<'b>(
         &self,
         nanos: u64,
-        buffer: &'b mut [u8; STYLED_BUFFER_SIZE],
+        buffer: &'b mut [u8; FORMAT_BUFFER_SIZE],
     ) -> Cow<'b, str> {
         if let Some(unit) = self.to {
             return in_unit(nanos, unit, self.decimals, self.round).into();

@@ -159,7 +159,7 @@ static void check_parts(uint64_t nanos) {
         sum += counts[unit] * length_of(unit);
     }
     HOLDS(found <= parts && sum <= nanos && nanos - sum == *rest);
-    uint8_t *buffer = buffer_at(output_end, DURATION_STR_STYLED_BUFFER_SIZE);
+    uint8_t *buffer = buffer_at(output_end, DURATION_STR_FORMAT_WITH_BUFFER_SIZE);
     size_t length = duration_str_format_with(
         secs, below_second, units, parts, DURATION_STR_STYLE_SHORT, (char *)buffer);
     struct duration_str_answer answer = read_with(text_at(prints, buffer, length), 0);

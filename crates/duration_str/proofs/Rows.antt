@@ -1,5 +1,5 @@
--- Examples that were worked out by hand, and are computed here: the values of texts, the causes for which others are
--- refused, and the texts of durations.
+-- Examples that were worked out by hand, and are computed here: the values of texts, the causes for
+-- which others are refused, and the texts of durations.
 use Rattle.duration_str.proofs.Common.{[], ALL, answer, Bool, Cause, codes, Compact, counts_of, Empty, encode_utf8_all, Err, Expected, false, flat_map, if◌then◌else◌, length, List, Long, map, MAX_LONG_LEN, MAX_PRINTED_LEN, message_of, Mixed, nanos_of, nat_lt, None, nonzero, NumberTooLarge, off, Ok, older_row_of, older_rules, Options, OutOfRange, Overflow, Plus, printed_counts, Quarter, refl, replicate, Result, row_of, rules_of, rules_with, Short, Some, Star, Style, Syntax, TimeUnit, true, unit_lengths, unit_of_word, units, units_within, ℕ, ◌++◌, ◌∷◌, ◌≡◌}
 use Rattle.duration_str.specs.declared.format.Format.{Format}
 use Rattle.duration_str.specs.declared.unit.TimeUnit.TheVariants.{Day, Hour, MicroSecond, MilliSecond, Minute, Month, NanoSecond, Second, Week, Year}
@@ -68,7 +68,8 @@ pub record Answers : Type 0 where
   pub product-middle_step_rounded : answer (rules_of off) (codes "1*1ns*1ns*1000000000") ≡ Ok 0
   pub plus_then_star : answer (rules_of off) (codes "1m 2s*3") ≡ Err (Mixed Plus Star)
   pub star_then_plus : answer (rules_of off) (codes "1m*2*3+4") ≡ Err (Mixed Star Plus)
-  -- the first term is added last, so that the second term, with which the sum is 585 years, has no fault
+  -- the first term is added last, so that the second term, with which the sum is 585 years, has no
+  -- fault
   pub first_added_last : answer (rules_of off) (codes "580y 5y 1s*2") ≡ Err (Mixed Plus Star)
   -- ---- The limits of numbers
   pub leading_zeros : answer (rules_of off) (codes "00000000000000000000000001") ≡ Ok 1_000_000_000
@@ -598,8 +599,8 @@ reports = assumption
 abbrev AreNamesOf : Options → TimeUnit → List (List ℕ) → Type 0
 AreNamesOf o u names = map (unit_of_word (rules_of o)) names ≡ map (λ name. Some u) names
 
--- Each name of each unit is read as the unit, with and without `lowercase`, and each Chinese name with `cn_unit`. So no
--- two units share a name.
+-- Each name of each unit is read as the unit, with and without `lowercase`, and each Chinese name
+-- with `cn_unit`. So no two units share a name.
 pub names_of_one_unit : Each (λ u.
     AreNamesOf off u (row_of u).names × AreNamesOf with_lowercase u (row_of u).names
     × AreNamesOf with_cn_unit u ((row_of u).names ++ (row_of u).chinese)) units

@@ -16,7 +16,8 @@ use Rattle.duration_str.specs.Reading.{early_fault, late_fault}
 abbrev pub expected_at_start : Expected
 expected_at_start = record { number = true; unit_word = false; operator = false; text_end = false }
 
--- what can follow a number: a unit, and, with a default unit, the end and (not under `no_calc`) an operator
+-- what can follow a number: a unit, and, with a default unit, the end and (not under `no_calc`) an
+-- operator
 abbrev pub expected_after_number : Rules → Expected
 expected_after_number r =
     record {
@@ -67,8 +68,8 @@ abbrev pub is_whole : Rules → List Terminal → List Terminal → Bool
 is_whole r front [] = (expected_after r (last_of None front)).text_end
 is_whole r front (terminal ∷ rest) = false
 
--- the answer to a sentence: the fault of its evaluation, or its value. If there is no fault there is a value, so the 0
--- is never used
+-- the answer to a sentence: the fault of its evaluation, or its value. If there is no fault there
+-- is a value, so the 0 is never used
 abbrev pub late_answer : Rules → Option Cause → List Terminal → Result ℕ Cause
 late_answer r fault terminals = fault_or fault (Ok (unwrap_or (value_of (terms_of r terminals)) 0))
 

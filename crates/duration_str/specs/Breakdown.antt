@@ -9,8 +9,8 @@ use Rattle.duration_str.specs.Format.{IsGreatestWithin, counts_within, lengths_w
 use Rattle.duration_str.specs.Printing.{nonzero}
 use Rattle.duration_str.specs.Internal.UnitTable.{units_of}
 
--- These are the parts of a duration of `nanos` nanoseconds in this format: the counts of its greatest breakdown that
--- are not 0, each with its unit, the longest unit first.
+-- These are the parts of a duration of `nanos` nanoseconds in this format: the counts of its
+-- greatest breakdown that are not 0, each with its unit, the longest unit first.
 abbrev pub AreParts : Format → ℕ → List (TimeUnit × ℕ) → Type 0
 AreParts format nanos parts =
     (counts : List ℕ)
@@ -33,8 +33,9 @@ parts_left b = parts_in (units_of b.bits) b.most b.rest
 abbrev pub nanos_left : Breakdown → ℕ
 nanos_left b = b.rest
 
--- The call returns the first part that is left, and takes it from the nanoseconds that are left, so that less than its
--- unit is left. If no part is left, it returns none, and the nanoseconds stay as they are.
+-- The call returns the first part that is left, and takes it from the nanoseconds that are left, so
+-- that less than its unit is left. If no part is left, it returns none, and the nanoseconds stay as
+-- they are.
 pub record YieldsPart (old : Breakdown) (result : Option (TimeUnit × ℕ)) (new : Breakdown) : Type 0 where
   pub first : YieldsFirst parts_left old result new
   pub rest : MatchOption result (nanos_left old ≡ nanos_left new)

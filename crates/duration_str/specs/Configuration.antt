@@ -1,4 +1,5 @@
--- The results of the calls that read signed durations and configuration values, with all options off.
+-- The results of the calls that read signed durations and configuration values, with all options
+-- off.
 use Rattle.std.specs.Prelude.{◌≡◌, ℕ, ℤ, pos, [], ◌∷◌, Bool, true, false, Option, None, IsSomeAnd, Result, Ok, chars}
 use Rattle.serde_json.specs.Data.{Data, null, string}
 use Rattle.duration_str.specs.declared.cause.Cause.TheVariants.{NotText}
@@ -9,20 +10,20 @@ use Rattle.duration_str.specs.Rules.{rules_of}
 use Rattle.duration_str.specs.OtherResults.{IsValueOrFault}
 use Rattle.duration_str.specs.Reading.{IsRead, IsRefused}
 
--- With all options off, the bytes are read, and `shows` holds for the value in `Ok` and the nanoseconds. Or they are
--- refused for the cause in `Err`.
+-- With all options off, the bytes are read, and `shows` holds for the value in `Ok` and the
+-- nanoseconds. Or they are refused for the cause in `Err`.
 abbrev pub ParsesBy : {T : Type 0} → (T → ℕ → Type 0) → Bytes → Result T Fault → Type 0
 ParsesBy shows bytes result =
     IsValueOrFault (λ v. (nanos : ℕ) × IsRead (rules_of off) (chars bytes) nanos × shows v nanos)
     (IsRefused (rules_of off) (chars bytes)) bytes result
 
--- The bytes are read, and `nanos_of` gives the nanoseconds of the value in `Ok`. Or they are refused for the cause in
--- `Err`.
+-- The bytes are read, and `nanos_of` gives the nanoseconds of the value in `Ok`. Or they are
+-- refused for the cause in `Err`.
 abbrev pub ParsesAs : {T : Type 0} → (T → ℤ) → Bytes → Result T Fault → Type 0
 ParsesAs nanos_of bytes result = ParsesBy (λ v nanos. nanos_of v ≡ pos nanos) bytes result
 
--- The bytes are read, and `nanos_of` gives the nanoseconds of the value in `Ok (Some ..)`. Or they are refused for the
--- cause in `Err`.
+-- The bytes are read, and `nanos_of` gives the nanoseconds of the value in `Ok (Some ..)`. Or they
+-- are refused for the cause in `Err`.
 abbrev pub ParsesAsSome : {T : Type 0} → (T → ℤ) → Bytes → Result (Option T) Fault → Type 0
 ParsesAsSome nanos_of bytes result = ParsesBy (λ o nanos. IsSomeAnd o (λ v. nanos_of v ≡ pos nanos)) bytes result
 
@@ -35,8 +36,8 @@ abbrev pub IsRequired : {T : Type 0} → (T → ℤ) → Data → Result T Fault
 IsRequired nanos_of (string text) result = ParsesAs nanos_of text result
 IsRequired nanos_of _ result = IsNotText false result
 
--- An optional value: if it is null or the empty text, the result is `None`. Any other text is read, and any other value
--- is refused.
+-- An optional value: if it is null or the empty text, the result is `None`. Any other text is read,
+-- and any other value is refused.
 abbrev pub IsOptional : {T : Type 0} → (T → ℤ) → Data → Result (Option T) Fault → Type 0
 IsOptional nanos_of null result = result ≡ Ok None
 IsOptional nanos_of (string []) result = result ≡ Ok None

@@ -15,7 +15,8 @@ use Rattle.duration_str.specs.Rules.{rules_of}
 abbrev pub day_nanos : ℕ
 day_nanos = 86_400_000_000_000
 
--- The instant, in nanoseconds since 1970-01-01T00:00:00Z, is nanosecond `k` of day `day`. Day 0 is 1970-01-01.
+-- The instant, in nanoseconds since 1970-01-01T00:00:00Z, is nanosecond `k` of day `day`. Day 0 is
+-- 1970-01-01.
 abbrev pub IsInDay : ℤ → ℤ → ℕ → Type 0
 IsInDay instant day k = (k < day_nanos) × (instant ≡ day *ℤ pos day_nanos +ℤ pos k)
 
@@ -43,15 +44,16 @@ IsInRange instant = (first_instant ≤ℤ instant) × (instant ≤ℤ last_insta
 abbrev pub IsOutOfRange : ℤ → Type 0
 IsOutOfRange instant = (instant <ℤ first_instant) ⊎ (last_instant <ℤ instant)
 
--- The text is refused for this cause. Or it is read, the instant that its value reaches is out of range, and the cause
--- is `OutOfRange`.
+-- The text is refused for this cause. Or it is read, the instant that its value reaches is out of
+-- range, and the cause is `OutOfRange`.
 abbrev pub IsDateFault : (ℕ → ℤ) → Bytes → Cause → Type 0
 IsDateFault reached bytes cause =
     IsRefused (rules_of off) (chars bytes) cause
     ⊎ ((nanos : ℕ) × IsRead (rules_of off) (chars bytes) nanos × IsOutOfRange (reached nanos) × (cause ≡ OutOfRange))
 
--- The text is read, the instant that its value reaches is in range, and `shows` holds for it and the value in `Ok`.
--- Otherwise the result is a fault with this text, and `IsDateFault` holds for its cause.
+-- The text is read, the instant that its value reaches is in range, and `shows` holds for it and
+-- the value in `Ok`. Otherwise the result is a fault with this text, and `IsDateFault` holds for
+-- its cause.
 abbrev pub IsDated : {T : Type 0} → (ℤ → T → Type 0) → (ℕ → ℤ) → Bytes → Result T Fault → Type 0
 IsDated shows reached bytes result =
     IsValueOrFault (λ v. (nanos : ℕ)

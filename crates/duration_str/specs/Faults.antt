@@ -33,8 +33,8 @@ IsSliceOf bytes token (Some slice) =
     (p : Token) × (token ≡ Some p) × (chars slice.now ≡ p.characters)
     × (slice.now ≡ slice_range bytes p.start (p.start + length slice.now))
 
--- If the bytes are refused for a syntax fault by any rules with these options, `token` is `None` exactly if the fault's
--- place is the end of the bytes.
+-- If the bytes are refused for a syntax fault by any rules with these options, `token` is `None`
+-- exactly if the fault's place is the end of the bytes.
 abbrev pub IsMissingAtEnd : Options → Bytes → Cause → Option (Bor Bytes) → Type 0
 IsMissingAtEnd o bytes cause token =
     (r : Rules) (place : ℕ) (expected : Expected) → cause ≡ Syntax place expected

@@ -1,4 +1,5 @@
--- A duration printed in a format: in the units of a set, in at most a number of parts, and in a style.
+-- A duration printed in a format: in the units of a set, in at most a number of parts, and in a
+-- style.
 use Rattle.std.specs.Prelude.{◌≡◌, ℕ, ◌+◌, ◌-◌, ◌/◌, ◌%◌, ◌≤◌, ◌*◌, ◌^◌, Bool, List, [], ◌∷◌, if◌then◌else◌, length, ◌⊎◌, ◌==◌, nat_lt, map, filter, bit_and, bit_or}
 use Rattle.std.specs.Int.{bit_at, bit_not, w16}
 use Rattle.std.specs.List.{list_any}
@@ -72,8 +73,8 @@ abbrev pub part_count : List ℕ → ℕ
 part_count [] = 0
 part_count (n ∷ counts) = if n == 0 then part_count counts else 1 + part_count counts
 
--- There is one count for each length, at most `parts` counts are not 0, and the counts times their lengths add up to at
--- most the duration.
+-- There is one count for each length, at most `parts` counts are not 0, and the counts times their
+-- lengths add up to at most the duration.
 pub record IsWithin (lengths : List ℕ) (parts nanos : ℕ) (counts : List ℕ) : Type 0 where
   pub one_each : length counts ≡ length lengths
   pub few : part_count counts ≤ parts
@@ -93,8 +94,8 @@ last_unit u (v ∷ us) = last_unit v us
 abbrev pub shorter_units : List TimeUnit → List TimeUnit
 shorter_units us = filter (λ u. nat_lt (nanos_of u) (nanos_of (last_unit Second us))) units
 
--- the unit with which a zero is printed: the smallest of these units. It is the second if the smallest is shorter than
--- a second, or if there are no units
+-- the unit with which a zero is printed: the smallest of these units. It is the second if the
+-- smallest is shorter than a second, or if there are no units
 abbrev pub zero_unit : List TimeUnit → TimeUnit
 zero_unit us = if nat_lt (nanos_of (last_unit Second us)) (nanos_of Second) then Second else last_unit Second us
 
@@ -115,7 +116,8 @@ abbrev pub most_len : Style → ℕ
 most_len Long = MAX_LONG_LEN
 most_len style = MAX_PRINTED_LEN
 
--- the counts by quotients and remainders. The first `parts` counts that are not 0 are kept, and the others are 0
+-- the counts by quotients and remainders. The first `parts` counts that are not 0 are kept, and the
+-- others are 0
 abbrev pub counts_within : List ℕ → ℕ → ℕ → List ℕ
 counts_within [] parts nanos = []
 counts_within (l ∷ lengths) parts nanos =

@@ -23,8 +23,8 @@ abbrev pub sign_terminal : Characters → Terminal
 sign_terminal (c ∷ []) = operator_or_other (operator_of c)
 sign_terminal _ = other
 
--- the terminal that these characters stand for. Digits are a number, unit letters are a word with the unit that it
--- names, `+` and `*` are operators, and anything else is `other`
+-- the terminal that these characters stand for. Digits are a number, unit letters are a word with
+-- the unit that it names, `+` and `*` are operators, and anything else is `other`
 abbrev pub terminal_of : Rules → Characters → Terminal
 terminal_of r [] = other
 terminal_of r (c ∷ cs) =
@@ -36,8 +36,8 @@ terminal_of r (c ∷ cs) =
 -- S = Number | Number Unit | Number Op S | Number Unit Op S | Number Unit S
 -- Under `no_calc` it is:
 -- S = Number | Number Unit | Number Unit S
--- A number without a unit has the default unit. If there is no default unit, the alternatives in which a number has no
--- unit are left out.
+-- A number without a unit has the default unit. If there is no default unit, the alternatives in
+-- which a number has no unit are left out.
 abbrev pub IsSentence : Rules → List Terminal → Type 0
 IsSentence r (number n ∷ []) = IsSome r.default_unit
 IsSentence r (number n ∷ operator op ∷ more) =
@@ -55,7 +55,8 @@ pub record BeginsWith (lexeme : Characters) (IsRest : Characters → Type 0) (te
   pub parts : text ≡ blanks ++ (lexeme ++ rest)
   pub is_rest : IsRest rest
 
--- The text is blanks, then each lexeme followed by blanks. Here a lexeme need not be as long as possible.
+-- The text is blanks, then each lexeme followed by blanks. Here a lexeme need not be as long as
+-- possible.
 abbrev pub Spells : List Characters → Characters → Type 0
 Spells [] text = IsBlank text
 Spells (w ∷ lexemes) text = BeginsWith w (Spells lexemes) text

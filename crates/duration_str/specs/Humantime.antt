@@ -7,12 +7,14 @@ use Rattle.duration_str.specs.Text.{Characters}
 use Rattle.duration_str.specs.Units.{UnitRow, row_of}
 use Rattle.duration_str.specs.Rules.{Rules}
 
--- a row with further names, which stand before the others, since the last two are the long name and its plural
+-- a row with further names, which stand before the others, since the last two are the long name and
+-- its plural
 abbrev pub with_names : List Characters → UnitRow → UnitRow
 with_names names row = record row { names = names ++ row.names }
 
--- The table: each unit has all names of the library's own table, and the names that only humantime reads. A month has
--- 30.44 days and a year 365.25 days. `M` is only a name if capitals are not read as small letters.
+-- The table: each unit has all names of the library's own table, and the names that only humantime
+-- reads. A month has 30.44 days and a year 365.25 days. `M` is only a name if capitals are not read
+-- as small letters.
 abbrev pub humantime_row_of : TimeUnit → UnitRow
 humantime_row_of Year = record (with_names (codes "yr" ∷ codes "yrs" ∷ []) (row_of Year)) { nanos = 31_557_600_000_000_000 }
 humantime_row_of Month = record (with_names (codes "M" ∷ []) (row_of Month)) { nanos = 2_630_016_000_000_000 }

@@ -1,4 +1,5 @@
--- What callers see of the iterator `Tokens`: the text, how far it is cut, and the tokens that are left.
+-- What callers see of the iterator `Tokens`: the text, how far it is cut, and the tokens that are
+-- left.
 use Rattle.std.specs.Prelude.{◌≡◌, ℕ, ◌+◌, List, length, Option, IfSome, IfNone, slice_range, chars, drop}
 use Rattle.std.specs.Iterator.{YieldsFirstBy}
 use Rattle.duration_str.specs.declared.options.Options.{Options}

@@ -51,15 +51,16 @@ HasNoCapital text = IsTrue (list_all (λ c. not (is_ascii_uppercase c)) text)
 abbrev pub HasNoChinese : Characters → Type 0
 HasNoChinese text = IsTrue (list_all (λ c. not (is_chinese c)) text)
 
--- Two sentences that spell a text are equal. A sentence spells a text exactly if the sentence's lexemes are those of
--- the text's tokens.
+-- Two sentences that spell a text are equal. A sentence spells a text exactly if the sentence's
+-- lexemes are those of the text's tokens.
 pub record OneSentence : Type 0 where
   pub equal : (r : Rules) (text : Characters) (lexemes others : List Characters)
       → IsSentenceOf r lexemes text → IsSentenceOf r others text → lexemes ≡ others
   pub tokens : (r : Rules) (text : Characters) (lexemes : List Characters) → IsSentence r (map (terminal_of r) lexemes)
       → (Spells lexemes text ↔ (lexemes ≡ lexemes_of (tokens_of r.options text)))
 
--- These characters are a run of digits or of unit letters, or a single character that is not a blank.
+-- These characters are a run of digits or of unit letters, or a single character that is not a
+-- blank.
 abbrev pub IsLexeme : Options → Characters → Type 0
 IsLexeme o [] = ⊥
 IsLexeme o (c ∷ cs) = (is_blank c ≡ false) × IsTrue (list_all (are_of_one_run o c) cs)
@@ -69,7 +70,8 @@ abbrev pub EndsRun : Options → Characters → Characters → Type 0
 EndsRun o [] rest = ⊤
 EndsRun o (c ∷ cs) rest = goes_on o c rest ≡ false
 
--- The text, which starts at byte `at`, is blanks, then the token, which is as long as possible, and then the rest.
+-- The text, which starts at byte `at`, is blanks, then the token, which is as long as possible, and
+-- then the rest.
 pub record IsNextToken (o : Options) (at : ℕ) (text : Characters) (token : Token) (rest : Characters) : Type 0 where
   pub blanks : Characters
   pub blank : IsBlank blanks
@@ -105,8 +107,9 @@ pub record AnswerIsReading : Type 0 where
   pub read : (r : Rules) (text : Characters) (nanos : ℕ) → (answer r text ≡ Ok nanos ↔ IsRead r text nanos)
   pub refused : (r : Rules) (text : Characters) (cause : Cause) → (answer r text ≡ Err cause ↔ IsRefused r text cause)
 
--- The table `expected_after` says, for each terminal that can end the beginning of a sentence, what can follow it. The
--- longest prefix of the terminals that begins a sentence is the one that the table allows (`front_of`).
+-- The table `expected_after` says, for each terminal that can end the beginning of a sentence, what
+-- can follow it. The longest prefix of the terminals that begins a sentence is the one that the
+-- table allows (`front_of`).
 pub record PlaceAndKinds : Type 0 where
   pub kinds : (r : Rules) (front : List Terminal) (expected : Expected) → BeginsSentence r front
       → (CanFollow r front expected ↔ (expected ≡ expected_after r (last_of None front)))
@@ -130,13 +133,14 @@ abbrev pub NoCalcAgrees : Type 0
 NoCalcAgrees = (r : Rules) (text : Characters) (nanos : ℕ) → HasNoOperator text
     → (IsRead (with_no_calc r true) text nanos ↔ IsRead (with_no_calc r false) text nanos)
 
--- With the option on and with the option off, the text is read as the same value or refused for the same cause.
+-- With the option on and with the option off, the text is read as the same value or refused for the
+-- same cause.
 pub record IsIdle (choice : Bool → Rules) (text : Characters) : Type 0 where
   pub value : (nanos : ℕ) → (IsRead (choice true) text nanos ↔ IsRead (choice false) text nanos)
   pub cause : (cause : Cause) → (IsRefused (choice true) text cause ↔ IsRefused (choice false) text cause)
 
--- `lowercase` changes nothing for a text without ASCII capitals. By the library's own table `cn_unit` changes nothing
--- for a text without the Chinese characters of the units.
+-- `lowercase` changes nothing for a text without ASCII capitals. By the library's own table
+-- `cn_unit` changes nothing for a text without the Chinese characters of the units.
 pub record OptionsIdle : Type 0 where
   pub lowercase : (r : Rules) (text : Characters) → HasNoCapital text → IsIdle (with_lowercase r) text
   pub cn_unit : (default_unit : Option TimeUnit) (o : Options) (text : Characters) → HasNoChinese text
@@ -149,8 +153,8 @@ pub record BlanksFree : Type 0 where
   pub cause : (r : Rules) (a b : Characters) (lexemes : List Characters) (cause : Cause)
       → IsSentenceOf r lexemes a → Spells lexemes b → IsRefused r a cause → IsRefused r b cause
 
--- If `no_calc` is off, two accepted texts without `*`, joined by a plus, have the sum of their values, or are refused
--- as an overflow if that sum is 2^64 or more.
+-- If `no_calc` is off, two accepted texts without `*`, joined by a plus, have the sum of their
+-- values, or are refused as an overflow if that sum is 2^64 or more.
 pub record SumOfTexts : Type 0 where
   pub below : (r : Rules) (a b : Characters) (m n : ℕ) → r.options.no_calc ≡ false → HasNoStar a → HasNoStar b
       → IsRead r a m → IsRead r b n → m + n < 2 ^ 64 → IsRead r (a ++ codes "+" ++ b) (m + n)
@@ -168,8 +172,8 @@ AllPlus [] = ⊤
 AllPlus (operator op ∷ terminals) = (op ≡ Plus) × AllPlus terminals
 AllPlus (terminal ∷ terminals) = AllPlus terminals
 
--- By the library's own table: if the terms of two sums have the same values, maybe in another order, and one sum is
--- accepted, the other sum is accepted too, and has the same value.
+-- By the library's own table: if the terms of two sums have the same values, maybe in another
+-- order, and one sum is accepted, the other sum is accepted too, and has the same value.
 abbrev pub Reorder : Type 0
 Reorder =
     (default_unit : Option TimeUnit) (o : Options) (a b : Characters) (lexemes others : List Characters) (nanos : ℕ)
@@ -180,9 +184,9 @@ Reorder =
     ≡ times_in n (map value_of_term (written_terms r others)))
     → IsRead r a nanos → IsRead r b nanos
 
--- A text of two terms joined by `*` is read exactly if both numbers, both terms and their product are below 2^64, and
--- it is read as that product. The product is that of the terms in seconds, rounded down to nanoseconds. If the terms
--- are exchanged, the text is read as the same value.
+-- A text of two terms joined by `*` is read exactly if both numbers, both terms and their product
+-- are below 2^64, and it is read as that product. The product is that of the terms in seconds,
+-- rounded down to nanoseconds. If the terms are exchanged, the text is read as the same value.
 pub record TwoFactors : Type 0 where
   pub product : (r : Rules) (text : Characters) (lexemes : List Characters) (t u : Term) (nanos : ℕ)
       → IsSentenceOf r lexemes text → written_terms r lexemes ≡ t ∷ u ∷ [] → u.operator ≡ Star
@@ -196,7 +200,8 @@ pub record TwoFactors : Type 0 where
       → v.number ≡ u.number → v.length ≡ u.length → w.number ≡ t.number → w.length ≡ t.length
       → IsRead r a nanos → IsRead r b nanos
 
--- the count of each length: the nanoseconds that the longer lengths leave, divided by this length and rounded down
+-- the count of each length: the nanoseconds that the longer lengths leave, divided by this length
+-- and rounded down
 abbrev pub counts_of : List ℕ → ℕ → List ℕ
 counts_of [] nanos = []
 counts_of (l ∷ lengths) nanos = nanos / l ∷ counts_of lengths (nanos % l)
@@ -210,8 +215,9 @@ abbrev pub EqualTexts : Type 0
 EqualTexts = (style : Style) (m n : ℕ) (a b : Characters) → FitsDuration m → FitsDuration n
     → IsPrintedIn style m a → IsPrintedIn style n b → (a ≡ b ↔ m ≡ n)
 
--- By the library's own table, a duration below 2^64 ns, printed in any style, is read back as itself. The text of any
--- other duration is refused as an overflow, from 585 years on in its first term.
+-- By the library's own table, a duration below 2^64 ns, printed in any style, is read back as
+-- itself. The text of any other duration is refused as an overflow, from 585 years on in its first
+-- term.
 pub record ReadsBack : Type 0 where
   pub below : (default_unit : Option TimeUnit) (o : Options) (style : Style) (nanos : ℕ) (text : Characters)
       → nanos < 2 ^ 64
@@ -236,10 +242,10 @@ pub record IsSameUnit (older row : UnitRow) : Type 0 where
   pub printed : row.printed ≡ older.printed
   pub long : long_name row ≡ long_name older
 
--- Each name in the table from before the quarter still names its unit, and that unit has the same length and the same
--- printed names. A sentence with that table is a sentence with today's table, and has the same terminals. So a text
--- that was read then is read as the same value, and a text whose evaluation was refused then is refused for the same
--- cause.
+-- Each name in the table from before the quarter still names its unit, and that unit has the same
+-- length and the same printed names. A sentence with that table is a sentence with today's table,
+-- and has the same terminals. So a text that was read then is read as the same value, and a text
+-- whose evaluation was refused then is refused for the same cause.
 pub record OlderTexts : Type 0 where
   pub names : (o : Options) (name : Characters) (u : TimeUnit) → unit_of_word (older_rules o) name ≡ Some u
       → unit_of_word (rules_of o) name ≡ Some u
@@ -254,20 +260,21 @@ pub record OlderTexts : Type 0 where
   pub cause : (o : Options) (text : Characters) (cause : Cause) → WasRefused o text cause
       → IsRefused (rules_of o) text cause
 
--- If a format has all units and at least as many parts as there are units, a duration is printed in full.
+-- If a format has all units and at least as many parts as there are units, a duration is printed in
+-- full.
 abbrev pub AllParts : Type 0
 AllParts = (style : Style) (parts nanos : ℕ) (text : Characters) → length units ≤ parts
     → (IsPrintedWithin (record whole_format { parts = parts; style = style }) nanos text ↔ IsPrintedIn style nanos text)
 
--- The duration fits into the format: its greatest breakdown into the format's units and all shorter ones has no more
--- parts than the format allows, and each part is in one of the format's units.
+-- The duration fits into the format: its greatest breakdown into the format's units and all shorter
+-- ones has no more parts than the format allows, and each part is in one of the format's units.
 pub record KeepsWithin (format : Format) (nanos : ℕ) (counts : List ℕ) : Type 0 where
   pub breakdown : IsGreatestBreakdown (map nanos_of (units_within format ++ shorter_units (units_within format))) nanos counts
   pub few : part_count counts ≤ format.parts
   pub whole : weighted_sum (lengths_within format) counts ≡ nanos
 
--- The duration `most` prints as this text too, and the text is read as `most` if that is below 2^64 nanoseconds. And
--- `most` is the greatest duration, up to `nanos`, that fits into the format.
+-- The duration `most` prints as this text too, and the text is read as `most` if that is below 2^64
+-- nanoseconds. And `most` is the greatest duration, up to `nanos`, that fits into the format.
 pub record IsMostWithin (format : Format) (nanos : ℕ) (text : Characters) (most : ℕ) : Type 0 where
   pub again : IsPrintedWithin format most text
   pub read : (default_unit : Option TimeUnit) (o : Options) → most < 2 ^ 64
@@ -282,23 +289,24 @@ abbrev pub NeverMore : Type 0
 NeverMore = (format : Format) (nanos : ℕ) (text : Characters) → IsPrintedWithin format nanos text
     → (most : ℕ) × IsMostWithin format nanos text most
 
--- The parts that calls of `next` return one after another are the first of those that were left. They and the
--- nanoseconds that they leave add up to the nanoseconds that were left before.
+-- The parts that calls of `next` return one after another are the first of those that were left.
+-- They and the nanoseconds that they leave add up to the nanoseconds that were left before.
 pub record PartsAndRest : Type 0 where
   pub first : (old new : Breakdown) (parts : List (TimeUnit × ℕ)) → Yields YieldsPart old parts new
       → parts_left old ≡ parts ++ parts_left new
   pub rest : (old new : Breakdown) (parts : List (TimeUnit × ℕ)) → Yields YieldsPart old parts new
       → nanos_left old ≡ sum_of_parts parts + nanos_left new
 
--- Under these options the word is near the unit's names but names no unit, and the advised name names the unit.
+-- Under these options the word is near the unit's names but names no unit, and the advised name
+-- names the unit.
 pub record IsAdvised (o : Options) (word name : Characters) : Type 0 where
   pub unit : TimeUnit
   pub near : is_among (near_words unit) (map to_ascii_lowercase (encode_utf8_all word)) ≡ true
   pub unread : unit_of_word (rules_of o) word ≡ None
   pub read : unit_of_word (rules_of o) name ≡ Some unit
 
--- Under all options, the name that is advised for a word names the unit that people mean by the word, and the word
--- itself names no unit.
+-- Under all options, the name that is advised for a word names the unit that people mean by the
+-- word, and the word itself names no unit.
 abbrev pub NearWords : Type 0
 NearWords = (o : Options) (word name : Characters) → near_name (encode_utf8_all word) ≡ Some name
     → IsAdvised o word name

@@ -17,8 +17,8 @@ abbrev pub sign_of : CondUnit → Characters
 sign_of Plus = codes "+"
 sign_of Star = codes "*"
 
--- the line that says what is wrong. For a syntax fault it names the units if a unit could stand at the place; or the
--- operators if an operator could; or otherwise a number
+-- the line that says what is wrong. For a syntax fault it names the units if a unit could stand at
+-- the place; or the operators if an operator could; or otherwise a number
 abbrev pub line_of : Cause → Characters
 line_of Empty = codes "Empty input"
 line_of (Syntax place expected) =
@@ -51,8 +51,9 @@ has_line_feed text = list_any (λ b. b == 10) text
 abbrev pub chars_before : Bytes → ℕ → ℕ
 chars_before text place = length (chars (take place text))
 
--- the message, given the place. Without a place it is the line alone. If the text has a line feed, it is `byte N: ` and
--- the line. Otherwise it is the text, a caret after one space for each character before the place, and the line
+-- the message, given the place. Without a place it is the line alone. If the text has a line feed,
+-- it is `byte N: ` and the line. Otherwise it is the text, a caret after one space for each
+-- character before the place, and the line
 abbrev pub placed_text : Bytes → Option ℕ → Bytes → Bytes
 placed_text text None line = line
 placed_text text (Some place) line =
@@ -84,7 +85,8 @@ abbrev pub IsParseError : {A : Type 0} → Characters → DError A → Type 0
 IsParseError line (ParseError text) = string_bytes text ≡ encode_utf8_all line
 IsParseError line OverflowError = ⊥
 
--- The error is `OverflowError` if the cause is an overflow, and otherwise `ParseError` with the line of the cause.
+-- The error is `OverflowError` if the cause is an overflow, and otherwise `ParseError` with the
+-- line of the cause.
 abbrev pub IsErrorOf : {A : Type 0} → Cause → DError A → Type 0
 IsErrorOf (Overflow place) error = error ≡ OverflowError
 IsErrorOf cause error = IsParseError (line_of cause) error

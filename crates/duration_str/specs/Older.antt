@@ -1,4 +1,5 @@
--- The table of units from before the quarter was added, and what a text was read as with that table.
+-- The table of units from before the quarter was added, and what a text was read as with that
+-- table.
 use Rattle.std.specs.Prelude.{◌≡◌, List, [], ◌∷◌, Option, Some, None, if◌then◌else◌, unwrap_or, codes}
 use Rattle.duration_str.specs.declared.options.Options.{Options}
 use Rattle.duration_str.specs.declared.unit.TimeUnit.{TimeUnit}
@@ -33,8 +34,8 @@ older_table u = unwrap_or (older_row_of u) (record { nanos = 0; printed = []; na
 abbrev pub older_rules : Options → Rules
 older_rules o = record { table = older_table; default_unit = Some Second; options = o }
 
--- the fault of these terms. Under `no_calc` it is the first fault in adding them one by one. Otherwise it is the fault
--- of the first term, or, if there is none, the fault of the evaluation
+-- the fault of these terms. Under `no_calc` it is the first fault in adding them one by one.
+-- Otherwise it is the fault of the first term, or, if there is none, the fault of the evaluation
 abbrev pub sentence_fault : Options → List Term → Option Cause
 sentence_fault o terms =
     if o.no_calc then running_fault [] terms else or_else (first_fault terms) (evaluation_fault terms)

@@ -15,8 +15,9 @@ use Rattle.duration_str.specs.Messages.{line_of, chars_before}
 
 -- ---- What is quoted
 
--- whether a character is safe in a line, and seen. It is not a control character, not a blank other than the space, and
--- not one that Unicode allows programs to ignore, such as marks of direction, tags and the soft hyphen
+-- whether a character is safe in a line, and seen. It is not a control character, not a blank other
+-- than the space, and not one that Unicode allows programs to ignore, such as marks of direction,
+-- tags and the soft hyphen
 abbrev pub is_plain : ℕ → Bool
 is_plain c =
     not (is_control c || c == 0xA0 || c == 0xAD || c == 0x34F || c == 0x61C || is_in_range 0x115F 0x1160 c
@@ -29,12 +30,13 @@ is_plain c =
 abbrev pub is_clear : ℕ → Bool
 is_clear c = is_plain c && not (c == 34 || c == 92)
 
--- the characters that show a character in a quote. They are the character itself, or its escape as Rust writes it:
--- `\"`, `\\`, `\t`, `\r`, `\n`, `\u{1b}`
+-- the characters that show a character in a quote. They are the character itself, or its escape as
+-- Rust writes it: `\"`, `\\`, `\t`, `\r`, `\n`, `\u{1b}`
 abbrev pub shown : ℕ → Characters
 shown c = if is_clear c then c ∷ [] else escape_default c
 
--- as much of the text as fits into this room, the closing quote, and three dots if something is left out
+-- as much of the text as fits into this room, the closing quote, and three dots if something is
+-- left out
 abbrev pub quoted_end : ℕ → Characters → Bytes
 quoted_end room [] = codes "\""
 quoted_end room (c ∷ text) =
@@ -47,8 +49,8 @@ quoted text = codes "\"" ++ quoted_end 40 text
 
 -- ---- What stands at a place
 
--- whether a character is an ASCII letter, or a plain character beyond ASCII that is no sign. Signs are, for example,
--- `½`, `×`, `€` and the full-width colon
+-- whether a character is an ASCII letter, or a plain character beyond ASCII that is no sign. Signs
+-- are, for example, `½`, `×`, `€` and the full-width colon
 abbrev pub is_letter : ℕ → Bool
 is_letter c =
     is_ascii_alphabetic c || (nat_le 0x80 c && is_plain c && not (is_in_range 0xA1 0xB4 c || is_in_range 0xB6 0xBF c
@@ -63,20 +65,21 @@ begins_with_letter (c ∷ text) = is_letter c
 abbrev pub is_like : ℕ → ℕ → Bool
 is_like c d = (is_digit d && is_digit c) || (is_letter d && is_letter c)
 
--- the run of digits or of letters that a text begins with, or its first character. It has at most 41 characters, of
--- which a quote shows 40
+-- the run of digits or of letters that a text begins with, or its first character. It has at most
+-- 41 characters, of which a quote shows 40
 abbrev pub first_piece : Characters → Characters
 first_piece [] = []
 first_piece (c ∷ text) = c ∷ take 40 (take_while (is_like c) text)
 
 -- ---- Help
 
--- the words near the month's names that mean a month only in small letters, since `Mo` is a megabyte
+-- the words near the month's names that mean a month only in small letters, since `Mo` is a
+-- megabyte
 abbrev pub small_words : List Characters
 small_words = codes "mo" ∷ codes "mos" ∷ []
 
--- the words near the microsecond's names that don't have the micro sign. The last five have the Greek letter mu
--- (U+03BC), which looks like the micro sign
+-- the words near the microsecond's names that don't have the micro sign. The last five have the
+-- Greek letter mu (U+03BC), which looks like the micro sign
 abbrev pub us_words : List Characters
 us_words =
     codes "usecs" ∷ codes "useconds" ∷ codes "micros" ∷ codes "μs" ∷ codes "μsec" ∷ codes "μsecs" ∷ codes "μsecond"
@@ -100,8 +103,8 @@ near_words NanoSecond = codes "nsecs" ∷ codes "nanos" ∷ []
 abbrev pub is_among : List Characters → Bytes → Bool
 is_among words bytes = list_any (bytes_eq bytes) (map encode_utf8_all words)
 
--- the name to write instead of a word, given the word's bytes. It is the printed name of the unit that the word is
--- near, but `us` instead of `µs` for a word without the micro sign
+-- the name to write instead of a word, given the word's bytes. It is the printed name of the unit
+-- that the word is near, but `us` instead of `µs` for a word without the micro sign
 abbrev pub near_name : Bytes → Option Characters
 near_name word =
     let small = map to_ascii_lowercase word in
@@ -121,14 +124,14 @@ listed_names = codes "y, q, mon, w, d, h, min, s, ms, us or ns)"
 abbrev pub help_or_units : Bytes → Bytes
 help_or_units help = if length help == 0 then codes " (write " ++ listed_names else help
 
--- the help for a word that is no unit: the name that it is near, or otherwise the help for its place, or otherwise the
--- names of all units
+-- the help for a word that is no unit: the name that it is near, or otherwise the help for its
+-- place, or otherwise the names of all units
 abbrev pub unit_help : Option Characters → Bytes → Bytes
 unit_help (Some name) help = name_help (encode_utf8_all name)
 unit_help None help = help_or_units help
 
--- the help for a piece that has only blanks before it, given the piece's bytes and the byte after it. There is help for
--- a sign before a digit or a point, and for `P` or `PT` before a digit
+-- the help for a piece that has only blanks before it, given the piece's bytes and the byte after
+-- it. There is help for a sign before a digit or a point, and for `P` or `PT` before a digit
 abbrev pub first_help : Bytes → ℕ → Bytes
 first_help piece next =
     let is_signed = is_digit next || next == 46 in
@@ -139,8 +142,8 @@ first_help piece next =
     then codes " (ISO 8601 is not read: write 1mon 30m for P1MT30M)"
     else []
 
--- the help for a piece after a digit, given the piece's bytes and the byte after it. There is help for `e` before a
--- digit, `-` or `+`, and for a comma, `_`, `'` or a colon before a digit
+-- the help for a piece after a digit, given the piece's bytes and the byte after it. There is help
+-- for `e` before a digit, `-` or `+`, and for a comma, `_`, `'` or a colon before a digit
 abbrev pub digit_help : Bytes → ℕ → Bytes
 digit_help piece next =
     let is_between = is_digit next in
@@ -150,9 +153,10 @@ digit_help piece next =
     else if is_between && bytes_eq piece (codes ":") then codes " (clock times are not read: write 1h 30m or 1m 30s)"
     else []
 
--- the help for the piece at byte `place`, given the piece's bytes. There is help for `,`, `&` and `and` after a unit,
--- which is where both a number and the end could stand. There is help for a point after a letter or a byte beyond
--- ASCII, or before a digit. And there is help for some pieces that have only blanks, or a digit, before them
+-- the help for the piece at byte `place`, given the piece's bytes. There is help for `,`, `&` and
+-- `and` after a unit, which is where both a number and the end could stand. There is help for a
+-- point after a letter or a byte beyond ASCII, or before a digit. And there is help for some pieces
+-- that have only blanks, or a digit, before them
 abbrev pub help_at : Expected → Bytes → ℕ → Bytes → Bytes
 help_at expected text place piece =
     let before = take place text in
@@ -169,9 +173,10 @@ help_at expected text place piece =
     else if is_digit last then digit_help piece next
     else []
 
--- the help at the end of a line that says what was expected. It is the help for the place, if there is some. Otherwise,
--- if a unit could stand at the place, and neither an operator nor the end, a number lacks its unit, and the help says
--- what to write. That is `0s` if the whole text is zeros and blanks, since zero is the same in each unit
+-- the help at the end of a line that says what was expected. It is the help for the place, if there
+-- is some. Otherwise, if a unit could stand at the place, and neither an operator nor the end, a
+-- number lacks its unit, and the help says what to write. That is `0s` if the whole text is zeros
+-- and blanks, since zero is the same in each unit
 abbrev pub missing_unit_help : Expected → Bytes → Bytes → Bytes
 missing_unit_help expected text help =
     let lacks_unit = expected.unit_word && not (expected.operator || expected.text_end) in
@@ -223,8 +228,8 @@ syntax_line text place expected piece =
 abbrev pub text_line : Bytes → Bytes → Bytes → Bytes
 text_line problem text help = problem ++ (codes " in " ++ (quoted (chars text) ++ help))
 
--- the line of an overflow. If the text has a `*`, a step can be too large though the value is not, so the line then
--- speaks of a step
+-- the line of an overflow. If the text has a `*`, a step can be too large though the value is not,
+-- so the line then speaks of a step
 abbrev pub overflow_line : Bytes → Bytes
 overflow_line text =
     if list_any (λ b. b == 42) text then text_line (codes "step of over 584 years") text []

@@ -1,4 +1,5 @@
--- The results of the other calls that read a text: values of other types, nanoseconds, the number of looks.
+-- The results of the other calls that read a text: values of other types, nanoseconds, the number
+-- of looks.
 use Rattle.std.specs.Prelude.{◌≡◌, ℕ, ◌≤◌, Result, Ok, Err, IfOk, IfErr, IsOk, length, take, chars}
 use Rattle.duration_str.specs.declared.cause.Cause.{Cause}
 use Rattle.duration_str.specs.declared.cause.Cause.TheVariants.{Syntax}
@@ -8,8 +9,8 @@ use Rattle.duration_str.specs.Text.{Bytes}
 use Rattle.duration_str.specs.Rules.{Rules}
 use Rattle.duration_str.specs.Reading.{IsRead, IsRefused}
 
--- The result is a value for which `reads` holds, or a fault with exactly these bytes, and `refuses` holds for its
--- cause.
+-- The result is a value for which `reads` holds, or a fault with exactly these bytes, and `refuses`
+-- holds for its cause.
 abbrev pub IsValueOrFault : {T : Type 0} → (T → Type 0) → (Cause → Type 0) → Bytes → Result T Fault → Type 0
 IsValueOrFault reads refuses bytes (Ok value) = reads value
 IsValueOrFault reads refuses bytes (Err fault) = (fault.text.now ≡ bytes) × refuses fault.cause

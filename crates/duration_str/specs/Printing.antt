@@ -33,11 +33,13 @@ last_but_one [] = []
 last_but_one (name ∷ last ∷ []) = name
 last_but_one (_ ∷ names) = last_but_one names
 
--- the long name for a count of 1, which is the last name but one. With an `s` after it, it is the last name
+-- the long name for a count of 1, which is the last name but one. With an `s` after it, it is the
+-- last name
 abbrev pub long_name : UnitRow → Characters
 long_name row = last_but_one row.names
 
--- a unit's name after a count. In the long style it is the long name, with an `s` unless `one` says that the count is 1
+-- a unit's name after a count. In the long style it is the long name, with an `s` unless `one` says
+-- that the count is 1
 abbrev pub name_in : Style → Bool → TimeUnit → Characters
 name_in Long one u = long_name (row_of u) ++ (if one then [] else codes "s")
 name_in style one u = (row_of u).printed

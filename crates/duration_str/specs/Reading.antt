@@ -23,8 +23,8 @@ without_last_number [] = []
 without_last_number (number n ∷ []) = []
 without_last_number (terminal ∷ terminals) = terminal ∷ without_last_number terminals
 
--- the terminals of the complete terms of the front. A number at the end of the front has no unit, so it is a complete
--- term only if there is a default unit and the front is the whole text
+-- the terminals of the complete terms of the front. A number at the end of the front has no unit,
+-- so it is a complete term only if there is a default unit and the front is the whole text
 abbrev pub complete_terminals : Rules → List Terminal → List Terminal → List Terminal
 complete_terminals r front [] = if is_some r.default_unit then front else without_last_number front
 complete_terminals r front (terminal ∷ rest) = without_last_number front
@@ -33,7 +33,8 @@ complete_terminals r front (terminal ∷ rest) = without_last_number front
 abbrev pub complete_terms : Rules → List Terminal → List Terminal → List Term
 complete_terms r front rest = terms_of r (complete_terminals r front rest)
 
--- the place in a term's fault, given the terms before it: 0 for the first term, and none for the others
+-- the place in a term's fault, given the terms before it: 0 for the first term, and none for the
+-- others
 abbrev pub place_after : List Term → Option ℕ
 place_after [] = Some 0
 place_after (t ∷ before) = None
@@ -51,14 +52,14 @@ running_fault before (t ∷ terms) =
     (or_else (unless (fits (sum_of (before ++ t ∷ []))) (Overflow None))
     (running_fault (before ++ t ∷ []) terms))
 
--- the fault that comes before a syntax fault. It is the fault of the first term if that term is complete, or under
--- `no_calc` the first fault in adding all complete terms
+-- the fault that comes before a syntax fault. It is the fault of the first term if that term is
+-- complete, or under `no_calc` the first fault in adding all complete terms
 abbrev pub early_fault : Rules → List Terminal → List Terminal → Option Cause
 early_fault r front rest =
     if r.options.no_calc then running_fault [] (complete_terms r front rest) else first_fault (complete_terms r front rest)
 
--- the fault that comes after a syntax fault. It is the fault of the evaluation. Under `no_calc` there is none, since
--- each fault comes early
+-- the fault that comes after a syntax fault. It is the fault of the evaluation. Under `no_calc`
+-- there is none, since each fault comes early
 abbrev pub late_fault : Rules → List Terminal → Option Cause
 late_fault r terminals = if r.options.no_calc then None else evaluation_fault (terms_of r terminals)
 
@@ -71,8 +72,8 @@ pub data IsRefusedAt (r : Rules) (place : ℕ) (front rest : List Terminal) (cau
   late : early_fault r front rest ≡ None → IsSentence r (front ++ rest) → late_fault r (front ++ rest) ≡ Some cause
       → IsRefusedAt r place front rest cause
 
--- The text is refused for this cause. The empty text is refused as `Empty`, and any other text by its front and the
--- rest after it.
+-- The text is refused for this cause. The empty text is refused as `Empty`, and any other text by
+-- its front and the rest after it.
 abbrev pub IsRefused : Rules → Characters → Cause → Type 0
 IsRefused r [] cause = cause ≡ Empty
 IsRefused r (c ∷ text) cause =

@@ -11,8 +11,9 @@ use Rattle.duration_str.specs.OneLine.{is_clear, one_line_of}
 abbrev pub is_clear_text : Characters → Bool
 is_clear_text text = nat_le (length text) 80 && list_all is_clear text
 
--- whether a character counts as two columns of a terminal. Only digits, operators, spaces and the letters of units
--- stand before a syntax fault, and of these only the Chinese letters are from U+2E80 on
+-- whether a character counts as two columns of a terminal. Only digits, operators, spaces and the
+-- letters of units stand before a syntax fault, and of these only the Chinese letters are from
+-- U+2E80 on
 abbrev pub is_wide : ℕ → Bool
 is_wide c = nat_le 0x2E80 c
 
@@ -20,8 +21,8 @@ is_wide c = nat_le 0x2E80 c
 abbrev pub columns_of : Characters → ℕ
 columns_of text = length text + count_by is_wide text
 
--- the bytes of the report, given the bytes of the text that was read. It is the line. For a syntax fault in a text that
--- can stand above a caret, the text and the caret are above the line
+-- the bytes of the report, given the bytes of the text that was read. It is the line. For a syntax
+-- fault in a text that can stand above a caret, the text and the caret are above the line
 abbrev pub report_of : Bytes → Cause → Bytes
 report_of text (Syntax place expected) =
     let line = one_line_of text (Syntax place expected) in

@@ -8,8 +8,8 @@ use Rattle.duration_str.specs.declared.unit.TimeUnit.TheVariants.{Second}
 use Rattle.duration_str.specs.Text.{Characters}
 use Rattle.duration_str.specs.Units.{UnitRow, row_of, units}
 
--- The rules by which a text is read: the row of each unit, the default unit, which a number without a unit has (or
--- `None` if each number needs its unit), and the options.
+-- The rules by which a text is read: the row of each unit, the default unit, which a number without
+-- a unit has (or `None` if each number needs its unit), and the options.
 pub record Rules : Type 0 where
   pub table : TimeUnit → UnitRow
   pub default_unit : Option TimeUnit
@@ -23,7 +23,8 @@ rules_with o default_unit = record { table = row_of; default_unit = default_unit
 abbrev pub rules_of : Options → Rules
 rules_of o = rules_with o (Some Second)
 
--- the word as compared with the names: its ASCII capitals become small letters, unless `lowercase` is on
+-- the word as compared with the names: its ASCII capitals become small letters, unless `lowercase`
+-- is on
 abbrev pub comparison_form : Options → Characters → Characters
 comparison_form o word = if o.lowercase then word else map to_ascii_lowercase word
 

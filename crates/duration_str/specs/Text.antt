@@ -30,7 +30,8 @@ chinese_letters = codes "年月周日天时分秒毫微纳"
 abbrev pub is_chinese : ℕ → Bool
 is_chinese c = list_any (λ d. d == c) chinese_letters
 
--- whether a character is an ASCII letter, µ (U+00B5), or, with `cn_unit`, one of the Chinese letters
+-- whether a character is an ASCII letter, µ (U+00B5), or, with `cn_unit`, one of the Chinese
+-- letters
 abbrev pub is_unit_letter : Options → ℕ → Bool
 is_unit_letter o c = is_ascii_alphabetic c || c == 0xB5 || (o.cn_unit && is_chinese c)
 

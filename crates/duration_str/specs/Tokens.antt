@@ -1,4 +1,5 @@
--- The tokens of a text: the longest runs of digits and of unit letters, and other single characters except blanks.
+-- The tokens of a text: the longest runs of digits and of unit letters, and other single characters
+-- except blanks.
 use Rattle.std.specs.Prelude.{ℕ, ◌+◌, Bool, false, ◌&&◌, ◌||◌, List, [], ◌∷◌, if◌then◌else◌, map}
 use Rattle.duration_str.specs.declared.options.Options.{Options}
 use Rattle.duration_str.specs.Text.{Characters, width, is_blank, is_digit, is_unit_letter}

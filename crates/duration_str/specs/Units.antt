@@ -4,8 +4,9 @@ use Rattle.duration_str.specs.declared.unit.TimeUnit.{TimeUnit}
 use Rattle.duration_str.specs.declared.unit.TimeUnit.TheVariants.{Year, Quarter, Month, Week, Day, Hour, Minute, Second, MilliSecond, MicroSecond, NanoSecond}
 use Rattle.duration_str.specs.Text.{Characters}
 
--- a unit's length in nanoseconds, the name that is printed, the names that are read, and the names that are read only
--- with `cn_unit`. Of the names that are read, the last two are the long name, which is also printed, and its plural
+-- a unit's length in nanoseconds, the name that is printed, the names that are read, and the names
+-- that are read only with `cn_unit`. Of the names that are read, the last two are the long name,
+-- which is also printed, and its plural
 pub record UnitRow : Type 0 where
   pub nanos : ℕ
   pub printed : Characters

@@ -25,8 +25,9 @@ value_of_term t = t.number * t.length
 abbrev pub one_second : ℕ
 one_second = nanos_of Second
 
--- the terms that these terminals write after the operator `op`. If an operator is left out, it is plus. If a unit is
--- left out, it is the default unit. Without a default unit no sentence leaves a unit out, so the second is never used
+-- the terms that these terminals write after the operator `op`. If an operator is left out, it is
+-- plus. If a unit is left out, it is the default unit. Without a default unit no sentence leaves a
+-- unit out, so the second is never used
 abbrev pub terms_after : Rules → CondUnit → List Terminal → List Term
 terms_after r op (number n ∷ word (Some u) ∷ more) =
     record { operator = op; number = n; length = (r.table u).nanos } ∷ terms_after r Plus more
@@ -55,8 +56,8 @@ abbrev pub sum_of : List Term → ℕ
 sum_of [] = 0
 sum_of (t ∷ terms) = value_of_term t + sum_of terms
 
--- the product of the terms' values in seconds, in nanoseconds. It is computed from left to right, and each step is
--- rounded down
+-- the product of the terms' values in seconds, in nanoseconds. It is computed from left to right,
+-- and each step is rounded down
 abbrev pub product_of : List Term → ℕ
 product_of terms = fold (λ p t. p * value_of_term t / one_second) one_second terms
 
@@ -70,9 +71,9 @@ abbrev pub combination : CondUnit → ℕ → ℕ → ℕ
 combination Plus x rest = x + rest
 combination Star x rest = x * rest / one_second
 
--- the value of a sentence in nanoseconds, given its terms. It is `None` if there are no terms, or if the operators are
--- mixed. The first term is combined last: in `a*b*c` it is multiplied by the product of `b` and `c`, which is rounded
--- down first
+-- the value of a sentence in nanoseconds, given its terms. It is `None` if there are no terms, or
+-- if the operators are mixed. The first term is combined last: in `a*b*c` it is multiplied by the
+-- product of `b` and `c`, which is rounded down first
 abbrev pub value_of : List Term → Option ℕ
 value_of [] = None
 value_of (t ∷ []) = Some (value_of_term t)
@@ -100,8 +101,8 @@ abbrev pub term_fault : Option ℕ → Term → Option Cause
 term_fault place t =
     or_else (unless (fits t.number) (NumberTooLarge place)) (unless (fits (value_of_term t)) (Overflow place))
 
--- the first fault of the later terms that follow those in `before`, which have no fault. `op` is the operator of the
--- first later term
+-- the first fault of the later terms that follow those in `before`, which have no fault. `op` is
+-- the operator of the first later term
 abbrev pub fault_of_terms : CondUnit → List Term → List Term → Option Cause
 fault_of_terms op before [] = None
 fault_of_terms op before (t ∷ later) =
@@ -110,8 +111,8 @@ fault_of_terms op before (t ∷ later) =
     (or_else (unless (fits (later_total op (before ++ t ∷ []))) (Overflow None))
     (fault_of_terms op (before ++ t ∷ []) later)))
 
--- the fault of a sentence whose first term has no fault. It is the fault of the later terms, or, if there is none, the
--- fault of the step that combines the first term with them
+-- the fault of a sentence whose first term has no fault. It is the fault of the later terms, or, if
+-- there is none, the fault of the step that combines the first term with them
 abbrev pub evaluation_fault : List Term → Option Cause
 evaluation_fault (t ∷ u ∷ later) =
     or_else (fault_of_terms u.operator [] (u ∷ later))

@@ -16,7 +16,10 @@ use crate::settings::Settings;
 /// use duration_str::{Cause, Options, parse_with};
 ///
 /// let cause = parse_with("1m+", Options::off()).unwrap_err().cause();
-/// assert!(matches!(cause, Cause::Syntax { place: 3, expected } if expected.number && !expected.text_end));
+/// assert!(matches!(
+///     cause,
+///     Cause::Syntax { place: 3, expected } if expected.number && !expected.text_end
+/// ));
 /// ```
 #[derive(Clone, Copy, Debug, PartialEq, Eq, Hash)]
 pub struct Expected {

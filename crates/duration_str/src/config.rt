@@ -155,7 +155,8 @@ pub fn deserialize_duration_time<'de>(value: &'de Value) -> Result<SignedDuratio
 /// Returns what `deserialize_duration` returns for an `Option<Duration>`.
 ///
 /// ```text
-/// config.get("keep_alive").map_or(Ok(None), deserialize_option_duration) // a field that may be missing
+/// // a field that may be missing
+/// config.get("keep_alive").map_or(Ok(None), deserialize_option_duration)
 /// ```
 pub fn deserialize_option_duration<'de>(value: &'de Value) -> Result<Option<Duration>, Fault<'de>>
     ensures { IsOptional (λ d. pos (as_nanos d)) (view value.now) result }

@@ -4,7 +4,7 @@ ghost use Rattle.std.specs.Duration.{as_nanos};
 ghost use Rattle.duration_str.specs.Printing.{IsPrinted};
 ghost use Rattle.duration_str.specs.declared.printing.TheConstants.{MAX_PRINTED_LEN};
 
-use crate::printing::{FORMAT_BUFFER_SIZE, write_human};
+use crate::printing::{HUMAN_BUFFER_SIZE, write_human};
 use std::alloc::{AllocError, Allocator};
 use std::time::Duration;
 
@@ -40,7 +40,7 @@ impl HumanFormat for Duration {
     }
 
     fn human_format<A: Allocator>(&self, alloc: A) -> Result<String<A>, AllocError> {
-        let mut buffer = [0; FORMAT_BUFFER_SIZE];
+        let mut buffer = [0; HUMAN_BUFFER_SIZE];
         String::from_str(alloc, write_human(self, &mut buffer))
     }
 }

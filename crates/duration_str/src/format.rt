@@ -14,11 +14,11 @@ use crate::unit::{TimeUnit, UNITS};
 /// them brings a unit back.
 ///
 /// ```
-/// use duration_str::{Format, STYLED_BUFFER_SIZE, TimeUnit, write_format};
+/// use duration_str::{FORMAT_BUFFER_SIZE, Format, TimeUnit, write_format};
 /// use std::time::Duration;
 ///
 /// let days = Format::whole().largest(TimeUnit::Day);
-/// let mut buffer = [0; STYLED_BUFFER_SIZE];
+/// let mut buffer = [0; FORMAT_BUFFER_SIZE];
 /// assert_eq!(write_format(&Duration::new(120 * 86_400, 5), days, &mut buffer), "120d 5ns");
 /// ```
 #[derive(Clone, Copy, Debug, PartialEq, Eq, Hash)]
@@ -35,11 +35,11 @@ pub struct Format {
 /// A set of units.
 ///
 /// ```
-/// use duration_str::{Format, STYLED_BUFFER_SIZE, TimeUnit, Units, write_format};
+/// use duration_str::{FORMAT_BUFFER_SIZE, Format, TimeUnit, Units, write_format};
 /// use std::time::Duration;
 ///
 /// let half_a_year = Duration::new(180 * 86_400, 0);
-/// let mut buffer = [0; STYLED_BUFFER_SIZE];
+/// let mut buffer = [0; FORMAT_BUFFER_SIZE];
 /// let mut usual = Format::whole();
 /// usual.units = Units::ALL.without(TimeUnit::Quarter).without(TimeUnit::Week);
 /// assert_eq!(write_format(&half_a_year, usual, &mut buffer), "6mon");
@@ -240,11 +240,11 @@ impl Format {
     /// Returns the same format without the units that are not in this list.
     ///
     /// ```
-    /// use duration_str::{Format, STYLED_BUFFER_SIZE, TimeUnit, write_format};
+    /// use duration_str::{FORMAT_BUFFER_SIZE, Format, TimeUnit, write_format};
     /// use std::time::Duration;
     ///
     /// let days = Format::whole().only(&[TimeUnit::Year, TimeUnit::Day]);
-    /// let mut buffer = [0; STYLED_BUFFER_SIZE];
+    /// let mut buffer = [0; FORMAT_BUFFER_SIZE];
     /// assert_eq!(write_format(&Duration::new(400 * 86_400, 0), days, &mut buffer), "1y 35d");
     /// ```
     #[inline]
@@ -261,11 +261,11 @@ impl Format {
     /// Returns the same format without this unit.
     ///
     /// ```
-    /// use duration_str::{Format, STYLED_BUFFER_SIZE, TimeUnit, write_format};
+    /// use duration_str::{FORMAT_BUFFER_SIZE, Format, TimeUnit, write_format};
     /// use std::time::Duration;
     ///
     /// let usual = Format::whole().without(TimeUnit::Quarter).without(TimeUnit::Week);
-    /// let mut buffer = [0; STYLED_BUFFER_SIZE];
+    /// let mut buffer = [0; FORMAT_BUFFER_SIZE];
     /// assert_eq!(write_format(&Duration::new(180 * 86_400, 0), usual, &mut buffer), "6mon");
     /// ```
     #[inline]
@@ -282,11 +282,12 @@ impl Format {
     /// Returns the same format without the units that are longer than this one.
     ///
     /// ```
-    /// use duration_str::{Format, STYLED_BUFFER_SIZE, TimeUnit, write_format};
+    /// use duration_str::{FORMAT_BUFFER_SIZE, Format, TimeUnit, write_format};
     /// use std::time::Duration;
     ///
     /// let minutes = Format::whole().largest(TimeUnit::Minute);
-    /// assert_eq!(write_format(&Duration::new(5_430, 0), minutes, &mut [0; STYLED_BUFFER_SIZE]), "90min 30s");
+    /// let mut buffer = [0; FORMAT_BUFFER_SIZE];
+    /// assert_eq!(write_format(&Duration::new(5_430, 0), minutes, &mut buffer), "90min 30s");
     /// ```
     #[inline]
     #[must_use]
@@ -302,10 +303,10 @@ impl Format {
     /// Returns the same format without the units that are shorter than this one.
     ///
     /// ```
-    /// use duration_str::{Format, STYLED_BUFFER_SIZE, TimeUnit, write_format};
+    /// use duration_str::{FORMAT_BUFFER_SIZE, Format, TimeUnit, write_format};
     /// use std::time::Duration;
     ///
-    /// let mut buffer = [0; STYLED_BUFFER_SIZE];
+    /// let mut buffer = [0; FORMAT_BUFFER_SIZE];
     /// let minutes = Format::whole().smallest(TimeUnit::Minute);
     /// assert_eq!(write_format(&Duration::new(5_430, 0), minutes, &mut buffer), "1h 30min");
     /// assert_eq!(write_format(&Duration::new(30, 0), minutes, &mut buffer), "0min");
@@ -324,11 +325,12 @@ impl Format {
     /// Returns the same format with at most `parts` parts.
     ///
     /// ```
-    /// use duration_str::{Format, STYLED_BUFFER_SIZE, write_format};
+    /// use duration_str::{FORMAT_BUFFER_SIZE, Format, write_format};
     /// use std::time::Duration;
     ///
     /// let one_part = Format::whole().parts(1);
-    /// assert_eq!(write_format(&Duration::new(5_430, 0), one_part, &mut [0; STYLED_BUFFER_SIZE]), "1h");
+    /// let mut buffer = [0; FORMAT_BUFFER_SIZE];
+    /// assert_eq!(write_format(&Duration::new(5_430, 0), one_part, &mut buffer), "1h");
     /// ```
     #[inline]
     #[must_use]
@@ -341,11 +343,12 @@ impl Format {
     /// Returns the same format in this style.
     ///
     /// ```
-    /// use duration_str::{Format, STYLED_BUFFER_SIZE, Style, write_format};
+    /// use duration_str::{FORMAT_BUFFER_SIZE, Format, Style, write_format};
     /// use std::time::Duration;
     ///
     /// let long = Format::whole().style(Style::Long);
-    /// assert_eq!(write_format(&Duration::new(5_400, 0), long, &mut [0; STYLED_BUFFER_SIZE]), "1 hour 30 minutes");
+    /// let mut buffer = [0; FORMAT_BUFFER_SIZE];
+    /// assert_eq!(write_format(&Duration::new(5_400, 0), long, &mut buffer), "1 hour 30 minutes");
     /// ```
     #[inline]
     #[must_use]

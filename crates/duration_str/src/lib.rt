@@ -39,8 +39,7 @@ pub use parser::{
     parse_nanos_specialized, parse_std, parse_with, parse_with_default_unit,
 };
 pub use printing::{
-    FORMAT_BUFFER_SIZE, MAX_LONG_LEN, MAX_PRINTED_LEN, STYLED_BUFFER_SIZE, write_format,
-    write_human,
+    FORMAT_BUFFER_SIZE, HUMAN_BUFFER_SIZE, MAX_LONG_LEN, MAX_PRINTED_LEN, write_format, write_human,
 };
 pub use report::REPORT_BUFFER_SIZE;
 pub use token::{Token, Tokens, What};

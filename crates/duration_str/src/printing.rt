@@ -31,33 +31,33 @@ use std::time::Duration;
 /// `100000000000y 3q 2mon 3w 6d 23h 59min 59s 999ms 999µs 999ns`.
 ///
 /// ```
-/// use duration_str::{FORMAT_BUFFER_SIZE, MAX_PRINTED_LEN, write_human};
+/// use duration_str::{HUMAN_BUFFER_SIZE, MAX_PRINTED_LEN, write_human};
 /// use std::time::Duration;
 ///
 /// let longest = Duration::new(3_153_600_000_031_190_399, 999_999_999);
-/// assert_eq!(write_human(&longest, &mut [0; FORMAT_BUFFER_SIZE]).len(), MAX_PRINTED_LEN);
+/// assert_eq!(write_human(&longest, &mut [0; HUMAN_BUFFER_SIZE]).len(), MAX_PRINTED_LEN);
 /// ```
 pub const MAX_PRINTED_LEN: usize = 60;
 
 /// The size of the buffer for `write_human`. It has room for the longest text and four more bytes,
 /// since every name is copied as four bytes.
-pub const FORMAT_BUFFER_SIZE: usize = 64;
+pub const HUMAN_BUFFER_SIZE: usize = 64;
 
 /// Prints a duration to the start of a buffer, and returns the text. The buffer's old contents do
 /// not matter. The text has at most `MAX_PRINTED_LEN` bytes, and bytes after it may change too. The
 /// call allocates nothing and cannot fail.
 ///
 /// ```
-/// use duration_str::{FORMAT_BUFFER_SIZE, write_human};
+/// use duration_str::{HUMAN_BUFFER_SIZE, write_human};
 /// use std::time::Duration;
 ///
-/// let mut buffer = [0; FORMAT_BUFFER_SIZE];
+/// let mut buffer = [0; HUMAN_BUFFER_SIZE];
 /// assert_eq!(write_human(&Duration::new(193, 29_000_000), &mut buffer), "3min 13s 29ms");
 /// assert_eq!(write_human(&Duration::ZERO, &mut buffer), "0s");
 /// ```
 #[tactic(auto, unfolding(crate::specs::Internal::PrintedBytes::digits))]
 #[must_use]
-pub fn write_human<'b>(d: &Duration, buffer: &'b mut [u8; FORMAT_BUFFER_SIZE]) -> &'b str
+pub fn write_human<'b>(d: &Duration, buffer: &'b mut [u8; HUMAN_BUFFER_SIZE]) -> &'b str
     ensures text { IsPrinted (as_nanos d.now) (chars result.now) }
     ensures short { length result.now ≤ MAX_PRINTED_LEN }
 {
@@ -71,7 +71,7 @@ pub fn write_human<'b>(d: &Duration, buffer: &'b mut [u8; FORMAT_BUFFER_SIZE]) -
 pub const MAX_LONG_LEN: usize = 134;
 
 /// The size of the buffer for `write_format`. It is the same for all styles.
-pub const STYLED_BUFFER_SIZE: usize = 144;
+pub const FORMAT_BUFFER_SIZE: usize = 144;
 
 /// Prints a duration in this format to the start of a buffer, and returns the text. The buffer's
 /// old contents do not matter.
@@ -87,11 +87,11 @@ pub const STYLED_BUFFER_SIZE: usize = 144;
 /// it may change too. The call allocates nothing and cannot fail.
 ///
 /// ```
-/// use duration_str::{Format, STYLED_BUFFER_SIZE, Style, TimeUnit, write_format};
+/// use duration_str::{FORMAT_BUFFER_SIZE, Format, Style, TimeUnit, write_format};
 /// use std::time::Duration;
 ///
 /// let build = Duration::new(193, 29_000_000);
-/// let mut buffer = [0; STYLED_BUFFER_SIZE];
+/// let mut buffer = [0; FORMAT_BUFFER_SIZE];
 /// let two_parts = Format::whole().parts(2);
 /// assert_eq!(write_format(&build, two_parts, &mut buffer), "3min 13s");
 /// let hours = Format::whole().smallest(TimeUnit::Hour);
@@ -106,7 +106,7 @@ pub const STYLED_BUFFER_SIZE: usize = 144;
 pub fn write_format<'b>(
     d: &Duration,
     format: Format,
-    buffer: &'b mut [u8; STYLED_BUFFER_SIZE],
+    buffer: &'b mut [u8; FORMAT_BUFFER_SIZE],
 ) -> &'b str
     ensures text { IsPrintedWithin format (as_nanos d.now) (chars result.now) }
     ensures short { length result.now ≤ most_len format.style }

@@ -97,7 +97,8 @@ impl TokenStart {
 /// ```
 /// use duration_str::{Options, Tokens};
 ///
-/// let texts: Vec<&str> = Tokens::new("13s + 29ms", Options::off()).map(|token| token.text).collect();
+/// let tokens = Tokens::new("13s + 29ms", Options::off());
+/// let texts: Vec<&str> = tokens.map(|token| token.text).collect();
 /// assert_eq!(texts, ["13", "s", "+", "29", "ms"]);
 /// ```
 #[derive(Drop)]

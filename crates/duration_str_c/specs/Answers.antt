@@ -27,9 +27,9 @@ has_flag bits flag = not (bit_and bits flag == 0)
 abbrev pub unit_field : ℕ → ℕ
 unit_field bits = bits / 2 ^ 16
 
--- whether the bits are options. These are the bits 1, 2, 4, 8, and the four bits from bit 16 on. The four
--- bits are 0, or a unit's index plus 1. If they are not 0, the flag 1 must be set, so that no operators are read, and
--- the flag 8, which requires a unit, must not be set
+-- whether the bits are options. These are the bits 1, 2, 4, 8, and the four bits from bit 16 on.
+-- The four bits are 0, or a unit's index plus 1. If they are not 0, the flag 1 must be set, so that
+-- no operators are read, and the flag 8, which requires a unit, must not be set
 abbrev pub are_options : ℕ → Bool
 are_options bits =
     bit_and bits 0xF000F == bits
@@ -44,8 +44,8 @@ AreOptions bits = IsTrue (are_options bits)
 abbrev pub options_of_bits : ℕ → Options
 options_of_bits bits = record { no_calc = has_flag bits 1; lowercase = has_flag bits 2; cn_unit = has_flag bits 4 }
 
--- the default unit. There is none if the flag 8 is set. Otherwise it is the one in the bits from bit 16 on, or the
--- second if they are 0
+-- the default unit. There is none if the flag 8 is set. Otherwise it is the one in the bits from
+-- bit 16 on, or the second if they are 0
 abbrev pub default_unit_of_bits : ℕ → Option TimeUnit
 default_unit_of_bits bits =
     if has_flag bits 8 then None
@@ -136,15 +136,16 @@ refusal_answer cause found_length = record {
   later_operator = later_sign cause;
 }
 
--- The answer says that the bytes are refused for this cause. The cause's place is a character boundary within the
--- bytes.
+-- The answer says that the bytes are refused for this cause. The cause's place is a character
+-- boundary within the bytes.
 abbrev pub TellsFault : Options → List ℕ → Cause → Answer → Type 0
 TellsFault o bytes cause answer =
     (answer ≡ refusal_answer cause (token_length (found_token o (chars bytes) cause)))
     × ForSome (place_of cause) (IsCharBoundary bytes)
 
--- One of four cases applies, and the proposition for it holds. The bits are not options; or the bytes are not UTF-8;
--- or they are read as a value under the options whose bits are set; or they are refused for a cause.
+-- One of four cases applies, and the proposition for it holds. The bits are not options; or the
+-- bytes are not UTF-8; or they are read as a value under the options whose bits are set; or they
+-- are refused for a cause.
 abbrev pub IsTold : Type 0 → Type 0 → (ℕ → Type 0) → (Cause → Type 0) → ℕ → List ℕ → Type 0
 IsTold Unknown NotUtf8 Value Refusal bits bytes =
     ((AreOptions bits → ⊥) × Unknown)

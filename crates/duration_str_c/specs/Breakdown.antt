@@ -14,15 +14,16 @@ count_of ((v, n) ∷ parts) u = if nanos_of v == nanos_of u then n else count_of
 abbrev pub counts_of : List (TimeUnit × ℕ) → List ℕ
 counts_of parts = map (count_of parts) units
 
--- A duration of `nanos` nanoseconds has parts in this format. These are the counts of all units among the parts, and
--- the parts and the rest are together the whole duration.
+-- A duration of `nanos` nanoseconds has parts in this format. These are the counts of all units
+-- among the parts, and the parts and the rest are together the whole duration.
 pub record IsBrokenDown (format : Format) (nanos : ℕ) (counts : List ℕ) (rest : ℕ) : Type 0 where
   pub parts : List (TimeUnit × ℕ)
   pub greatest : AreParts format nanos parts
   pub each : counts ≡ counts_of parts
   pub whole : nanos ≡ sum_of_parts parts + rest
 
--- A count or the rest needs more than 64 bits, if a duration of `nanos` nanoseconds is broken down in this format.
+-- A count or the rest needs more than 64 bits, if a duration of `nanos` nanoseconds is broken down
+-- in this format.
 pub record IsTooLarge (format : Format) (nanos : ℕ) : Type 0 where
   pub counts : List ℕ
   pub rest : ℕ

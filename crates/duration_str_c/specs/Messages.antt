@@ -3,23 +3,24 @@ use Rattle.std.specs.Prelude.{◌≡◌, ℕ, ◌+◌, ◌^◌, ◌-◌, ◌<◌
 use Rattle.duration_str.specs.declared.cause.Cause.{Cause}
 use Rattle.duration_str_c.specs.Answers.{IsTold}
 
--- `len` is the number of the bytes, or the greatest possible number. If there is room for the bytes and a zero, they
--- are at the start of the buffer, and the rest of the buffer is unchanged. Otherwise the whole buffer is unchanged.
+-- `len` is the number of the bytes, or the greatest possible number. If there is room for the bytes
+-- and a zero, they are at the start of the buffer, and the rest of the buffer is unchanged.
+-- Otherwise the whole buffer is unchanged.
 abbrev pub IsShown : List ℕ → List ℕ → ℕ → List ℕ → Type 0
 IsShown bytes old len new =
     (len ≡ min (length bytes) (2 ^ 64 - 1))
     × (length bytes < length old → new ≡ bytes ++ (0 ∷ drop (length bytes + 1) old))
     × (length old ≤ length bytes → new ≡ old)
 
--- The buffer shows what is wrong with the bytes. It shows nothing if they are read. If they are refused, it shows what
--- `shown` gives for the cause.
+-- The buffer shows what is wrong with the bytes. It shows nothing if they are read. If they are
+-- refused, it shows what `shown` gives for the cause.
 abbrev pub ShowsRefusal : (Cause → List ℕ) → ℕ → List ℕ → List ℕ → ℕ → List ℕ → Type 0
 ShowsRefusal shown bits bytes old len new =
     IsTold (IsShown (codes "unknown option") old len new) (IsShown (codes "not UTF-8") old len new)
     (λ nanos. IsShown [] old len new) (λ cause. IsShown (shown cause) old len new) bits bytes
 
--- The bytes are not a text that is refused for a cause. The line says that an option is unknown, or that the bytes are
--- not UTF-8. It is empty if the bytes are read.
+-- The bytes are not a text that is refused for a cause. The line says that an option is unknown, or
+-- that the bytes are not UTF-8. It is empty if the bytes are read.
 abbrev pub IsSaidOf : ℕ → List ℕ → List ℕ → Type 0
 IsSaidOf bits bytes line =
     IsTold (line ≡ codes "unknown option") (line ≡ codes "not UTF-8") (λ nanos. line ≡ []) (λ cause. ⊥) bits bytes

@@ -6,7 +6,7 @@ ghost use Rattle.duration_str.specs.declared.format.Style.TheVariants.{Short};
 ghost use Rattle.duration_str_c.specs.Format.{format_of, style_numbered, units_of};
 
 use crate::put;
-use duration_str::{Format, STYLED_BUFFER_SIZE, Style, Units, write_format};
+use duration_str::{FORMAT_BUFFER_SIZE, Format, Style, Units, write_format};
 use std::time::Duration;
 
 /// Prints a duration in the units of a set, in at most `parts` parts and in a style, to the start
@@ -23,7 +23,7 @@ pub fn duration_str_format_with(
     units: u32,
     parts: u32,
     style: u32,
-    buffer: &mut [u8; STYLED_BUFFER_SIZE],
+    buffer: &mut [u8; FORMAT_BUFFER_SIZE],
 ) -> usize
     ensures text { nanos < 1_000_000_000 → 0 < units → units < 2048 → style ≤ 2
         → IsPrintedWithin (format_of units parts (style_numbered style))
@@ -36,7 +36,7 @@ pub fn duration_str_format_with(
 {
     match format_of(units, parts, style) {
         Some(format) if nanos < 1_000_000_000 => {
-            let mut printed = [0; STYLED_BUFFER_SIZE];
+            let mut printed = [0; FORMAT_BUFFER_SIZE];
             let text = write_format(&Duration::new(secs, nanos), format, &mut printed);
             put(text, buffer)
         }

@@ -23,7 +23,7 @@ pub mod unit;
 use crate::answer::Answer;
 use crate::message::refusal_of;
 use duration_str::{
-    FORMAT_BUFFER_SIZE, Fault, Options, TimeUnit, UNITS, parse_nanos, parse_nanos_specialized,
+    Fault, HUMAN_BUFFER_SIZE, Options, TimeUnit, UNITS, parse_nanos, parse_nanos_specialized,
     write_human,
 };
 use std::time::Duration;
@@ -102,13 +102,13 @@ pub fn duration_str_parse(text: &[u8], nanos: &mut u64) -> bool
 
 /// Prints a duration of this many nanoseconds to the start of the buffer, with a zero byte after
 /// it. Returns the length of the text without the zero. The rest of the buffer is unchanged.
-pub fn duration_str_format(nanos: u64, buffer: &mut [u8; FORMAT_BUFFER_SIZE]) -> usize
+pub fn duration_str_format(nanos: u64, buffer: &mut [u8; HUMAN_BUFFER_SIZE]) -> usize
     ensures text { IsPrinted nanos (chars (take result buffer.new)) }
     ensures utf8 { IsUtf8 (take result buffer.new) }
     ensures rest { drop result buffer.new ≡ 0 ∷ drop (result + 1) buffer.old }
     ensures short { result ≤ MAX_PRINTED_LEN }
 {
-    let mut printed = [0; FORMAT_BUFFER_SIZE];
+    let mut printed = [0; HUMAN_BUFFER_SIZE];
     put(
         write_human(&Duration::from_nanos(nanos), &mut printed),
         buffer,

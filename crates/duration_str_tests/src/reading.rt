@@ -7,7 +7,7 @@ use crate::rows::{
 };
 use crate::shared::OFF;
 use duration_str::{
-    Fault, Format, HumanFormat, Options, STYLED_BUFFER_SIZE, Style, TimeUnit, parse, parse_chrono,
+    FORMAT_BUFFER_SIZE, Fault, Format, HumanFormat, Options, Style, TimeUnit, parse, parse_chrono,
     parse_looked, parse_std, parse_time, parse_with, parse_with_default_unit, write_format,
     write_human,
 };
@@ -161,7 +161,7 @@ fn prints_in_format(row: &Value, format: Format) -> bool {
     let Ok(length) = parse(text_at(row, 0)) else {
         return true;
     };
-    let mut buffer = [0; STYLED_BUFFER_SIZE];
+    let mut buffer = [0; FORMAT_BUFFER_SIZE];
     write_format(&length, format, &mut buffer) == text_at(row, 4)
         && write_format(&length, format.style(Style::Long), &mut buffer) == text_at(row, 5)
 }

@@ -5,7 +5,8 @@ use Rattle.duration_str.specs.declared.options.Options.{Options}
 use Rattle.durstr_run.specs.Lines.{lines_of}
 use Rattle.durstr_run.specs.Output.{IsLineOutput, AreOutputs, IsOutput}
 
--- The bytes written so far, followed by any output for the bytes that are left, are an output for the whole input.
+-- The bytes written so far, followed by any output for the bytes that are left, are an output for
+-- the whole input.
 abbrev pub Continues : Options → List ℕ → List ℕ → List ℕ → Bool → Type 0
 Continues o input left written so_far =
     (tail : List ℕ) (others : Bool) → IsOutput o left tail others → IsOutput o input (written ++ tail)

@@ -8,7 +8,7 @@ ghost use Rattle.durstr_run.specs.Output.{IsLineOutput, IsOutput};
 
 use crate::fault::RunFault;
 use crate::lines::first_line;
-use duration_str::{FORMAT_BUFFER_SIZE, Options, parse_with, write_human};
+use duration_str::{HUMAN_BUFFER_SIZE, Options, parse_with, write_human};
 use std::alloc::{AllocError, Allocator};
 use std::io::Write;
 use std::time::Duration;
@@ -34,7 +34,7 @@ fn push_value<A: Allocator>(out: &mut String<A>, duration: Duration) -> Result<(
         ++ ((decimal (as_nanos duration) ++ (32 ∷ encode_utf8_all human)) ++ (10 ∷ [])))) }
 {
     let nanos = duration.as_nanos() as u64;
-    let mut buffer = [0; FORMAT_BUFFER_SIZE];
+    let mut buffer = [0; HUMAN_BUFFER_SIZE];
     let human = write_human(&duration, &mut buffer);
     writeln!(out, "{nanos} {human}")?;
     Ok(())

@@ -1,5 +1,5 @@
--- The names that the two proofs of this crate use, and the contract of `refuse_next` at a call: its arguments, and what
--- its caller knows after it.
+-- The names that the two proofs of this crate use, and the contract of `refuse_next` at a call: its
+-- arguments, and what its caller knows after it.
 pub use Rattle.std.proofs.Common.{◌≡◌, ℕ, ◌+◌, Bool, true, false, List, [], ◌∷◌, Ok, Err, refl, w64, ap}
 pub use mir.Syntax.{Args, Fn, a_type, dnil, dcons}
 pub use mir.Val.{Val, vbool, vint, vptr, vunit}

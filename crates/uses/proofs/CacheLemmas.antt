@@ -37,8 +37,8 @@ key_is_canonical back law style text key nanos small read k =
 chars_tell : (a b : List ℕ) → IsUtf8 a → IsUtf8 b → chars a ≡ chars b → a ≡ b
 chars_tell a b ua ub e = sym (encodes-chars a ua) ∙ ap encodes e ∙ encodes-chars b ub
 
--- Suppose that two texts have equal characters exactly if two numbers are equal. Then the texts have equal bytes
--- exactly if the numbers are equal.
+-- Suppose that two texts have equal characters exactly if two numbers are equal. Then the texts
+-- have equal bytes exactly if the numbers are equal.
 pub equal_by_chars : {m n : ℕ} (a b : List ℕ) (equal : Bool) → IsUtf8 a → IsUtf8 b → equal ≡ bytes_eq a b
     → (chars a ≡ chars b ↔ m ≡ n) → (IsTrue equal ↔ m ≡ n)
 equal_by_chars a b equal ua ub is same = search (rules, bytes_eq-Decides, chars_tell)

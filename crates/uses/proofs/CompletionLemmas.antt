@@ -27,7 +27,8 @@ stand_for r tokens = map (terminal_of r) (lexemes_of tokens)
 abbrev NamesUnit : Rules → TimeUnit → Type 0
 NamesUnit r u = terminal_of r (115 ∷ []) ≡ word (Some u)
 
--- A text that can follow a blank, and its lexemes, which complete a sentence that begins with these terminals.
+-- A text that can follow a blank, and its lexemes, which complete a sentence that begins with these
+-- terminals.
 record IsEnding (r : Rules) (front : List Terminal) : Type 0 where
   lexemes : List (List ℕ)
   text : List ℕ
@@ -36,8 +37,8 @@ record IsEnding (r : Rules) (front : List Terminal) : Type 0 where
 
 module _ (one : OneSentence) (cut : OneCut) (law : PlaceAndKinds) (r : Rules) (u : TimeUnit) (named : NamesUnit r u)
   where
-    -- A sentence that begins with these terminals is completed by nothing after a word, by `s` after a number, and by
-    -- `0 s` after an operator.
+    -- A sentence that begins with these terminals is completed by nothing after a word, by `s`
+    -- after a number, and by `0 s` after an operator.
     ending_after : (front : List Terminal) (t : Terminal) (expected : Expected) → BeginsSentence r
         (front ++ t ∷ [])
         → IsTrue (allows expected t) → IsEnding r (front ++ t ∷ [])

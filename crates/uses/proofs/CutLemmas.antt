@@ -6,8 +6,8 @@ use Rattle.duration_str.proofs.Characters.CharacterLemmas.{byte_len-append}
 use Rattle.duration_str.proofs.Cutting.PositionLemmas.{blanks_no_token}
 use Rattle.duration_str.proofs.Cutting.TokenLemmas.{tokens_step}
 
--- The text, which starts at byte `at` and ends at byte `end`, is split before the token that follows the first n
--- tokens.
+-- The text, which starts at byte `at` and ends at byte `end`, is split before the token that
+-- follows the first n tokens.
 pub record IsSplit (o : Options) (at end : ℕ) (text : List ℕ) (tokens : List Token) (n : ℕ) : Type 0 where
   pub front : List ℕ
   pub rest : List ℕ
@@ -67,8 +67,8 @@ module _ (o : Options) where
   joined at text more (token ∷ tokens) (rest, next, are) =
       search (rules, append_assoc, tokens_step, ends_at_blank, joined (token.start + byte_len token.characters) rest more tokens)
 
-  -- If a text is followed by a blank, a lexeme, a blank and more text, the whole has the lexemes of the text, then this
-  -- lexeme, then others.
+  -- If a text is followed by a blank, a lexeme, a blank and more text, the whole has the lexemes of
+  -- the text, then this lexeme, then others.
   pub typed_lexemes : (text w more : List ℕ) (tokens : List Token) → AreTokens o 0 text tokens → IsLexeme o w
       → (others : List (List ℕ))
       × (lexemes_of (tokens_of o (text ++ 32 ∷ (w ++ 32 ∷ more))) ≡ lexemes_of tokens ++ w ∷ others)

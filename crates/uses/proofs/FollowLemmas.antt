@@ -14,8 +14,8 @@ module _ (law : PlaceAndKinds) (r : Rules) where
   begins_whole : (ts : List Terminal) → (BeginsSentence r ts ↔ length ts ≤ front_of r ts)
   begins_whole ts = search (rules, append-nil, length-take, take_all)
 
-  -- If a terminal is added, the front that the table finds becomes one terminal longer exactly if the table allows the
-  -- new terminal after the last one.
+  -- If a terminal is added, the front that the table finds becomes one terminal longer exactly if
+  -- the table allows the new terminal after the last one.
   pushed : (last : Option Terminal) (front : List Terminal) (t : Terminal)
       → length front ≤ front_after r last front
       → (IsTrue (allows (expected_after r (last_of last front)) t)
@@ -23,14 +23,16 @@ module _ (law : PlaceAndKinds) (r : Rules) where
   pushed last [] t h = search (rules, cases_Bool)
   pushed last (s ∷ front) t h = search (rules, cases_Bool, le_of_suc-le-suc, suc-le-suc, pushed (Some s) front t)
 
-  -- One more terminal continues the beginning of a sentence exactly if the table allows that terminal there.
+  -- One more terminal continues the beginning of a sentence exactly if the table allows that
+  -- terminal there.
   pub follows : (front : List Terminal) (t : Terminal) → BeginsSentence r front
       → (IsTrue (allows (expected_after r (last_of None front)) t) ↔ BeginsSentence r (front ++ t ∷ []))
   follows front t b =
       let push = pushed None front t ((begins_whole front).0 b) in
       let begins = begins_whole (front ++ t ∷ []) in (λ a. begins.1 (push.0 a), λ more. push.1 (begins.0 more))
 
-  -- The beginning of a sentence is a sentence if the table lets the text end after its last terminal.
+  -- The beginning of a sentence is a sentence if the table lets the text end after its last
+  -- terminal.
   pub ends : (front : List Terminal) (t : Terminal) → BeginsSentence r (front ++ t ∷ [])
       → IsTrue (expected_after r (Some t)).text_end → IsSentence r (front ++ t ∷ [])
   ends front t b h =

@@ -9,7 +9,8 @@ chars_line : (bytes : List ℕ) → IsUtf8 bytes → chars (with_line_feed bytes
 unfolding chars
 chars_line bytes utf8 = chars-append bytes (10 ∷ []) utf8
 
--- If the sentences that spell an old text also spell a new one, the new text is read as the old one.
+-- If the sentences that spell an old text also spell a new one, the new text is read as the old
+-- one.
 read_as_before : BlanksFree → (old new : List ℕ)
     → ((r : Rules) (lexemes : List (List ℕ)) → IsSentenceOf r lexemes old → Spells lexemes new) → IsReadAsBefore old new
 read_as_before free old new spells = record {

@@ -6,10 +6,13 @@ use Rattle.std.proofs.Math.Bool.{beq}
 use Rattle.duration_str.proofs.Characters.CharacterLemmas.{all_weaker}
 use Rattle.uses.specs.Portable.{HasSameCause, HasSameCauseByAll, HasSameValue, HasSameValueByAll, is_unaffected, IsReadAlike}
 
--- If `b` and `d` are equal, or if the property holds for both values of Bool or for neither, it holds for `b` exactly
--- if it holds for `d`.
+-- If `b` and `d` are equal, or if the property holds for both values of Bool or for neither, it
+-- holds for `b` exactly if it holds for `d`.
 either_way : (P : Bool → Type 0) (b d : Bool) → (beq b d ≡ false → (P true ↔ P false)) → (P b ↔ P d)
 either_way P b d ways = search rules
+
+equal_not_apart : (b d : Bool) → b ≡ d → beq b d ≡ false → ⊥
+equal_not_apart b d same differ = search rules
 
 last_passes : (others same test : Bool) → (others && (same || test)) ≡ true → same ≡ false → test ≡ true
 last_passes true false test h differ = h
@@ -25,11 +28,12 @@ module _ (o p : Options) (text : List ℕ) (h : IsTrue (list_all (is_unaffected 
   no_chinese : beq o.cn_unit p.cn_unit ≡ false → HasNoChinese text
   no_chinese differ = search (rules, all_weaker, last_passes)
 
-  -- Goes from the options `o` to the options `p`. If they differ in `lowercase`, that is changed first. If they differ
-  -- in `cn_unit`, that is changed next.
+  -- Goes from the options `o` to the options `p`. If they differ in `lowercase`, that is changed
+  -- first. If they differ in `cn_unit`, that is changed next.
   others_changed : (P : Options → Type 0)
       → ((q : Options) → HasNoCapital text → (P (record q { lowercase = true }) ↔ P (record q { lowercase = false })))
-      → ((q : Options) → HasNoChinese text → (P (record q { cn_unit = true }) ↔ P (record q { cn_unit = false })))
+      → (beq o.cn_unit p.cn_unit ≡ false → (q : Options)
+      → (P (record q { cn_unit = true }) ↔ P (record q { cn_unit = false })))
       → (P (record o { no_calc = p.no_calc }) ↔ P p)
   others_changed P lower chinese =
       let one : Options = record o { no_calc = p.no_calc } in
@@ -37,7 +41,7 @@ module _ (o p : Options) (text : List ℕ) (h : IsTrue (list_all (is_unaffected 
       let first = either_way (λ (b : Bool). P (record one { lowercase = b })) o.lowercase p.lowercase
       (λ differ. lower one (no_capital differ)) in
       let next = either_way (λ (b : Bool). P (record two { cn_unit = b })) o.cn_unit p.cn_unit
-      (λ differ. chinese two (no_chinese differ)) in
+      (λ differ. chinese differ two) in
       (λ k. next.0 (first.0 k), λ k. first.1 (next.1 k))
 
   pub unaffected_has_same_value : NoCalcAgrees → OptionsIdle → HasSameValue o p text
@@ -45,37 +49,35 @@ module _ (o p : Options) (text : List ℕ) (h : IsTrue (list_all (is_unaffected 
       let calc = either_way (λ (b : Bool). IsRead (rules_with (record o { no_calc = b }) default_unit) text nanos) o.no_calc p.no_calc
       (λ differ. agrees (rules_with o default_unit) text nanos (no_operator differ)) in
       let others = others_changed (λ (q : Options). IsRead (rules_with q default_unit) text nanos)
-      (λ q plain. (idle.lowercase (rules_with q default_unit) text plain).value nanos) (λ q plain. (idle.cn_unit default_unit q text plain).value nanos) in
+      (λ q plain. (idle.lowercase (rules_with q default_unit) text plain).value nanos)
+      (λ differ q. (idle.cn_unit default_unit q text (no_chinese differ)).value nanos) in
       (λ r. others.0 (calc.0 r), λ r. calc.1 (others.1 r))
 
   pub unaffected_has_same_cause : OptionsIdle → o.no_calc ≡ p.no_calc → HasSameCause o p text
   unaffected_has_same_cause idle same default_unit cause =
       subst (λ (b : Bool). IsRefused (rules_with (record o { no_calc = b }) default_unit) text cause ↔ IsRefused (rules_with p default_unit) text cause) (sym same)
       (others_changed (λ (q : Options). IsRefused (rules_with q default_unit) text cause)
-      (λ q plain. (idle.lowercase (rules_with q default_unit) text plain).cause cause) (λ q plain. (idle.cn_unit default_unit q text plain).cause cause))
+      (λ q plain. (idle.lowercase (rules_with q default_unit) text plain).cause cause)
+      (λ differ q. (idle.cn_unit default_unit q text (no_chinese differ)).cause cause))
 
   -- By all rules, if `cn_unit` does not change.
   pub unaffected_has_same_value_by_all : NoCalcAgrees → OptionsIdle → o.cn_unit ≡ p.cn_unit → HasSameValueByAll o p text
   unaffected_has_same_value_by_all agrees idle same r nanos =
-      let one : Options = record o { no_calc = p.no_calc } in
-      let two : Options = record one { lowercase = p.lowercase } in
-      let calc = either_way (λ (b : Bool). IsRead (record r { options = record o { no_calc = b } }) text nanos) o.no_calc p.no_calc
-      (λ differ. agrees (record r { options = o }) text nanos (no_operator differ)) in
-      let lower = either_way (λ (b : Bool). IsRead (record r { options = record one { lowercase = b } }) text nanos)
-      o.lowercase p.lowercase (λ differ. (idle.lowercase (record r { options = one }) text (no_capital differ)).value nanos) in
-      let last = λ (b : Bool). IsRead (record r { options = record two { cn_unit = b } }) text nanos in
-      (λ k. subst last same (lower.0 (calc.0 k)), λ k. calc.1 (lower.1 (subst last (sym same) k)))
+      let calc = either_way (λ (b : Bool). IsRead (record r { options = record o { no_calc = b } }) text nanos)
+      o.no_calc p.no_calc (λ differ. agrees (record r { options = o }) text nanos (no_operator differ)) in
+      let others = others_changed (λ (q : Options). IsRead (record r { options = q }) text nanos)
+      (λ q plain. (idle.lowercase (record r { options = q }) text plain).value nanos)
+      (λ differ q. absurd (equal_not_apart o.cn_unit p.cn_unit same differ)) in
+      (λ k. others.0 (calc.0 k), λ k. calc.1 (others.1 k))
 
   pub unaffected_has_same_cause_by_all : OptionsIdle → o.no_calc ≡ p.no_calc → o.cn_unit ≡ p.cn_unit
       → HasSameCauseByAll o p text
   unaffected_has_same_cause_by_all idle calc same r cause =
-      let one : Options = record o { no_calc = p.no_calc } in
-      let two : Options = record one { lowercase = p.lowercase } in
-      let first = λ (b : Bool). IsRefused (record r { options = record o { no_calc = b } }) text cause in
-      let lower = either_way (λ (b : Bool). IsRefused (record r { options = record one { lowercase = b } }) text cause)
-      o.lowercase p.lowercase (λ differ. (idle.lowercase (record r { options = one }) text (no_capital differ)).cause cause) in
-      let last = λ (b : Bool). IsRefused (record r { options = record two { cn_unit = b } }) text cause in
-      (λ k. subst last same (lower.0 (subst first calc k)), λ k. subst first (sym calc) (lower.1 (subst last (sym same) k)))
+      subst (λ (b : Bool). IsRefused (record r { options = record o { no_calc = b } }) text cause
+      ↔ IsRefused (record r { options = p }) text cause) (sym calc)
+      (others_changed (λ (q : Options). IsRefused (record r { options = q }) text cause)
+      (λ q plain. (idle.lowercase (record r { options = q }) text plain).cause cause)
+      (λ differ q. absurd (equal_not_apart o.cn_unit p.cn_unit same differ)))
 
 -- ---- Texts that two rules read alike
 

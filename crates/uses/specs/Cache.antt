@@ -4,17 +4,19 @@ use Rattle.uses.specs.Common.{Duration, as_nanos, Options, Cause, Fault, off, un
 use Rattle.duration_str.specs.declared.format.Style.{Style}
 use Rattle.duration_str.specs.declared.unit.TimeUnit.{TimeUnit}
 
--- the text of a value whose counts are found by division: what the longer units leave is divided by the next unit
+-- the text of a value whose counts are found by division: what the longer units leave is divided by
+-- the next unit
 abbrev pub canonical_text : Style → ℕ → List ℕ
 canonical_text style nanos = printed_counts style (counts_of unit_lengths nanos)
 
--- The key is the canonical text of the value, and no other breakdown of the value begins with larger counts.
+-- The key is the canonical text of the value, and no other breakdown of the value begins with
+-- larger counts.
 pub record IsKey (style : Style) (nanos : ℕ) (key : List ℕ) : Type 0 where
   pub one : key ≡ canonical_text style nanos
   pub greatest : IsGreatestBreakdown unit_lengths nanos (counts_of unit_lengths nanos)
 
--- The text is read as a value, and `key` is that value's key. Under every choice of options and with each default unit
--- or none, the key is read as the same value, and as no other.
+-- The text is read as a value, and `key` is that value's key. Under every choice of options and
+-- with each default unit or none, the key is read as the same value, and as no other.
 pub record IsCanonical (style : Style) (text key : List ℕ) : Type 0 where
   pub nanos : ℕ
   pub read : IsRead (rules_of off) text nanos

@@ -10,8 +10,9 @@ IsExpression r text = (lexemes : List (List ℕ)) × IsSentenceOf r lexemes text
 abbrev pub BeginsExpression : Rules → List ℕ → Type 0
 BeginsExpression r text = (more : List ℕ) × IsExpression r (text ++ (codes " " ++ more))
 
--- `front` is the text up to the place. By these rules a number, a word or a sign can be typed there, after a blank,
--- exactly if it is of an expected kind. The front is an expression already exactly if the end is expected.
+-- `front` is the text up to the place. By these rules a number, a word or a sign can be typed
+-- there, after a blank, exactly if it is of an expected kind. The front is an expression already
+-- exactly if the end is expected.
 pub record IsCompletion (r : Rules) (text : List ℕ) (place : ℕ) (expected : Expected) : Type 0 where
   pub front : List ℕ
   pub rest : List ℕ

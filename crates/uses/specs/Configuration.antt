@@ -5,8 +5,8 @@ use Rattle.serde_json.specs.Data.{Data, string}
 use Rattle.duration_str.specs.declared.error.DError.{DError}
 use Rattle.duration_str.specs.Messages.{IsErrorOf}
 
--- The value is a text that is read as the duration. Or it is a text that is refused for a cause, and the error is that
--- of the cause. Or it is no text, and the error says so.
+-- The value is a text that is read as the duration. Or it is a text that is refused for a cause,
+-- and the error is that of the cause. Or it is no text, and the error says so.
 abbrev pub IsConfigured : {A : Type 0} → Data → Result Duration (DError A) → Type 0
 IsConfigured (string text) (Ok d) = IsRead (rules_of off) (chars text) (as_nanos d)
 IsConfigured (string text) (Err error) = (cause : Cause) × IsRefused (rules_of off) (chars text) cause × IsErrorOf cause error

@@ -4,7 +4,8 @@ use Rattle.uses.specs.Common.{Plus, terminal_of, IsSentenceOf, AllPlus, Rules, w
 use Rattle.uses.specs.declared.product.Part.{Part}
 use Rattle.uses.specs.Product.{term_of_part}
 
--- By these rules the text is an expression without `*`, and its terms are these parts, in this order.
+-- By these rules the text is an expression without `*`, and its terms are these parts, in this
+-- order.
 pub record Adds (r : Rules) (parts : List Part) (text : List ℕ) : Type 0 where
   pub lexemes : List (List ℕ)
   pub spells : IsSentenceOf r lexemes text

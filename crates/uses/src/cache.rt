@@ -8,7 +8,7 @@ ghost use Rattle.uses.specs.Cache.{IsKey, IsCanonical, IsAnswerTo, Refuses};
 
 use crate::countdown::in_parts;
 use duration_str::laws::{equal_texts, greatest_breakdown, one_sentence, reads_back};
-use duration_str::{Cause, Fault, STYLED_BUFFER_SIZE, Style, TimeUnit, parse};
+use duration_str::{Cause, FORMAT_BUFFER_SIZE, Fault, Style, TimeUnit, parse};
 use std::time::Duration;
 
 /// The least number of nanoseconds that no text is read as.
@@ -17,7 +17,7 @@ const LIMIT: u128 = 1 << 64;
 /// Writes the key of a duration to the caller's buffer, and returns it: the duration's printed text
 /// in a style. It is the only text of this duration in that style, and no other breakdown into
 /// units begins with larger counts of the longer units.
-pub fn key<'b>(length: Duration, style: Style, buffer: &'b mut [u8; STYLED_BUFFER_SIZE]) -> &'b str
+pub fn key<'b>(length: Duration, style: Style, buffer: &'b mut [u8; FORMAT_BUFFER_SIZE]) -> &'b str
     ensures { IsKey style (as_nanos length) (chars result.now) }
 {
     equal_texts();
@@ -36,7 +36,7 @@ pub fn key<'b>(length: Duration, style: Style, buffer: &'b mut [u8; STYLED_BUFFE
 pub fn canonical<'a, 'b>(
     text: &'a str,
     style: Style,
-    buffer: &'b mut [u8; STYLED_BUFFER_SIZE],
+    buffer: &'b mut [u8; FORMAT_BUFFER_SIZE],
 ) -> Result<&'b str, Fault<'a>>
     ensures key { IfOk result (λ key. IsCanonical style (chars text.now) (chars key.now)) }
     ensures fault { IfErr result (Refuses text.now) }
@@ -58,8 +58,8 @@ pub fn share_entry<'a>(text: &'a str, other: &'a str) -> Result<bool, Fault<'a>>
     let length = parse(text)?;
     let other_length = parse(other)?;
     Ok(
-        key(length, Style::Compact, &mut [0; STYLED_BUFFER_SIZE])
-            == key(other_length, Style::Compact, &mut [0; STYLED_BUFFER_SIZE]),
+        key(length, Style::Compact, &mut [0; FORMAT_BUFFER_SIZE])
+            == key(other_length, Style::Compact, &mut [0; FORMAT_BUFFER_SIZE]),
     )
 }
 

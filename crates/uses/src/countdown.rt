@@ -8,7 +8,7 @@ ghost use Rattle.uses.specs.Common.{as_nanos, IsPrintedIn};
 ghost use Rattle.uses.specs.Countdown.{coarse, IsShown};
 
 use duration_str::laws::{all_parts, never_more, parts_and_rest};
-use duration_str::{Breakdown, Format, STYLED_BUFFER_SIZE, Style, TimeUnit, write_format};
+use duration_str::{Breakdown, FORMAT_BUFFER_SIZE, Format, Style, TimeUnit, write_format};
 use std::time::Duration;
 
 /// Writes the time that is left to the caller's buffer, and returns the text. It has at most two
@@ -19,7 +19,7 @@ use std::time::Duration;
 /// time_left(&Duration::new(5_400, 999_999_999), &mut buffer) // "1h 30min"
 /// time_left(&Duration::new(0, 999_999_999), &mut buffer)     // "0s"
 /// ```
-pub fn time_left<'b>(left: &Duration, buffer: &'b mut [u8; STYLED_BUFFER_SIZE]) -> &'b str
+pub fn time_left<'b>(left: &Duration, buffer: &'b mut [u8; FORMAT_BUFFER_SIZE]) -> &'b str
     ensures { (shown : ℕ) × IsShown (as_nanos left.now) (chars result.now) shown }
 {
     never_more();
@@ -51,7 +51,7 @@ pub fn in_parts<'b>(
     length: &Duration,
     parts: usize,
     style: Style,
-    buffer: &'b mut [u8; STYLED_BUFFER_SIZE],
+    buffer: &'b mut [u8; FORMAT_BUFFER_SIZE],
 ) -> &'b str
     ensures { 11 ≤ parts → IsPrintedIn style (as_nanos length.now) (chars result.now) }
 {

@@ -21,7 +21,7 @@ use duration_str::{CondUnit, Options, parse_humantime_specialized, parse_nanos};
 /// ```text
 /// let off = Options::off();
 /// keeps_value("2H 37m", off, Options { no_calc: true, ..off })   // true
-/// keeps_value("2H 37m", off, Options { lowercase: true, ..off }) // false: refused under `lowercase`
+/// keeps_value("2H 37m", off, Options { lowercase: true, ..off }) // false: then `H` is refused
 /// ```
 pub fn keeps_value(text: &str, before: Options, after: Options) -> bool
     ensures exact { result ≡ list_all (is_unaffected before after) (chars text.now) }

@@ -603,7 +603,7 @@ static inline int take_duration(
 /* The text of a duration. If there are no limits, it uses the call without limits, which is faster.
  * */
 static PyObject *text_of(const struct duration *duration, const struct limits *limits) {
-    char buffer[DURATION_STR_STYLED_BUFFER_SIZE];
+    char buffer[DURATION_STR_FORMAT_WITH_BUFFER_SIZE];
     const bool is_whole = !memcmp(limits, &no_limits, sizeof *limits);
     const size_t length =
         is_whole && duration->secs < UINT64_MAX / SECOND
@@ -637,7 +637,7 @@ static PyObject *format(
 
 /* The count of the first part of a duration, of any size: the number with which its text begins. */
 static PyObject *printed_count(const struct duration *duration, uint32_t units) {
-    char buffer[DURATION_STR_STYLED_BUFFER_SIZE];
+    char buffer[DURATION_STR_FORMAT_WITH_BUFFER_SIZE];
     duration_str_format_with(
         duration->secs, duration->nanos, units, 1, DURATION_STR_STYLE_SHORT, buffer);
     char *end = buffer;

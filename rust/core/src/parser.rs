@@ -94,7 +94,8 @@ pub fn parse_with(input: &str, o: Options) -> Result<Duration, Fault<'_>> {
 /// It returns a [`Fault`] if the text means no duration.
 ///
 /// ```text
-/// let in_milliseconds = |text| parse_with_default_unit(text, Options::off(), Some(TimeUnit::MilliSecond));
+/// let milliseconds = Some(TimeUnit::MilliSecond);
+/// let in_milliseconds = |text| parse_with_default_unit(text, Options::off(), milliseconds);
 /// in_milliseconds("1500")  // Ok(Duration::from_millis(1_500))
 /// in_milliseconds("90s*2") // Ok(Duration::from_millis(180))
 /// parse_with_default_unit("1h 30", Options::off(), None).unwrap_err().cause().place() // Some(5)

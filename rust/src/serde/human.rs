@@ -76,7 +76,7 @@ use crate::human_format::Sealed;
 use crate::humantime;
 use crate::parser::{ADDITIONS, parse_with};
 use crate::serde::original::Length;
-use crate::{FORMAT_BUFFER_SIZE, TimeUnit, write_human};
+use crate::{HUMAN_BUFFER_SIZE, TimeUnit, write_human};
 use alloc::vec::Vec;
 use core::fmt;
 use core::marker::PhantomData;
@@ -294,7 +294,7 @@ impl<T: Length> HumanText for T {
         if HOW == STRICT {
             return serializer.collect_str(&humantime::format_duration(duration));
         }
-        serializer.serialize_str(write_human(&duration, &mut [0; FORMAT_BUFFER_SIZE]))
+        serializer.serialize_str(write_human(&duration, &mut [0; HUMAN_BUFFER_SIZE]))
     }
 
     fn deserialize_human<'de, D: Deserializer<'de>, const HOW: u8>(

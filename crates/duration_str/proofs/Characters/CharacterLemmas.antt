@@ -23,8 +23,9 @@ digit-not_letter o c e = false_from_ne_true _ (λ t. let above = letter_above o 
 pub letter-not_digit : (o : Options) (c : ℕ) → is_unit_letter o c ≡ true → is_digit c ≡ false
 letter-not_digit o c e = false_from_ne_true _ (λ t. cc (digit-not_letter o c t))
 
--- `a`, `b` and `c` say of three characters whether they are digits, and `p`, `q` and `r` whether they are unit letters.
--- If the first two characters are of one run, the third is of one run with both or with neither.
+-- `a`, `b` and `c` say of three characters whether they are digits, and `p`, `q` and `r` whether
+-- they are unit letters. If the first two characters are of one run, the third is of one run with
+-- both or with neither.
 same_class : (a b c p q r : Bool) → (a ≡ true → p ≡ false) → (b ≡ true → q ≡ false) → ((a && b) || (p && q)) ≡ true
     → ((b && c) || (q && r)) ≡ ((a && c) || (p && r))
 same_class a b c p q r h k e = grind arith

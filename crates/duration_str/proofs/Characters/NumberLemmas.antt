@@ -6,7 +6,8 @@ use Rattle.std.specs.Bool.{then_some}
 use Rattle.std.specs.Result.{result_ok}
 use Rattle.std.specs.Str.Parse.{ParsesUnsigned}
 
--- Digits and the numbers that they write are the same in the definitions and in the standard library.
+-- Digits and the numbers that they write are the same in the definitions and in the standard
+-- library.
 pub decimal_digits : IsNumeralModel (λ ds. IsTrue (list_all is_digit ds)) (number_after 0)
 decimal_digits = numerals_by_fold _ (search rules) number_after (search rules)
 
@@ -44,8 +45,9 @@ number_of-others (c ∷ cs) all h =
           omega arith
     ]
 
--- More than 19 digits write a number below 2^64 exactly if only zeros stand before the last 20 digits, and the first of
--- these 20 is a zero, or is a one while the number modulo 2^64 is at least 10^19.
+-- More than 19 digits write a number below 2^64 exactly if only zeros stand before the last 20
+-- digits, and the first of these 20 is a zero, or is a one while the number modulo 2^64 is at least
+-- 10^19.
 pub long_number : (digits : List ℕ) (low : ℕ) → 19 < length digits → IsTrue (list_all is_digit digits)
     → low ≡ number_of digits % 2 ^ 64 → (let at = length digits - 19 - 1 in
     (are_zeros (take at digits)

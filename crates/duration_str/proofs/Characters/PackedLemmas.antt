@@ -22,7 +22,8 @@ is_wide_letter c = list_any (λ d. d == c) wide_letters
 abbrev is_between : ℕ → ℕ → ℕ → Bool
 is_between first last c = leb first c && leb c last
 
--- whether a character is a letter of the units' names: a small letter except `z`, `M`, or a letter beyond ASCII
+-- whether a character is a letter of the units' names: a small letter except `z`, `M`, or a letter
+-- beyond ASCII
 abbrev is_name_letter : ℕ → Bool
 is_name_letter c = is_between 97 121 c || (is_between 77 77 c || is_wide_letter c)
 
@@ -88,7 +89,8 @@ below : (o : Options) (cs : List ℕ) → packed_back o cs < 40 ^ length cs
 below o [] = omega arith
 below o (c ∷ cs) = rw (pow-succ' 40 (length cs)) (omega (arith, below o cs, letter_number-below o c))
 
--- the packed number of a word of at most 12 letters is below 2^64, so computing it modulo 2^64 changes nothing
+-- the packed number of a word of at most 12 letters is below 2^64, so computing it modulo 2^64
+-- changes nothing
 pub exact : (o : Options) (w : List ℕ) (n : ℕ) → length w ≤ 12 → n ≡ packed_number o w % 2 ^ 64 → n ≡ packed_number o w
 exact o w n h e =
     let pow : 40 ^ length w ≤ 40 ^ 12 = pow-le-pow_right (lit< tt) h in
@@ -205,7 +207,8 @@ no_name r w test all fails =
     )) in
     simp unnamed
 
--- a word has only unit letters exactly if the form that is compared with the names has only unit letters
+-- a word has only unit letters exactly if the form that is compared with the names has only unit
+-- letters
 letters_form : (o : Options) (w : List ℕ)
     → list_all (is_unit_letter o) (comparison_form o w) ≡ list_all (is_unit_letter o) w
 letters_form o w = elim (cases_Bool o.lowercase) [ inl on ↦ rw on refl | inr off ↦ rw off (lower w) ]
@@ -245,7 +248,8 @@ pub no_long_name : (settings : Settings) (w : List ℕ) → 12 < byte_len w → 
 no_long_name settings w long = no_name (meaning_of settings) w (λ name. leb (byte_len name) 12) (short_names settings.table)
     (false_from_ne_true _ (λ t. absurd (omega (arith, leb-true _ _ t, byte_len-form settings.options w))))
 
--- if the packed numbers of all names pass a test, a number that fails the test is not that of a name
+-- if the packed numbers of all names pass a test, a number that fails the test is not that of a
+-- name
 absent : (test : ℕ → Bool) (n : ℕ) → test n ≡ false → (ns : List (List ℕ))
     → list_all (λ name. test (packed_number kept_capitals name)) ns ≡ true → list_any (packs_to n) ns ≡ false
 absent test n fails [] all = refl

@@ -84,7 +84,8 @@ module _ (o : Options) where
         cc (named_passes other (comparison_form o w) (all_names u) apart (among_all row_of o w u h), among_all row_of o w v k)
   ]
 
-  -- If the list has a unit that the word names, that unit is found, since the word names no other unit.
+  -- If the list has a unit that the word names, that unit is found, since the word names no other
+  -- unit.
   found_only : (w : List ℕ) (us : List TimeUnit) (u : TimeUnit) → is_named (rules_of o) w u ≡ true
       → list_any (λ v. eqb (nanos_of v) (nanos_of u)) us ≡ true → find (is_named (rules_of o) w) us ≡ Some u
   found_only w [] u h there = cc

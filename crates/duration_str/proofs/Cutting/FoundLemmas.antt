@@ -20,7 +20,8 @@ module _ (o : Options) where
       let (cs, rest, is, _) = first_token (rules_of o) (at + width c) d more (run-not_blank o c d e) in
       rw is (elsewhere place at _ rest (omega (arith, before)) ∙ sym (elsewhere place (at + width c) cs rest before))
 
-  -- A character that ends before the place can be left out without changing which token is found there.
+  -- A character that ends before the place can be left out without changing which token is found
+  -- there.
   without_first : (at place c : ℕ) (text : List ℕ) → at + width c < place
       → token_at place (tokens_from o at (c ∷ text)) ≡ token_at place (tokens_from o (at + width c) text)
   without_first at place c text before = search (rules, cases_Bool, without_joined)
@@ -51,7 +52,8 @@ tokens_later : (o : Options) (by at : ℕ) (text : List ℕ)
 tokens_later o by at [] = refl
 tokens_later o by at (c ∷ text) = search (arith, cases_Bool, join_later, tokens_later o by (at + width c) text)
 
--- If all tokens start `by` bytes later, a token that was found at a place is found `by` bytes after that place.
+-- If all tokens start `by` bytes later, a token that was found at a place is found `by` bytes after
+-- that place.
 found_later : (by place : ℕ) (tokens : List Token)
     → token_at (by + place) (map (later_token by) tokens) ≡ option_map (later_token by) (token_at place tokens)
 found_later by place [] = refl

@@ -1,4 +1,5 @@
--- Lemmas about the steps of cutting, in terms of a text, the byte up to which it is cut, and the number of looks.
+-- Lemmas about the steps of cutting, in terms of a text, the byte up to which it is cut, and the
+-- number of looks.
 use Rattle.duration_str.proofs.Common.{[], add-zero, ahead, and_from, ap, append-nil, append_assoc, append_cancel_right, arith, Between, Bool, byte_len, chars, chars-append, drop, drop-drop, encodes-chars, EndsRun, false, ForSome, if◌then◌else◌, is_digit, is_some, is_unit_letter, IsCharBoundary, IsLexeme, IsTrue, IsUtf8, IsUtf8-drop, IsUtf8-take, length, length-append, length-drop, length-le-encodes, letter_number, List, list_all, list_all-append, meaning_of, None, number_after, number_of, Option, Options, packed_number, packed_number_after, Passes, refl, row_of, table_of, Rules, rules_of, slice_range, Some, Stands, StandsAt, sym, take, take-append-drop, TakesDigits, TakesLetters, TimeUnit, tokens_from, true, u64_from, unit_of_packed, unit_of_word, width, ℕ, ◌%◌, ◌*◌, ◌++◌, ◌+◌, ◌-◌, ◌<◌, ◌^◌, ◌∙◌, ◌∷◌, ◌≡◌, ◌≤◌, rules}
 pub use Rattle.duration_str.proofs.Cutting.TokenLemmas.{blanks_no_token, tokens_step}
 use Rattle.duration_str.specs.declared.settings.Settings.{Settings}
@@ -9,8 +10,8 @@ use Rattle.duration_str.proofs.Characters.PackedLemmas.{own_settings, exact, no_
 
 -- ---- how many times a character was looked at
 
--- the looks so far and the characters ahead add up to all characters. If the first character ahead was looked at, it is
--- counted in both, so there is one more
+-- the looks so far and the characters ahead add up to all characters. If the first character ahead
+-- was looked at, it is counted in both, so there is one more
 abbrev pub IsCounted : List ℕ → ℕ → ℕ → Option ℕ → Type 0
 IsCounted text place looks head =
     looks + length (ahead text place) ≡ length (chars text) + (if is_some head then 1 else 0)
@@ -128,7 +129,8 @@ short_number taken short =
     let less = digits_value_short decimal_digits cs 19 taken.run.all few in
     search rules
 
--- The characters from `place` to `next` are unit letters, and `unit` is the unit that they name by these rules.
+-- The characters from `place` to `next` are unit letters, and `unit` is the unit that they name by
+-- these rules.
 pub record TakesWord (r : Rules) (text : List ℕ) (place next : ℕ) (unit : Option TimeUnit) : Type 0 where
   pub run : Passes (is_unit_letter r.options) text place next
   pub named : unit ≡ unit_of_word r run.characters

@@ -6,8 +6,8 @@ use Rattle.duration_str.proofs.Cutting.PositionLemmas.{TakesWord}
 
 -- ---- The possible terminals of a list of characters
 
--- A property of characters and their terminal holds if it holds in each of five cases: no characters, digits, unit
--- letters, an operator, and anything else.
+-- A property of characters and their terminal holds if it holds in each of five cases: no
+-- characters, digits, unit letters, an operator, and anything else.
 pub terminal_cases : (r : Rules) (P : List ℕ → Terminal → Type 0) → P [] other
     → ((c : ℕ) (cs : List ℕ) → IsTrue (list_all is_digit (c ∷ cs)) → P (c ∷ cs) (number (number_of (c ∷ cs))))
     → ((c : ℕ) (cs : List ℕ) → IsTrue (list_all (is_unit_letter r.options) (c ∷ cs))
@@ -37,8 +37,8 @@ terminal_cases r P none digits letters sign rest (c ∷ cs) = by_tests cs _ _ re
 -- ---- Runs of digits and of unit letters
 
 module _ (o : Options) where
-  -- Characters that pass a test are a lexeme, if no blank passes the test and any two characters that pass it are of
-  -- one run.
+  -- Characters that pass a test are a lexeme, if no blank passes the test and any two characters
+  -- that pass it are of one run.
   run_is_lexeme : (test : ℕ → Bool) → ((c : ℕ) → test c ≡ true → is_blank c ≡ false)
       → ((c d : ℕ) → test c ≡ true → test d ≡ true → are_of_one_run o c d ≡ true)
       → (c : ℕ) (cs : List ℕ) → IsTrue (list_all test (c ∷ cs)) → IsLexeme o (c ∷ cs)
@@ -69,7 +69,8 @@ lexeme_sort r c cs p = elim (cases_Bool (is_digit c)) [
 
 -- ---- Tokens by their first character
 
--- The characters from `place` to `next` are a token, which is as long as possible and stands for this terminal.
+-- The characters from `place` to `next` are a token, which is as long as possible and stands for
+-- this terminal.
 pub record StandsToken (r : Rules) (text : List ℕ) (place next : ℕ) (terminal : Terminal) : Type 0 where
   pub characters : List ℕ
   pub between : Between text place next characters
@@ -77,8 +78,8 @@ pub record StandsToken (r : Rules) (text : List ℕ) (place next : ℕ) (termina
   pub ends : EndsRun r.options characters (ahead text next)
   pub is_terminal : terminal ≡ terminal_of r characters
 
--- A run ends where the characters that pass a test end, if no character that passes the test is of one run with a
--- character that fails it.
+-- A run ends where the characters that pass a test end, if no character that passes the test is of
+-- one run with a character that fails it.
 run_ends : (o : Options) (test : ℕ → Bool) → ((c d : ℕ) → test c ≡ true → test d ≡ false → are_of_one_run o c d ≡ false)
     → (c : ℕ) (rest : List ℕ) → test c ≡ true → Stops test rest → goes_on o c rest ≡ false
 run_ends o test apart c rest e stops = search rules
@@ -144,7 +145,8 @@ module _ (o : Options) where
 
 -- ---- the token that starts with a character
 
--- A text that starts with a character other than a blank starts with a token, whose sort is that of the character.
+-- A text that starts with a character other than a blank starts with a token, whose sort is that of
+-- the character.
 pub first_token : (r : Rules) (at c : ℕ) (text : List ℕ) → is_blank c ≡ false
     → (cs : List ℕ) × (rest : List Token)
     × (tokens_from r.options at (c ∷ text) ≡ record { start = at; characters = cs } ∷ rest) ×

@@ -26,7 +26,8 @@ looks_ahead {s} sort kept blanks ahead = search (rules, blanks_no_token)
 pub none_left : (s : Tokens) → IsAhead s None → (tokens_left s ≡ []) × (cut_place s ≡ length (source s))
 none_left s end = search (rules, IsUtf8-had, place_at_end)
 
--- If a token of a sort is ahead, the first token that is left starts at the place, and its terminal has that sort.
+-- If a token of a sort is ahead, the first token that is left starts at the place, and its terminal
+-- has that sort.
 pub first_left : (r : Rules) (s : Tokens) (sort : TokenStart) → IsAhead s (Some sort)
     → (cs : List ℕ) × (rest : List Token) × (tokens_left s ≡ record { start = cut_place s; characters = cs } ∷ rest)
     × (sort ≡ sort_of (terminal_of (rules_at r s) cs))

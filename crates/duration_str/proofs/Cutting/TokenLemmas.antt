@@ -45,7 +45,8 @@ module _ (o : Options) where
       → ps ≡ qs
   tokens_once at text ps qs h k = sym (tokens_computed at text ps h) ∙ tokens_computed at text qs k
 
-  -- If the character c is of one run with the first token of the text after it, it belongs to that token.
+  -- If the character c is of one run with the first token of the text after it, it belongs to that
+  -- token.
   joined_in_front : (at c d : ℕ) (text blanks cs rest : List ℕ) (start : ℕ) (ps : List Token) → is_blank c ≡ false
       → are_of_one_run o c d ≡ true → IsBlank blanks → d ∷ text ≡ blanks ++ (cs ++ rest)
       → start ≡ (at + width c) + byte_len blanks → IsLexeme o cs → EndsRun o cs rest

@@ -1,4 +1,5 @@
--- A word for which a name is advised names no unit, and the advised name names the unit that people mean by the word.
+-- A word for which a name is advised names no unit, and the advised name names the unit that people
+-- mean by the word.
 use Rattle.duration_str.proofs.Common.{[], all_names, ap, arith, Bool, bytes_eq, cases_Bool, codes, comparison_form, encode_utf8_all, find, inl, inr, List, list_all, list_any, map, MicroSecond, Month, not, Options, refl, row_of, rules, rules_of, Some, sym, TimeUnit, to_ascii_lowercase, true, unit_of_word, units, ℕ, ◌∙◌, ◌∷◌, ◌≡◌}
 use Rattle.std.specs.Option.{option_map}
 use Rattle.duration_str.specs.Laws.{IsAdvised, NearWords}

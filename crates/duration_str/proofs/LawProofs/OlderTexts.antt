@@ -1,4 +1,5 @@
--- The law `older_texts`: a sentence over the units without the quarter is a sentence over all units.
+-- The law `older_texts`: a sentence over the units without the quarter is a sentence over all
+-- units.
 use Rattle.duration_str.proofs.Common.{[], allows, ap, append-nil, ap₂, cases_Bool, Cause, CondUnit, expected_after, inl, inr, is_digit, is_unit_letter, IsRead, IsRefused, IsRefusedAt, IsSentence, IsSentenceOf, IsTrue, List, list_all, map, nanos_of, None, number, older_rules, older_table, OlderTexts, operator, Option, Options, Plus, refl, rules, rules_of, sentence_fault, Some, Terminal, terminal_of, terms_after, terms_of, TimeUnit, unit_of_word, WasRefused, word, written_terms, ℕ, ⊤, ◌∙◌, ◌∷◌, ◌≡◌}
 use Rattle.duration_str.proofs.Sentences.AnswerLemmas.{sentence_refused}
 use Rattle.duration_str.proofs.Sentences.FrontLemmas.{AreAllowed, sentence_allowed}
@@ -19,8 +20,8 @@ same_word : (o : Options) (last : Option Terminal) (w : List ℕ) (found : Optio
     → (word found ≡ word (unit_of_word (rules_of o) w)) × KeepLengths (word found ∷ terminals)
 same_word o last w found terminals e a k = search rules
 
--- A lexeme that the table of terminals allows at its place stands for the same terminal as before, with a unit of the
--- same length.
+-- A lexeme that the table of terminals allows at its place stands for the same terminal as before,
+-- with a unit of the same length.
 same_terminal : (o : Options) (last : Option Terminal) (w : List ℕ) (terminals : List Terminal)
     → IsTrue (allows (expected_after (older_rules o) last) (terminal_of (older_rules o) w)) → KeepLengths terminals
     → (terminal_of (older_rules o) w ≡ terminal_of (rules_of o) w)

@@ -1,5 +1,5 @@
--- `lowercase` changes nothing for a text without ASCII capitals, and `cn_unit` changes nothing for a text without the
--- Chinese characters of the units.
+-- `lowercase` changes nothing for a text without ASCII capitals, and `cn_unit` changes nothing for
+-- a text without the Chinese characters of the units.
 use Rattle.duration_str.proofs.Common.{[], and_parts, answer, answer_at, arith, Bool, byte_len, bytes_eq, Cause, drop, false, front_of, goes_on, HasNoCapital, HasNoChinese, if◌then◌else◌, is_chinese, is_unit_letter, IsIdle, IsRead, IsRefused, IsTrue, List, list_all, list_any, map, not, not-true, off, Option, Options, OptionsIdle, refl, Result, Rules, rules, rules_with, start_after, sym, take, Terminal, terminal_of, terminals_of, TimeUnit, to_ascii_lowercase, Token, tokens_from, tokens_of, true, unit_of_word, width, with_lowercase, ℕ, ◌+◌, ◌∙◌, ◌∷◌, ◌≡◌}
 use Rattle.duration_str.proofs.Characters.UnitLemmas.{named_passes}
 use Rattle.duration_str.proofs.Sentences.SpellingLemmas.{EachPasses, lexemes_pass, tokens_spell}
@@ -43,8 +43,8 @@ idle choice text same = search (rules, read_alike, refused_alike)
 
 -- ---- Options that agree on characters and words give the same tokens and terminals
 
--- Both choices of options agree on which characters that pass the test are unit letters, and on the units of words of
--- such characters.
+-- Both choices of options agree on which characters that pass the test are unit letters, and on the
+-- units of words of such characters.
 record Agree (r : Rules) (test : ℕ → Bool) (o p : Options) : Type 0 where
   letter : (c : ℕ) → test c ≡ true → is_unit_letter o c ≡ is_unit_letter p c
   unit : (w : List ℕ) → IsTrue (list_all test w) → unit_of_word (under r o) w ≡ unit_of_word (under r p) w

@@ -16,7 +16,8 @@ found : (n : ℕ) (xs : List ℕ) → 1 ≤ times_in n xs → find (λ x. x == n
 found n [] h = absurd (omega arith)
 found n (x ∷ xs) h = grind (arith, cases_Bool, eqb-true, found n xs)
 
--- If a list has the number n, the sum of `f` over the list is `f n` plus the sum over the list with one n taken away.
+-- If a list has the number n, the sum of `f` over the list is `f n` plus the sum over the list with
+-- one n taken away.
 one_taken : (f : ℕ → ℕ) (n : ℕ) (xs : List ℕ) → 1 ≤ times_in n xs
     → sum_by f xs ≡ f n + sum_by f (remove_key (λ x. x == n) xs)
 one_taken f n xs h = let taken = rw (found n xs h) at (sum_by-remove_key f (λ x. x == n) xs) in omega arith

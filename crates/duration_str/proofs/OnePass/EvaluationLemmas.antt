@@ -3,7 +3,8 @@ use Rattle.duration_str.proofs.Common.{[], append-nil, append_assoc, arith, Bool
 use Rattle.duration_str.proofs.Sentences.SumLemmas.{AreAdded, no_fault, running_below, sum-append, value_is_sum}
 use Rattle.duration_str.proofs.Sentences.AnswerLemmas.{later_value}
 
--- the answer to a text with these terms, given the syntax fault after them, or `None` if there is none
+-- the answer to a text with these terms, given the syntax fault after them, or `None` if there is
+-- none
 abbrev pub answer_of : Bool → List Term → Option Cause → Result ℕ Cause
 answer_of no_calc terms syntax =
     fault_or (if no_calc then running_fault [] terms else first_fault terms)
@@ -61,8 +62,8 @@ one_more op before t none = search (rules, later_append, together-push)
 
 -- ---- All terms, one by one
 
--- the answer after a later term, given the total of the later terms so far, or its fault. Except under `no_calc`, a
--- syntax fault comes before that fault
+-- the answer after a later term, given the total of the later terms so far, or its fault. Except
+-- under `no_calc`, a syntax fault comes before that fault
 abbrev pub after_term : Bool → Option Cause → (ℕ → Result ℕ Cause) → Result ℕ Cause → Result ℕ Cause
 after_term no_calc syntax more (Ok total) = more total
 after_term no_calc syntax more (Err fault) = if no_calc then Err fault else fault_or syntax (Err fault)
@@ -72,8 +73,8 @@ abbrev pub value_at_end : ℕ → Option (CondUnit × ℕ) → Result ℕ Cause
 value_at_end first None = Ok first
 value_at_end first (Some (op, total)) = checked_combination op first (Ok total)
 
--- the answer, given the first value, the operator and the total of the later terms so far, the terms that are left, and
--- the syntax fault after them
+-- the answer, given the first value, the operator and the total of the later terms so far, the
+-- terms that are left, and the syntax fault after them
 abbrev pub answer_given : Bool → ℕ → Option (CondUnit × ℕ) → List Term → Option Cause → Result ℕ Cause
 answer_given no_calc first later [] syntax = fault_or syntax (value_at_end first later)
 answer_given no_calc first later (t ∷ terms) syntax =
@@ -98,12 +99,14 @@ default_first : (first : ℕ) (u : Term) (later : List Term) (syntax : Option Ca
     ≡ fault_or syntax (checked_combination u.operator first (value_by u.operator (u ∷ later)))
 default_first first u later syntax = search (rules, default_left)
 
--- Two results that come after the same possible fault are equal, if they are equal when there is no fault.
+-- Two results that come after the same possible fault are equal, if they are equal when there is no
+-- fault.
 unless_fault : {x y : Result ℕ Cause} (fault : Option Cause) → (fault ≡ None → x ≡ y)
     → fault_or fault x ≡ fault_or fault y
 unless_fault fault h = search rules
 
--- Adding one more term, as `no_calc` does, gives the new sum, or the fault of the term or of that sum.
+-- Adding one more term, as `no_calc` does, gives the new sum, or the fault of the term or of that
+-- sum.
 one_added : (f : Term) (before : List Term) (t : Term) → t.operator ≡ Plus
     → total_with (Some (Plus, sum_of (f ∷ before))) t.operator (u64_from t.number) t.length
     ≡ fault_or (running_fault (f ∷ before) (t ∷ [])) (Ok (sum_of (f ∷ (before ++ t ∷ []))))
@@ -117,7 +120,8 @@ no_calc_left f before [] syntax h a = search (rules, append-nil)
 no_calc_left f before (t ∷ later) syntax h a =
     search (rules, one_added, running_append, append_assoc, running_below, no_calc_left f (before ++ t ∷ []) later syntax)
 
--- Combining the first value with the total of all later terms gives the value of the whole list, or its fault.
+-- Combining the first value with the total of all later terms gives the value of the whole list, or
+-- its fault.
 whole_value : (f u : Term) (later : List Term)
     → checked_combination u.operator (value_of_term f) (value_by u.operator (u ∷ later))
     ≡ fault_or (evaluation_fault (f ∷ u ∷ later)) (Ok (unwrap_or (value_of (f ∷ u ∷ later)) 0))

@@ -9,7 +9,8 @@ use Rattle.std.proofs.lemmas.Bool.{eqb-false}
 
 -- ---- A property of the place of a syntax fault
 
--- A syntax fault is at a place for which `P` holds. Any other fault has no place, or is at the start of the text.
+-- A syntax fault is at a place for which `P` holds. Any other fault has no place, or is at the
+-- start of the text.
 abbrev pub Stands : (ℕ → Type 0) → Cause → Type 0
 Stands P (Syntax place expected) = P place
 Stands P cause = IfSome (place_of cause) (λ place. place ≡ 0)
@@ -74,7 +75,8 @@ seam bs xs ys utf8 e =
     let whole : bs ≡ encodes xs ++ encodes ys = rw (e, encodes-append) at (sym (encodes-chars bs utf8)) in
     rw len (IsCharBoundary-at_seam bs (encodes xs) (encodes ys) whole (ys, (more, refl)))
 
--- Each token starts at a character boundary, and the text ends at one. The characters `xs` come before the tokens.
+-- Each token starts at a character boundary, and the text ends at one. The characters `xs` come
+-- before the tokens.
 start_placed : (o : Options) (bs xs cs : List ℕ) (n at : ℕ) (tokens : List Token) → IsUtf8 bs → chars bs ≡ xs ++ cs
     → at ≡ byte_len xs → AreTokens o at cs tokens → IsCharBoundary bs (start_after n (byte_len (chars bs)) tokens)
 start_placed o bs xs cs n at [] utf8 e w a = rw drop-nil (seam bs (chars bs) [] utf8 (rw append-nil))
@@ -85,7 +87,8 @@ start_placed o bs xs cs (suc n) at (p ∷ tokens) utf8 e w (rest, next, more) =
     let end : ℕ = p.start + byte_len p.characters in
     search (rules, append_assoc, byte_len-append, start_placed o bs (xs ++ (next.blanks ++ p.characters)) rest n end tokens)
 
--- If the start of the text and the place of a syntax fault have a property, the place of any fault has it.
+-- If the start of the text and the place of a syntax fault have a property, the place of any fault
+-- has it.
 stands_at : (P : ℕ → Type 0) → P 0 → (cause : Cause) → Stands P cause → ForSome (place_of cause) P
 stands_at P start cause h = grind arith
 
@@ -105,8 +108,8 @@ chars_before bs place at utf8 boundary order =
     let sum : at ≡ place + (at - place) = omega arith in
     grind (arith, common_steps, take-add, chars-append, IsUtf8-take, length-append)
 
--- If a text is looked at up to a byte, and refused for a fault at or before that byte, the looks reach the fault's
--- place.
+-- If a text is looked at up to a byte, and refused for a fault at or before that byte, the looks
+-- reach the fault's place.
 pub reaches_place : (r : Rules) (bs : List ℕ) (at looks : ℕ) (cause : Cause) → IsUtf8 bs
     → answer r (chars bs) ≡ Err cause → IsPlacedUpTo at cause → length (chars (take at bs)) ≤ looks
     → ReachesPlace bs cause looks

@@ -1,4 +1,5 @@
--- Lemmas about the reader's steps: what comes next, by the sort of the token ahead, and what is left after it.
+-- Lemmas about the reader's steps: what comes next, by the sort of the token ahead, and what is
+-- left after it.
 use Rattle.duration_str.proofs.Common.{answer_left, arith, Bool, cases_Bool, Cause, CondUnit, cut_place, end_at, Err, expected_at_start, false, if◌then◌else◌, is_number, leaving, length, LooksAhead, None, not, number, number_fault, Ok, ok_or, operator, operator_read, Option, other, refl, Rest, rest_from, rest_of, Rules, rules, rules_at, Some, sort_of, source, sym, Syntax, TakesToken, Terminal, terminal_at, terminal_of, TimeUnit, Tokens, TokenStart, true, unit_read, word, ℕ, ◌≡◌}
 use Rattle.duration_str.specs.Answer.{expected_after_number, expected_after_unit}
 use Rattle.duration_str.proofs.Cutting.StepLemmas.{first_left, none_left}
@@ -54,7 +55,8 @@ pub no_number : (r : Rules) (rest : Rest) (cause : Cause) → number_fault rest 
     → Err cause ≡ answer_left r rest
 no_number r rest cause h = search (rules, cases_Bool)
 
--- What is read before an operator, with and without `no_calc`: the unit after a number, and the operator.
+-- What is read before an operator, with and without `no_calc`: the unit after a number, and the
+-- operator.
 module _ (r : Rules) (rest after : Rest) (at : ℕ) (op : CondUnit) (is : rest ≡ terminal_at at (operator op) after) where
   pub unit_omitted : r.options.no_calc ≡ false
       → unit_read r rest ≡ leaving rest (ok_or r.default_unit (Syntax at (expected_after_number r)))

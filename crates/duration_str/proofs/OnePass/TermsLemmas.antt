@@ -6,7 +6,8 @@ use Rattle.duration_str.proofs.Sentences.AnswerLemmas.{allowed_plus}
 use Rattle.duration_str.proofs.OnePass.EvaluationLemmas.{answer_after_first, answer_of, answer_given, checked_term_is, one_by_one}
 use Rattle.duration_str.proofs.OnePass.ReaderLemmas.{after_token}
 
--- the syntax fault at a place where these kinds are expected and these terminals follow, if there is one
+-- the syntax fault at a place where these kinds are expected and these terminals follow, if there
+-- is one
 abbrev pub fault_at : ℕ → Expected → List Terminal → Option Cause
 fault_at place expected [] = unless expected.text_end (Syntax place expected)
 fault_at place expected (terminal ∷ terminals) = Some (Syntax place expected)
@@ -80,14 +81,16 @@ terms_read : (r : Rules) (op : CondUnit) (at n : ℕ) (rest : Rest)
     → left_after r op (terminal_at at (number n) rest) ≡ after_number r op n (unit_read r rest)
 terms_read r = terms_read_from r.table r.options.lowercase r.options.cn_unit r.default_unit r.options.no_calc
 
--- After a number is taken, the terms that are left depend on the result of reading the unit after it.
+-- After a number is taken, the terms that are left depend on the result of reading the unit after
+-- it.
 pub number_taken : (r : Rules) {s a : Tokens} {n : Option ℕ} (op : CondUnit) (taken : TakesNumber s a n)
     (read : Result (ReadItem TimeUnit) Cause) → read ≡ unit_read r (rest_of r a)
     → left_after r op (rest_of r s) ≡ after_number r op taken.n read
 number_taken r {s} {a} op taken read is =
     rw (after_token (taken.token r), terms_read r op (cut_place s) taken.n (rest_of r a), is)
 
--- After an operator is read and the number after it is taken, the terms that are left depend on that result too.
+-- After an operator is read and the number after it is taken, the terms that are left depend on
+-- that result too.
 pub term_passed : (r : Rules) {s a : Tokens} {n : Option ℕ} {next : CondUnit} (b : Rest)
     → leaving (rest_of r s) (Ok (Some next)) ≡ operator_read r b → (taken : TakesNumber s a n)
     → (read : Result (ReadItem TimeUnit) Cause) → read ≡ unit_read r (rest_of r a)
@@ -192,7 +195,8 @@ first_unread r {m} {cause = cause} same taken unit =
     rw (← same, ← from_start r (rest_of r m) _ read)
     (elim r.options.no_calc as (λ b. Err cause ≡ answer_of b [] (Some cause)) [ false ↦ refl | true ↦ refl ])
 
--- If the first term is read up to b, the answer follows from the term's value, or its fault, and what is left.
+-- If the first term is read up to b, the answer follows from the term's value, or its fault, and
+-- what is left.
 pub first_step : (r : Rules) {m a : Tokens} {s b : Rest} {n : Option ℕ} {u : TimeUnit} {first : Result ℕ Cause}
     → rest_of r m ≡ s → TakesNumber m a n → leaving b (Ok u) ≡ unit_read r (rest_of r a)
     → first ≡ checked_term (Some 0) n (r.table u).nanos

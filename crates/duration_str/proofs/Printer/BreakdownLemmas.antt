@@ -64,8 +64,8 @@ pub parts_printed : (style : Style) (us : List TimeUnit) (bytes : List ℕ) (mos
 parts_printed style us bytes most nanos parts same =
     sym (each_printed style us bytes (counts_within (map nanos_of us) most nanos) ∙ ap (with_each style bytes) same)
 
--- After the first part of a duration of 2^64 nanoseconds or more, printing the rest in the same units prints the
--- other parts.
+-- After the first part of a duration of 2^64 nanoseconds or more, printing the rest in the same
+-- units prints the other parts.
 pub long_printed : (style : Style) (us : List TimeUnit) (bytes : List ℕ) (most nanos : ℕ) (u : TimeUnit) (n rest : ℕ)
     (parts : List (TimeUnit × ℕ))
     → 2 ^ 64 ≤ nanos → parts_in us most nanos ≡ (u, n) ∷ parts → nanos ≡ n * nanos_of u + rest → rest < nanos_of u

@@ -67,7 +67,8 @@ with_nothing style (u ∷ us) bytes most nanos none =
 
 -- ---- The most bytes
 
--- the most bytes that the parts of less than `limit` nanoseconds in these units can have, with a space after each part
+-- the most bytes that the parts of less than `limit` nanoseconds in these units can have, with a
+-- space after each part
 abbrev most_bytes : Style → ℕ → List TimeUnit → ℕ
 most_bytes style limit [] = 0
 most_bytes style limit (u ∷ us) =

@@ -5,7 +5,8 @@ use Rattle.std.proofs.lemmas.Str.Ascii.{IsAscii-from_all}
 use Rattle.duration_str.specs.Buffers.{IsInFront}
 use Rattle.duration_str.specs.Laws.{LastLine}
 
--- If the bytes are at the start of the buffer, what holds for them holds for the start of the buffer.
+-- If the bytes are at the start of the buffer, what holds for them holds for the start of the
+-- buffer.
 pub front_has : (P : List ℕ → Type 0) (bytes : List ℕ) (result : Option ℕ) (buffer : List ℕ) → P bytes
     → IsInFront bytes result buffer → IfSome result (λ end. P (take end buffer))
 front_has P bytes result buffer h there = search rules

@@ -67,8 +67,8 @@ otherwise b x y e = rw e refl
 abbrev near_row : List ℕ → Option Row
 near_row word = if is_megabyte word then None else find (λ row. is_near row.0 word) NEAR_WORDS
 
--- The code's table gives the name that `near_name` does. First it has the words for which `us` is written, and then the
--- words of each unit.
+-- The code's table gives the name that `near_name` does. First it has the words for which `us` is
+-- written, and then the words of each unit.
 near_found : (word : List ℕ)
     → option_map (λ row. trimmed row.1) (near_row word) ≡ option_map encode_utf8_all (near_name word)
 unfolding lib.Utf8.encode

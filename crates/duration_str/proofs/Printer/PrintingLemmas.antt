@@ -30,7 +30,8 @@ duration_lexemes style nanos = lexemes style (printed nanos)
 abbrev pub part : Style → TimeUnit × ℕ → List ℕ
 part style p = printed_part style p.1 p.0
 
--- Lexemes that spell the rest, with the two lexemes of a part before them, spell the part and the rest.
+-- Lexemes that spell the rest, with the two lexemes of a part before them, spell the part and the
+-- rest.
 part_spelled : (style : Style) (blanks rest : List ℕ) (p : TimeUnit × ℕ) (ps : List (TimeUnit × ℕ)) → IsBlank blanks
     → Spells (lexemes style ps) rest → Spells (lexemes style (p ∷ ps)) (blanks ++ (part style p ++ rest))
 part_spelled style blanks rest p ps blank more = grind (arith, common_steps)

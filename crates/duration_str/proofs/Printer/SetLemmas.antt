@@ -130,7 +130,8 @@ out_skipped set us i inside h =
 suc_plus : (i : ℕ) → suc i ≡ i + 1
 suc_plus i = omega arith
 
--- If none of the first i units is in the set, the set chooses the same units from the others as from all.
+-- If none of the first i units is in the set, the set chooses the same units from the others as
+-- from all.
 chosen_from : (set : Units) (us : List TimeUnit) (i : ℕ) → i ≤ length us
     → ((j : ℕ) → j < i → is_in set (slice_index_or us j Year) ≡ false) → chosen set us ≡ chosen set (drop i us)
 chosen_from set us zero inside none = refl

@@ -1,4 +1,5 @@
--- Lemmas about a text with a space after each of its parts, and about the counts of a duration below a day.
+-- Lemmas about a text with a space after each of its parts, and about the counts of a duration
+-- below a day.
 use Rattle.duration_str.proofs.Common.{append_assoc, arith, counts_of, decimal, encode_utf8_all, length, length-append, length-decimal-le_wide, length-take-le, List, take-append_seam, row_of, rules, Short, sym, take, TimeUnit, unit_lengths, with_gap, with_part, [], ℕ, ◌%◌, ◌*◌, ◌++◌, ◌+◌, ◌-◌, ◌/◌, ◌<◌, ◌^◌, ◌∙◌, ◌∷◌, ◌≡◌, ◌≤◌, ap, drop, drop_more, get_or, with_counts, Year}
 use Rattle.duration_str.proofs.Printer.DigitLemmas.{some_decimal}
 use Rattle.std.proofs.lemmas.List.{take-take}

@@ -221,7 +221,7 @@ answer_refused r text cause =
 pub answer_is_reading_holds : AnswerIsReading
 answer_is_reading_holds = record { read = answer_read; refused = answer_refused }
 
--- ---- A text that a sum spells is read as the sum if it is below 2^64, and otherwise refused as an overflow
+-- ---- A text that a sum spells is read as the sum, or overflows if that is 2^64 or more
 
 -- The lexemes are a sentence without `*`, and they spell the text.
 pub record IsSumOf (r : Rules) (lexemes : List (List ℕ)) (text : List ℕ) : Type 0 where

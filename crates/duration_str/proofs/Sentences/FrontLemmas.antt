@@ -60,8 +60,8 @@ module _ (r : Rules) where
       → AreAllowed r None front
   begins_allowed front b = ((allowed-append None front b.0).0 (sentence_allowed (front ++ b.0) b.1)).0
 
-  -- Terminals that the table allows one after another begin a sentence, and they are a sentence exactly if the table
-  -- allows the end after them.
+  -- Terminals that the table allows one after another begin a sentence, and they are a sentence
+  -- exactly if the table allows the end after them.
   allowed_begins : (terminals : List Terminal) → AreAllowed r None terminals
       → BeginsSentence r terminals
       × (CanEnd r None terminals ↔ IsSentence r terminals)

@@ -46,7 +46,8 @@ module _ (r : Rules) where
   stops_before c cs [] (d ∷ ds) rest h p q a = false_from_ne_true _ (λ run.
       sorts_apart r _ _ a (sym (lexeme_sort r c cs p) ∙ grind (arith, or_cases, and_parts, letter-not_digit) ∙ lexeme_sort r d ds q))
 
-  -- A lexeme of a sentence is as long as possible: its run of characters ends where the lexeme ends.
+  -- A lexeme of a sentence is as long as possible: its run of characters ends where the lexeme
+  -- ends.
   ends_in_sentence : (w rest : List ℕ) (ws : List (List ℕ)) → IsLexeme r.options w
       → AreAllowed r (Some (terminal_of r w)) (map (terminal_of r) ws) → Spells ws rest
       → EndsRun r.options w rest

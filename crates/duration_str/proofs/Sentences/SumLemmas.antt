@@ -16,7 +16,8 @@ fits-true n = (ltb-true n (2 ^ 64), lt-ltb n (2 ^ 64))
 pub is_same_operator-true : (op next : CondUnit) → (is_same_operator op next ≡ true) ↔ (next ≡ op)
 is_same_operator-true op next = grind arith
 
--- rules that turn "there is no fault" into "each number is below 2^64, and the operators are the same"
+-- rules that turn "there is no fault" into "each number is below 2^64, and the operators are the
+-- same"
 pub ruleset no_fault = (or_else-none, unless-none, fits-true, is_same_operator-true)
 
 pub term_below_no_fault : (place : Option ℕ) (t : Term) → t.number < 2 ^ 64 → value_of_term t < 2 ^ 64

@@ -34,8 +34,8 @@ pub record Passes (test : ℕ → Bool) (text : Bytes) (place next : ℕ) : Type
   pub between : Between text place next characters
   pub all : IsTrue (list_all test characters)
 
--- the digit for a character of this list, whose first character has the digit n, the next n + 1, and so on. It is 0 for
--- any other character
+-- the digit for a character of this list, whose first character has the digit n, the next n + 1,
+-- and so on. It is 0 for any other character
 abbrev pub number_in : ℕ → Characters → ℕ → ℕ
 number_in n [] c = 0
 number_in n (d ∷ letters) c = if d == c then n else number_in (n + 1) letters c
@@ -44,12 +44,13 @@ number_in n (d ∷ letters) c = if d == c then n else number_in (n + 1) letters 
 abbrev pub wide_number : ℕ → ℕ
 wide_number c = number_in 27 (0xB5 ∷ chinese_letters) c
 
--- the digit for a capital under `lowercase`. `M` has 39, which no other letter has. The others have the digit of `z`,
--- which is in no name
+-- the digit for a capital under `lowercase`. `M` has 39, which no other letter has. The others have
+-- the digit of `z`, which is in no name
 abbrev pub capital_number : ℕ → ℕ
 capital_number c = if c == 77 then 39 else 26
 
--- the digit for a unit letter. A capital has the same digit as its small letter, unless `lowercase` is on
+-- the digit for a unit letter. A capital has the same digit as its small letter, unless `lowercase`
+-- is on
 abbrev pub letter_number : Options → ℕ → ℕ
 letter_number o c =
     if o.lowercase && is_ascii_uppercase c then capital_number c
@@ -69,7 +70,8 @@ pub record TakesDigits (text : Bytes) (place next value : ℕ) : Type 0 where
   pub run : Passes is_digit text place next
   pub number : value ≡ number_of run.characters % 2 ^ 64
 
--- The characters from `place` to `next` are unit letters, and `value` is their packed number modulo 2^64.
+-- The characters from `place` to `next` are unit letters, and `value` is their packed number modulo
+-- 2^64.
 pub record TakesLetters (o : Options) (text : Bytes) (place next value : ℕ) : Type 0 where
   pub run : Passes (is_unit_letter o) text place next
   pub number : value ≡ packed_number o run.characters % 2 ^ 64

@@ -9,7 +9,8 @@ use Rattle.duration_str.specs.Printing.{before_name, name_in}
 use Rattle.duration_str.specs.Units.{nanos_of}
 use Rattle.duration_str.specs.Format.{counts_within}
 
--- the bytes, followed by the space between two parts, unless the bytes are empty or the style is compact
+-- the bytes, followed by the space between two parts, unless the bytes are empty or the style is
+-- compact
 abbrev pub with_gap : Style → Bytes → Bytes
 with_gap Compact bytes = bytes
 with_gap style [] = []

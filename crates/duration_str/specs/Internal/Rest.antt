@@ -22,7 +22,8 @@ use Rattle.duration_str.specs.declared.token.TokenStart.TheVariants.{Number}
 
 -- ---- What is left, and what is read next
 
--- The terminals that are left, each with the byte at which it starts, and the byte at which the text ends.
+-- The terminals that are left, each with the byte at which it starts, and the byte at which the
+-- text ends.
 pub data Rest : Type 0 where
   terminal_at : ℕ → Terminal → Rest → Rest
   end_at : ℕ → Rest
@@ -36,8 +37,8 @@ rest_from r len (p ∷ tokens) = terminal_at p.start (terminal_of r p.characters
 abbrev pub rest_of : Rules → Tokens → Rest
 rest_of r s = rest_from (rules_at r s) (length (source s)) (tokens_left s)
 
--- the byte at which terminal n of the rest starts, counted from 0, or at which the text ends if there is no such
--- terminal
+-- the byte at which terminal n of the rest starts, counted from 0, or at which the text ends if
+-- there is no such terminal
 abbrev pub start_left : ℕ → Rest → ℕ
 start_left n (end_at at) = at
 start_left zero (terminal_at at terminal rest) = at
@@ -62,13 +63,14 @@ abbrev pub leaving : {A : Type 0} → Rest → Result A Cause → Result (ReadIt
 leaving rest (Ok item) = Ok (record { item = item; rest = rest })
 leaving rest (Err cause) = Err cause
 
--- the fault if the rest does not start with a number, as it must at the start of a text and after an operator
+-- the fault if the rest does not start with a number, as it must at the start of a text and after
+-- an operator
 abbrev pub number_fault : Rest → Option Cause
 number_fault (terminal_at at (number n) rest) = None
 number_fault rest = Some (misplacement expected_at_start rest)
 
--- the unit after a number. Before an operator and at the end the unit can be left out, and is then the default unit if
--- there is one
+-- the unit after a number. Before an operator and at the end the unit can be left out, and is then
+-- the default unit if there is one
 abbrev pub unit_read : Rules → Rest → Result (ReadItem TimeUnit) Cause
 unit_read r (terminal_at at (word (Some u)) rest) = leaving rest (Ok u)
 unit_read r (terminal_at at (operator op) rest) =
@@ -77,8 +79,8 @@ unit_read r (terminal_at at (operator op) rest) =
 unit_read r (end_at at) = leaving (end_at at) (ok_or r.default_unit (Syntax at (expected_after_number r)))
 unit_read r rest = Err (misplacement (expected_after_number r) rest)
 
--- the operator after a unit. A number must follow it. If the operator is left out, it is plus, and at the end it is
--- `None`
+-- the operator after a unit. A number must follow it. If the operator is left out, it is plus, and
+-- at the end it is `None`
 abbrev pub operator_read : Rules → Rest → Result (ReadItem (Option CondUnit)) Cause
 operator_read r (terminal_at at (number n) rest) = leaving (terminal_at at (number n) rest) (Ok (Some Plus))
 operator_read r (terminal_at at (operator op) rest) =
@@ -108,21 +110,22 @@ answer_left r rest =
 
 -- ---- Values, or the first fault
 
--- the combination of two values if it is below 2^64, and otherwise an overflow. If the second value is a fault, it is
--- that fault
+-- the combination of two values if it is below 2^64, and otherwise an overflow. If the second value
+-- is a fault, it is that fault
 abbrev pub checked_combination : CondUnit → ℕ → Result ℕ Cause → Result ℕ Cause
 checked_combination op x (Ok y) = ok_or (u64_from (combination op x y)) (Overflow None)
 checked_combination op x (Err cause) = Err cause
 
--- the total of the later terms after one more term, or the fault of that step. `later` has their operator and their
--- total so far, and `next` is the operator before the new term
+-- the total of the later terms after one more term, or the fault of that step. `later` has their
+-- operator and their total so far, and `next` is the operator before the new term
 abbrev pub total_with : Option (CondUnit × ℕ) → CondUnit → Option ℕ → ℕ → Result ℕ Cause
 total_with None next n length = checked_term None n length
 total_with (Some (op, total)) next n length =
     fault_or (unless (is_same_operator op next) (Mixed op next))
     (checked_combination op total (checked_term None n length))
 
--- the later terms or the fault of their total, given the operator between the terms, and this total or its fault
+-- the later terms or the fault of their total, given the operator between the terms, and this total
+-- or its fault
 abbrev pub by_operator : CondUnit → Result ℕ Cause → Result (Option (CondUnit × ℕ)) Cause
 by_operator op (Ok total) = Ok (Some (op, total))
 by_operator op (Err cause) = Err cause

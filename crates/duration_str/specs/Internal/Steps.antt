@@ -44,8 +44,8 @@ abbrev pub IsAhead : Tokens → Option TokenStart → Type 0
 IsAhead s None = s.head ≡ None
 IsAhead s (Some sort) = StartsToken s sort
 
--- Blanks are skipped, so the same tokens are left, and a token of this sort is ahead. `None` means that the text ends
--- here.
+-- Blanks are skipped, so the same tokens are left, and a token of this sort is ahead. `None` means
+-- that the text ends here.
 pub record LooksAhead (old new : Tokens) (sort : Option TokenStart) : Type 0 where
   pub kept : KeepsInput old new
   pub same_left : tokens_left new ≡ tokens_left old
@@ -74,7 +74,8 @@ IsSign _ = ⊤
 abbrev pub rules_at : Rules → Tokens → Rules
 rules_at r s = record r { options = options_of s }
 
--- The first token that is left is taken. It starts at the place and stands for this terminal, by these rules.
+-- The first token that is left is taken. It starts at the place and stands for this terminal, by
+-- these rules.
 pub record TakesToken (r : Rules) (old new : Tokens) (terminal : Terminal) : Type 0 where
   pub characters : Characters
   pub kept : KeepsInput old new
@@ -82,7 +83,8 @@ pub record TakesToken (r : Rules) (old new : Tokens) (terminal : Terminal) : Typ
   pub between : Between (source old) (cut_place old) (cut_place new) characters
   pub is_terminal : terminal ≡ terminal_of (rules_at r old) characters
 
--- The first token that is left is taken. By all rules it is a number, and `value` is `None` if it is 2^64 or more.
+-- The first token that is left is taken. By all rules it is a number, and `value` is `None` if it
+-- is 2^64 or more.
 pub record TakesNumber (old new : Tokens) (value : Option ℕ) : Type 0 where
   pub n : ℕ
   pub kept : KeepsInput old new
