@@ -31,7 +31,7 @@ LENGTHS |= {name.upper(): length for name, length in LENGTHS.items() if name.isa
 VALUES = (
     dict.fromkeys(("to", "from", "largest", "smallest"), list(LENGTHS))
     | {
-        "style": ("short", "compact", "long"),
+        "style": reference.STYLES,
         "round": ("down", "up", "nearest"),
         "decimals": range(10),
         "field": (1, 2, 3, 5),

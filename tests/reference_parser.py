@@ -44,6 +44,9 @@ UNITS = (
     Unit(1, "ns", "ns nsec nanosecond nanoseconds", "纳秒"),
 )
 
+# The styles in which durations are printed.
+STYLES = ("short", "compact", "long")
+
 PLACES = {name: place for place, unit in enumerate(UNITS) for name in unit.names.split()}
 
 # The line of a syntax fault where a unit could stand, and the most bytes that a printed duration
@@ -586,7 +589,7 @@ def print_part(count, unit, style):
 
 def print_within(nanos, units, parts, style="short"):
     """The text of a duration in these units, which are in the order of UNITS, in at most `parts`
-    parts, and in one of the styles short, compact and long.
+    parts, and in one of the styles.
     """
     counts = counts_within(nanos, tuple(unit.length for unit in units), parts)
     printed_parts = [print_part(count, unit, style) for count, unit in zip(counts, units) if count]
