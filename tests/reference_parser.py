@@ -7,6 +7,7 @@ of a sentence, it tries each kind of terminal there. And its numbers are whole n
 bound. If the documents say that there is only one answer, it looks for all answers, and fails if it
 finds more than one.
 """
+import fractions
 import functools
 import itertools
 import re
@@ -113,6 +114,13 @@ class Choice(typing.NamedTuple):
 
     def answer(self, text):
         return answer_of(text, self.options, self.default_unit and self.default_unit.length)
+
+
+def as_packages_mean(choice):
+    """The choice, with `no_calc` on if its default unit is not the second."""
+    if choice.default_unit is None or choice.default_unit.length == SECOND:
+        return choice
+    return choice._replace(options=choice.options._replace(no_calc=True))
 
 
 # All sets of units, in the order of their numbers for C. A set's number is the sum of 2^n over the
@@ -513,6 +521,31 @@ def prepare(text, choices):
         return
     for choice in choices:
         choice.answer(text)
+
+
+# A number with a fraction or an exponent
+BARE = re.compile(
+    rf"[{BLANKS}]*([0-9]*\.[0-9]+([eE][-+]?[0-9]+)?|[0-9]+[eE][-+]?[0-9]+)[{BLANKS}]*"
+)
+
+
+def rounded(number, way):
+    """The next whole number below or above, or the nearest one. If two are equally near, it is the
+    upper one.
+    """
+    return {"up": -(-number // 1), "nearest": (number + fractions.Fraction(1, 2)) // 1}.get(
+        way, number // 1
+    )
+
+
+def bare_number(text, length, way):
+    """The nanoseconds that the command `duration` reads with `--from`, if a text is a number with a
+    fraction or an exponent, of a unit with this length. Decimals after the 18th are cut off, and
+    count only if numbers are rounded up. The result is None if the duration is too long.
+    """
+    decimals = rounded(fractions.Fraction(text.strip(BLANKS)) * 10**18, way)
+    nanos = rounded(fractions.Fraction(decimals * length, 10**18), way)
+    return nanos if nanos < LIMIT else None
 
 
 def quotients(nanos, lengths, chosen):

@@ -15,7 +15,7 @@ mod owned;
 mod printing;
 mod values;
 
-use duration_str::{Options, Style, TimeUnit, humantime};
+use duration_str::{Options, TimeUnit, humantime};
 use serde::Deserialize;
 
 fn has(names: &[String], name: &str) -> bool {
@@ -70,10 +70,13 @@ struct Vectors {
     values: Vec<Group>,
     /// Numbers that are not texts: a default unit, a number, and its seconds and nanoseconds.
     numbers: Vec<(String, u64, u64, u32)>,
-    /// Such numbers that are refused.
-    refused_numbers: Vec<(String, serde_json::Value)>,
+    /// Such numbers that are refused, each with the line for its digits.
+    refused_numbers: Vec<(String, serde_json::Value, String)>,
+    /// The names of the styles.
+    styles: Vec<String>,
     printed: Vec<Printed>,
-    printed_in: Vec<PrintedIn>,
+    /// Rows for which no unit or no part is left.
+    printed_as_zero: Vec<Printed>,
     /// Texts that are refused, with everything that their faults say.
     refused: Vec<Refused>,
 }
@@ -101,29 +104,20 @@ struct Refused(
     Option<usize>,
 );
 
-/// A row of six fields: a duration's text, or its seconds and nanoseconds as in `1 s 1 ns`, the
-/// largest unit, the smallest unit, the greatest number of parts, the printed text in the short
-/// style, and the printed text in the long style.
+/// A duration's text, or its seconds and nanoseconds as in `1 s 1 ns`, how it is printed, the
+/// printed text in the short style and in the long style, and the seconds and nanoseconds of the
+/// rest.
 #[derive(Deserialize)]
-struct Printed(String, String, String, usize, String, String);
+struct Printed(String, Limits, String, String, u64, u32);
 
-/// All styles.
-pub const STYLES: &[Style] = &[Style::Short, Style::Compact, Style::Long];
-
-/// The printed text in each style, given the short and the long one.
-pub fn in_styles(short: &str, long: &str) -> Vec<(Style, String)> {
-    let text = |style: Style| match style {
-        Style::Short => short.to_string(),
-        Style::Compact => short.replace(' ', ""),
-        Style::Long => long.to_string(),
-        _ => panic!("no text in the style {style}"),
-    };
-    STYLES.iter().map(|style| (*style, text(*style))).collect()
+/// The units and the greatest number of parts. What is left out limits nothing.
+#[derive(Deserialize)]
+struct Limits {
+    units: Option<Vec<String>>,
+    largest: Option<String>,
+    smallest: Option<String>,
+    parts: Option<usize>,
 }
-
-/// A row like `Printed`, with the names of the units to print in. Their order doesn't matter.
-#[derive(Deserialize)]
-struct PrintedIn(String, Vec<String>, usize, String, String);
 
 fn vectors() -> Vectors {
     serde_json::from_str(include_str!("../../vectors.json"))

@@ -108,9 +108,9 @@ fn reads_the_digits_of_numbers_in_another_unit() {
         let read = parse_in(&number.to_string(), unit.parse().unwrap());
         assert_eq!(read, Ok(Duration::new(secs, nanos)), "{number} {unit}");
     }
-    for (unit, number) in vectors().refused_numbers {
-        let read = parse_in(&number.to_string(), unit.parse().unwrap());
-        assert!(read.is_err(), "{number} {unit}");
+    for (unit, number, line) in vectors().refused_numbers {
+        let refusal = parse_in(&number.to_string(), unit.parse().unwrap()).unwrap_err();
+        assert_eq!(refusal.to_string(), line);
     }
 }
 
