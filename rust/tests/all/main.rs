@@ -15,8 +15,11 @@ mod owned;
 mod printing;
 mod values;
 
-use duration_str::{Options, TimeUnit, humantime};
+use duration_str::{
+    DurationError, Options, TimeUnit, humantime, parse_duration, parse_in, parse_require_unit,
+};
 use serde::Deserialize;
+use std::time::Duration;
 
 fn has(names: &[String], name: &str) -> bool {
     names.iter().any(|each| each == name)
@@ -59,6 +62,32 @@ const FEATURES: Options = Options {
     lowercase: cfg!(feature = "lowercase"),
     cn_unit: cfg!(feature = "cn_unit"),
 };
+
+/// The options of the calls that return a `DurationError`. Only the feature `cn_unit`, which adds
+/// names, affects them.
+const ADDITIONS: Options = Options {
+    cn_unit: cfg!(feature = "cn_unit"),
+    ..Options::off()
+};
+
+/// What these calls return for a text, if there are some that read under these options with this
+/// default unit.
+fn by_usual_calls(
+    text: &str,
+    options: Options,
+    default_unit: Option<TimeUnit>,
+) -> Vec<Result<Duration, DurationError>> {
+    match default_unit {
+        None if options == ADDITIONS => vec![parse_require_unit(text)],
+        Some(TimeUnit::Second) if options == ADDITIONS => {
+            vec![parse_duration(text), parse_in(text, TimeUnit::Second)]
+        }
+        Some(unit) if unit != TimeUnit::Second && options == ADDITIONS.with_no_calc() => {
+            vec![parse_in(text, unit)]
+        }
+        _ => vec![],
+    }
+}
 
 /// The file `vectors.json`, which the tests of all packages read. It has texts with their values,
 /// texts that are refused, and durations with their printed texts.
