@@ -60,7 +60,7 @@
 #define DURATION_STR_FORMAT_BUFFER_SIZE 64
 
 /* The most bytes that a text of duration_str_format_with has, in any style. */
-#define DURATION_STR_MAX_STYLED_LEN 134
+#define DURATION_STR_MAX_LONG_LEN 134
 /* The size of the buffer that duration_str_format_with prints into. */
 #define DURATION_STR_FORMAT_WITH_BUFFER_SIZE 144
 
@@ -267,7 +267,7 @@ size_t duration_str_format(
 
 /* Prints a duration of `secs` seconds and `nanos` nanoseconds to the start of
  * `buffer`, which has DURATION_STR_FORMAT_WITH_BUFFER_SIZE bytes. Returns the
- * length of the text, at most DURATION_STR_MAX_STYLED_LEN.
+ * length of the text, at most DURATION_STR_MAX_LONG_LEN.
  *
  * `style` is one of `enum duration_str_style`. The text has as many of the
  * largest unit in the set `units` as fit, then as many of the next, and so on,
