@@ -95,10 +95,13 @@ def durations():
 
 
 def differing():
-    """The rows that the reference parser answers in another way, each with its answer."""
-    rows = tables()
+    """The rows that the reference parser answers in another way, each with its answer. A text of
+    several choices is named once.
+    """
+    rows, named = tables(), set()
     for text, choice, nanos in texts():
-        if (told := choice.answer(text).value) != nanos:
+        if (told := choice.answer(text).value) != nanos and text not in named:
+            named.add(text)
             yield [text, choice.words(), nanos], told
     yield from ((row, told) for row, told, _ in refusals() if row != told)
     for row in rows["from"]:
