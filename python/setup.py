@@ -114,7 +114,8 @@ class Sources(sdist):
     def make_release_tree(self, base_dir, files):
         super().make_release_tree(base_dir, files)
         copy_crates(base_dir)
-        shutil.copyfile(CRATES / "rust/vectors.json", pathlib.Path(base_dir, "rust/vectors.json"))
+        for folder, name in (HERE, "src/duration_str/_lists.h"), (CRATES, "rust/vectors.json"):
+            shutil.copyfile(folder / name, pathlib.Path(base_dir, name))
         for name in ["tests", "examples"]:
             # Later versions of setuptools have copied some of the tests already.
             shutil.copytree(

@@ -23,16 +23,12 @@ from texts import Texts  # noqa: E402
 LONGEST_LINE = 1_048_576
 BLANKS = reference.BLANKS
 EDGES = BLANKS.encode() + b'"'  # What is around the text in a field.
-# A number with a fraction or an exponent
-NUMBER = re.compile(
-    rf"[{BLANKS}]*([0-9]*\.[0-9]+([eE][-+]?[0-9]+)?|[0-9]+[eE][-+]?[0-9]+)[{BLANKS}]*"
-)
 LENGTHS = {name: unit.length for unit in reference.UNITS for name in unit.names.split()}
 LENGTHS |= {name.upper(): length for name, length in LENGTHS.items() if name.isascii()}
 VALUES = (
     dict.fromkeys(("to", "from", "largest", "smallest"), list(LENGTHS))
     | {
-        "style": ("short", "compact", "long"),
+        "style": reference.STYLES,
         "round": ("down", "up", "nearest"),
         "decimals": range(10),
         "field": (1, 2, 3, 5),
@@ -55,20 +51,12 @@ Said = collections.namedtuple("Said", "output errors status")
 quoted = json.JSONEncoder(ensure_ascii=False).encode
 
 
-def rounded(number, way):
-    """The next whole number below or above, or the nearest one. If two are equally near, it is the
-    upper one.
-    """
-    return {"up": -(-number // 1), "nearest": (number + fractions.Fraction(1, 2)) // 1}.get(
-        way, number // 1
-    )
-
-
 def number_in(nanos, unit, decimals=None, way="down"):
     """A duration as a number of this unit, with this many decimals, or with as many as it needs."""
     digits = 9 if decimals is None else decimals
     whole, rest = divmod(
-        rounded(fractions.Fraction(nanos * 10**digits, LENGTHS[unit]), way), 10**digits
+        reference.rounded(fractions.Fraction(nanos * 10**digits, LENGTHS[unit]), way),
+        10**digits,
     )
     text = f"{whole}.{rest:0{digits}}" if digits else str(whole)
     return text.rstrip("0").rstrip(".") if decimals is None else text
@@ -109,17 +97,11 @@ def units_of(options):
 
 
 def read_number(text, options):
-    """The nanoseconds of a bare number. With `--round up` decimals that are cut off after the 18th
-    also make it larger.
-    """
-    way = options["round"] if options.get("round") == "up" else "down"
-    decimals = rounded(fractions.Fraction(text) * 10**18, way)
-    nanos = rounded(fractions.Fraction(decimals * LENGTHS[options["from"]], 10**18), way)
-    return (
-        nanos
-        if nanos < reference.LIMIT
-        else Refused(f"duration of over 584 years in {reference.quote(text)}")
-    )
+    """The nanoseconds of a bare number, or why it is refused."""
+    way = "up" if options.get("round") == "up" else "down"
+    nanos = reference.bare_number(text, LENGTHS[options["from"]], way)
+    line = f"duration of over 584 years in {reference.quote(text)}"
+    return Refused(line) if nanos is None else nanos
 
 
 def read(data, options):
@@ -128,7 +110,7 @@ def read(data, options):
         text = data.decode()
     except UnicodeDecodeError:
         return Refused("not UTF-8")
-    if "from" in options and NUMBER.fullmatch(text):
+    if "from" in options and reference.BARE.fullmatch(text):
         return read_number(text.strip(BLANKS), options)
     text = (
         text if len(text) < 10_000 else text.strip(BLANKS)

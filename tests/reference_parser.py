@@ -7,6 +7,7 @@ of a sentence, it tries each kind of terminal there. And its numbers are whole n
 bound. If the documents say that there is only one answer, it looks for all answers, and fails if it
 finds more than one.
 """
+import fractions
 import functools
 import itertools
 import re
@@ -43,6 +44,9 @@ UNITS = (
     Unit(10**3, "µs", "µs µsec µsecond us usec usecond microsecond microseconds", "微秒"),
     Unit(1, "ns", "ns nsec nanosecond nanoseconds", "纳秒"),
 )
+
+# The styles in which durations are printed.
+STYLES = ("short", "compact", "long")
 
 PLACES = {name: place for place, unit in enumerate(UNITS) for name in unit.names.split()}
 
@@ -110,6 +114,13 @@ class Choice(typing.NamedTuple):
 
     def answer(self, text):
         return answer_of(text, self.options, self.default_unit and self.default_unit.length)
+
+
+def as_packages_mean(choice):
+    """The choice, with `no_calc` on if its default unit is not the second."""
+    if choice.default_unit is None or choice.default_unit.length == SECOND:
+        return choice
+    return choice._replace(options=choice.options._replace(no_calc=True))
 
 
 # All sets of units, in the order of their numbers for C. A set's number is the sum of 2^n over the
@@ -512,6 +523,31 @@ def prepare(text, choices):
         choice.answer(text)
 
 
+# A number with a fraction or an exponent
+BARE = re.compile(
+    rf"[{BLANKS}]*([0-9]*\.[0-9]+([eE][-+]?[0-9]+)?|[0-9]+[eE][-+]?[0-9]+)[{BLANKS}]*"
+)
+
+
+def rounded(number, way):
+    """The next whole number below or above, or the nearest one. If two are equally near, it is the
+    upper one.
+    """
+    return {"up": -(-number // 1), "nearest": (number + fractions.Fraction(1, 2)) // 1}.get(
+        way, number // 1
+    )
+
+
+def bare_number(text, length, way):
+    """The nanoseconds that the command `duration` reads with `--from`, if a text is a number with a
+    fraction or an exponent, of a unit with this length. Decimals after the 18th are cut off, and
+    count only if numbers are rounded up. The result is None if the duration is too long.
+    """
+    decimals = rounded(fractions.Fraction(text.strip(BLANKS)) * 10**18, way)
+    nanos = rounded(fractions.Fraction(decimals * length, 10**18), way)
+    return nanos if nanos < LIMIT else None
+
+
 def quotients(nanos, lengths, chosen):
     """A count for each of these lengths. The count of a chosen length is how often it goes into
     what is left, and the count of any other length is 0.
@@ -586,7 +622,7 @@ def print_part(count, unit, style):
 
 def print_within(nanos, units, parts, style="short"):
     """The text of a duration in these units, which are in the order of UNITS, in at most `parts`
-    parts, and in one of the styles short, compact and long.
+    parts, and in one of the styles.
     """
     counts = counts_within(nanos, tuple(unit.length for unit in units), parts)
     printed_parts = [print_part(count, unit, style) for count, unit in zip(counts, units) if count]

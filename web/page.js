@@ -8,6 +8,7 @@ import {
 import { LANGUAGES } from "./code.js";
 import { button, element, make, text, write } from "./elements.js";
 import { readLink, showUnknown, writeLink } from "./link.js";
+import { STYLES } from "./lists.js";
 import { UNITS } from "./units.js";
 
 /** After this many milliseconds without a key, screen readers get the answer and the link is
@@ -89,6 +90,7 @@ function showPrinting() {
     const counts = UNITS.map((_, place) => new Option(place + 1, place + 1));
     counts.at(-1).text = "all";
     printing.parts.replaceChildren(...counts);
+    printing.style.replaceChildren(...STYLES.map((style) => new Option(style, style)));
     for (const [name, box] of Object.entries(printing)) {
         box.value = WHOLE[name];
         box.addEventListener("change", read);

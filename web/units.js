@@ -1,28 +1,15 @@
 // The units, and the terms of a text that the library has read. Only the library says what a text
 // means.
+import { UNITS as LISTED } from "./lists.js";
 import { formatNs, parseNs } from "../js/dist/duration-str.js";
 
 /** A text with more UTF-16 units than this is marked in an excerpt instead of the input, and the
  * link doesn't contain it. */
 export const LONG = 2_000;
 
-// The list is made by tests/repository --write.
-/** All units, the longest first: their names, of which the last two are the singular and the
- * plural, the names that `cn_unit` adds, the words that the library says are near, their lengths
- * in nanoseconds and in words, and their printed names. */
-export const UNITS = [
-    ["y year years", "年", "yr yrs"],
-    ["q quarter quarters", "", "qtr qtrs"],
-    ["mon month months", "月", "mons mth mths mo mos"],
-    ["w week weeks", "周", "wk wks"],
-    ["d day days", "日 天", ""],
-    ["h hr hour hours", "时", "hrs"],
-    ["m min minute minutes", "分", "mins"],
-    ["s sec second seconds", "秒", "secs"],
-    ["ms msec millisecond milliseconds", "毫秒", "msecs millis"],
-    ["µs µsec µsecond us usec usecond microsecond microseconds", "微秒", "µsecs µseconds usecs useconds micros"],
-    ["ns nsec nanosecond nanoseconds", "纳秒", "nsecs nanos"],
-].map((rows) => {
+/** The units of the list, also with their lengths in nanoseconds and in words, and with their
+ * printed names. */
+export const UNITS = LISTED.map((rows) => {
     const [names, chinese, near] = rows.map((row) => row.split(" ").filter(Boolean));
     const nanos = parseNs(`1${names[0]}`);
     const length = formatNs(nanos, { largest: "d", style: "long" });

@@ -1,10 +1,11 @@
 // Reads and prints durations as people write them. index.d.ts documents the exports.
+import { UNITS } from "./lists.js";
 import {
     ANSWER, calls, fields, loneSurrogateIn, output, start, TEXT, write, WRITTEN,
 } from "./memory.js";
 import {
     ALL_UNITS, bitsOf, COUNTED, COUNTED_UNITS, countOf, formatOf, PARTS, PRINTED, READS_NUMBERS,
-    styleOf, typeOf, UNITS, unitsLeft,
+    styleOf, typeOf, unitsLeft,
 } from "./options.js";
 import { DurationError, faultOf, loneSurrogateAt } from "./refusals.js";
 

@@ -1,10 +1,8 @@
 // The options of reading, and the format in which durations are printed and counted.
+import { STYLES, UNITS } from "./lists.js";
 import { calls, start, TEXT, write } from "./memory.js";
 
-/** The printed names of the units, in the order of `enum duration_str_time_unit`, and their names
- * in `parts`, which has no quarters. */
-// Made by tests/repository --write.
-export const UNITS = ["y", "q", "mon", "w", "d", "h", "min", "s", "ms", "µs", "ns"];
+/** The names of the units in `parts`, which has no quarters. */
 export const PARTS = [
     "years", null, "months", "weeks", "days", "hours", "minutes",
     "seconds", "milliseconds", "microseconds", "nanoseconds",
@@ -13,8 +11,6 @@ export const PARTS = [
  * units, and the set of the units that `parts` counts. */
 export const ALL_UNITS = (1 << UNITS.length) - 1;
 export const COUNTED_UNITS = ALL_UNITS & ~(1 << PARTS.indexOf(null));
-/** The styles, in the order of `enum duration_str_style`. */
-const STYLES = ["short", "compact", "long"];
 /** The options of reading that are on or off. Each has the bit `1 << index`, as in
  * `enum duration_str_option`. */
 const OPTIONS = ["noCalc", "lowercase", "cnUnit", "requireUnit"];

@@ -1,12 +1,8 @@
 // Why a text is refused: the fault that a call returns, and the error that a call throws.
+import { CODES } from "./lists.js";
 import {
     CAUSE, decode, EXPECTED, fields, FOUND_LENGTH, HAS_PLACE, output, PLACE, texts,
 } from "./memory.js";
-
-/** The codes of refusals, in the order of `enum duration_str_cause` in the library's header. */
-const CODES = [
-    "READ", "EMPTY", "SYNTAX", "NUMBER_TOO_LARGE", "OVERFLOW", "MIXED", "OUT_OF_RANGE", "NOT_TEXT",
-];
 
 /** The most UTF-16 units of a text that Node shows with an error. */
 const SHOWN_LENGTH = 80;

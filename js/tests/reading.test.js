@@ -84,65 +84,15 @@ test("takes no option from Object.prototype, and minds none there", () => {
     }
 });
 
-test("counts the default unit where a number has none", () => {
-    const rows = [
-        ["1500", "ms", 1500],
-        ["1s 500", "ms", 1500],
-        ["1h 30", "milliseconds", 3_600_030],
-        ["2h", "ms", 7_200_000],
-        ["1", "y", 31_536_000_000],
-        ["1", "q", 7_862_400_000],
-        ["1", "mon", 2_592_000_000],
-        ["1", "weeks", 604_800_000],
-        ["1", "day", 86_400_000],
-        ["1", "hr", 3_600_000],
-        ["1", "m", 60_000],
-        ["1", "us", 0.001],
-        ["1", "µs", 0.001],
-        ["1", "µsec", 0.001],
-        ["1", "nanoseconds", 0.000001],
-        ["18446744073709", "ms", 18_446_744_073_709],
-        // For a text, naming the second is the same as naming nothing.
-        ["2*3", "s", 6000],
-        ["1s+500ms", "second", 1500],
-        ["2*3", undefined, 6000],
-    ];
-    for (const [text, defaultUnit, value] of rows) {
-        assert.equal(parse(text, { defaultUnit }), value, text);
-        assert.deepEqual(tryParseNs(text, { defaultUnit }).value, parseNs(text, { defaultUnit }));
-        if (defaultUnit !== undefined) {
-            const options = { defaultUnit: defaultUnit.toUpperCase().replace("\u039c", "µ") };
-            assert.equal(parse(text, { ...options, requireUnit: false }), value, text);
-        }
+test("takes each spelling of a default unit", () => {
+    const rows = [["weeks", 604_800_000], ["µSEC", 0.001], ["HR", 3_600_000]];
+    for (const [defaultUnit, value] of rows) {
+        assert.equal(parse("1", { defaultUnit, requireUnit: false }), value);
     }
-    for (const noCalc of [undefined, true]) {
-        const { fault } = tryParse("90s*2", { noCalc, defaultUnit: "ms" });
-        assert.deepEqual([fault.code, fault.index, fault.found], ["SYNTAX", 3, "*"]);
-    }
-    assert.equal(tryParse("18446744073710", { defaultUnit: "ms" }).fault.code, "OVERFLOW");
-    assert.equal(parse("1分 500", { cnUnit: true, defaultUnit: "ms" }), 60_500);
+    assert.equal(parse("2*3", { defaultUnit: undefined }), 6000);
     assert.equal(parse("1s", { requireUnit: true, defaultUnit: undefined }), 1000);
-    assert.equal(tryParse("1s+500ms", { defaultUnit: "ms" }).fault.index, 2);
-});
-
-test("reads numbers if a default unit is named", () => {
-    const rows = [
-        [1500, "ms", 1_500_000_000n],
-        [1500, "s", 1_500_000_000_000n],
-        [1500n, "ms", 1_500_000_000n],
-        [0, "y", 0n],
-        [-0, "y", 0n],
-        [2 ** 53 - 1, "ns", 9_007_199_254_740_991n],
-        [LARGEST, "ns", LARGEST],
-        [1e3, "us", 1_000_000n],
-    ];
-    for (const [number, defaultUnit, nanos] of rows) {
-        const options = { defaultUnit, requireUnit: false, lowercase: true };
-        assert.equal(parseNs(number, options), nanos);
-        assert.equal(tryParseNs(number, { defaultUnit }).value, nanos);
-        assert.equal(parse(number, options), parse(`${nanos}ns`));
-        assert.equal(tryParse(number, options).value, parse(`${nanos}ns`));
-    }
+    const { fault } = tryParse("90s*2", { noCalc: true, defaultUnit: "ms" });
+    assert.deepEqual([fault.code, fault.index, fault.found], ["SYNTAX", 3, "*"]);
 });
 
 test("reads the numbers of the vectors", () => {
@@ -150,44 +100,18 @@ test("reads the numbers of the vectors", () => {
         const wanted = BigInt(secs) * 1_000_000_000n + BigInt(nanos);
         for (const value of [number, BigInt(number), String(number)]) {
             assert.equal(parseNs(value, { defaultUnit }), wanted);
+            assert.equal(tryParseNs(value, { defaultUnit }).value, wanted);
+            assert.equal(parse(value, { defaultUnit }), parse(`${wanted}ns`));
+            assert.equal(tryParse(value, { defaultUnit }).value, parse(`${wanted}ns`));
         }
     }
-    for (const [defaultUnit, number] of VECTORS.refused_numbers) {
+    for (const [defaultUnit, number, line] of VECTORS.refused_numbers) {
         const { fault } = tryParse(number, { defaultUnit });
-        assert.ok(fault);
+        assert.equal(fault.message, line);
         assert.deepEqual(fault, tryParse(String(number), { defaultUnit }).fault);
     }
-});
-
-test("reads a number of JSON, and says why it reads no other", () => {
-    const options = { defaultUnit: "ms" };
-    const [timeout] = JSON.parse("[1500]");
-    assert.equal(parseNs(timeout, options), 1_500_000_000n);
-    const rows = [
-        [
-            "1.5",
-            "DurationError",
-            'expected a unit or the end at column 2, found "." '
-                + "(numbers have digits only: write 1500ms for 1.5s)",
-        ],
-        [
-            "-5",
-            "DurationError",
-            'expected a number at column 1, found "-" (negative durations are not read)',
-        ],
-        ["true", "TypeError", "a duration's text must be a string, not boolean"],
-        [
-            "18446744073709551616",
-            "RangeError",
-            "a number must be below 2^53, or a bigint, not 18446744073709552000",
-        ],
-    ];
-    for (const [text, name, message] of rows) {
-        const [value] = JSON.parse(`[${text}]`);
-        for (const call of [parse, parseNs]) {
-            assert.throws(() => call(value, options), { name, message });
-        }
-    }
+    assert.equal(parseNs(LARGEST, { defaultUnit: "ns", lowercase: true }), LARGEST);
+    assert.equal(parseNs(-0, { defaultUnit: "y" }), 0n);
 });
 
 test("refuses a number as its text, or says why it is no whole number", () => {
@@ -318,10 +242,6 @@ test("reads the nearest number of milliseconds", () => {
     for (const [text, value] of rows) assert.equal(parse(text), value, text);
     assert.equal(parse("1分", { cnUnit: true }), 60_000);
     assert.equal(parse("1h 30m", { requireUnit: true }), 5_400_000);
-    const { fault } = tryParse("90", { requireUnit: true });
-    const help = "(write the number's unit: y, q, mon, w, d, h, min, s, ms, us or ns)";
-    assert.equal(fault.message, `expected a unit at column 3, found the end ${help}`);
-    assert.deepEqual(fault.expected, { number: false, unit: true, operator: false, end: false });
 });
 
 test("reads the nearest number of milliseconds of a long duration", () => {

@@ -12,7 +12,6 @@ from duration_str import (
     Breakdown,
     DurationError,
     Part,
-    Style,
     Unit,
     breakdown,
     format,
@@ -56,22 +55,15 @@ def check_breakdown(test, nanos, **words):
     test.assertEqual(sum(count * LENGTHS[unit] for count, unit in parts) + rest_ns, nanos)
 
 
-def in_styles(short, long):
-    """The printed text in each style, given the short and the long one."""
-    texts = {"short": short, "compact": short.replace(" ", ""), "long": long}
-    return [(style, texts[style]) for style in typing.get_args(Style)]
-
-
 class Printing(unittest.TestCase):
-    def test_prints_the_vectors(self):
-        for text, largest, smallest, parts, short, long in VECTORS["printed"]:
+    def test_prints_the_vectors_and_breaks_them_down(self):
+        for text, limits, short, long, secs, rest_ns in VECTORS["printed"]:
             value = length_of(text)
-            for style, printed in in_styles(short, long):
-                words = {"largest": largest, "smallest": smallest, "parts": parts, "style": style}
+            texts = {"short": short, "compact": short.replace(" ", ""), "long": long}
+            for style in VECTORS["styles"]:
+                words = {**limits, "style": style}
                 with self.subTest(text=text, **words):
-                    if parts == 0 or UNITS.index(largest) > UNITS.index(smallest):
-                        self.assertRaises(ValueError, format, value, **words)
-                        continue
+                    printed = texts[style]
                     self.assertEqual(format(value, **words), printed)
                     self.assertEqual(
                         format_many([value, None, value], **words), [printed, None, printed]
@@ -80,27 +72,15 @@ class Printing(unittest.TestCase):
                         self.assertEqual(
                             format(datetime.timedelta(microseconds=value // 1000), **words), printed
                         )
-                    if (largest, smallest, parts, style) == ("y", "ns", 11, "short"):
-                        self.assertEqual(format(value), printed)
-                        check_breakdown(self, value)
-                    if style == "short":
-                        check_breakdown(
-                            self, value, largest=largest, smallest=smallest, parts=parts
-                        )
+            with self.subTest(text=text, **limits):
+                self.assertEqual(format(value, **limits), short)
+                check_breakdown(self, value, **limits)
+                self.assertEqual(breakdown(value, **limits).rest_ns, secs * SECOND + rest_ns)
+        for text, limits, *_ in VECTORS["printed_as_zero"]:
+            for call in [format, breakdown]:
+                with self.subTest(text=text, **limits):
+                    self.assertRaises(ValueError, call, length_of(text), **limits)
         self.assertRaises(OverflowError, format, 2**64 * SECOND)
-
-    def test_prints_the_vectors_in_chosen_units(self):
-        for text, units, parts, short, long in VECTORS["printed_in"]:
-            value = length_of(text)
-            for style, printed in in_styles(short, long):
-                words = {"units": units, "parts": parts, "style": style}
-                with self.subTest(text=text, **words):
-                    if parts == 0 or not units:
-                        self.assertRaises(ValueError, format, value, **words)
-                    else:
-                        self.assertEqual(format(value, **words), printed)
-                        self.assertEqual(format_many([value], **words), [printed])
-                        check_breakdown(self, value, units=units, parts=parts)
 
     def test_prints_a_timedelta(self):
         for value in [
@@ -129,34 +109,13 @@ class Printing(unittest.TestCase):
                 with self.subTest(value=value), self.assertRaisesRegex(ValueError, "negative"):
                     call(value)
 
-    def test_takes_each_limit_alone(self):
-        rows = [
-            ({"parts": 2}, "3min 13s"),
-            ({"smallest": "min"}, "3min"),
-            ({"largest": "us"}, "193029000µs"),
-            ({"parts": 10**30}, "3min 13s 29ms"),
-        ]
-        rows.append(({"parts": 2**32 + 1}, "3min 13s 29ms"))
-        rows.append(({"units": ("s", "ms")}, "193s 29ms"))
-        for words, printed in rows:
-            self.assertEqual(format(193_029_000_000, **words), printed)
-
-    def test_prints_in_chosen_units(self):
-        days = 86_400 * SECOND
-        for nanos, words, printed in [
-            (500 * days, {"units": ("y", "mon", "d")}, "1y 4mon 15d"),
-            (500 * days, {"units": ["d", "y", "mon", "d"]}, "1y 4mon 15d"),
-            (500 * days, {"units": {"years", "Days"}}, "1y 135d"),
-            (500 * days, {"units": (name for name in ("y", "d")), "parts": 1}, "1y"),
-            (500 * days, {"units": dict.fromkeys("dy"), "largest": "d"}, "500d"),
-            (500 * days, {"units": None}, "1y 1q 1mon 2w"),
-            (1999, {"units": ["us"]}, "1µs"),
-            (1999, {"units": ["µsecond"], "style": "long"}, "1 microsecond"),
-            (999, {"units": ["ms"]}, "0s"),
-            (1, {"units": ["y", "h"]}, "0h"),
-        ]:
-            with self.subTest(**words):
-                self.assertEqual(format(nanos, **words), printed)
+    def test_takes_any_iterable_of_units_and_any_number_of_parts(self):
+        nanos = 500 * DAY
+        for units in [{"years", "Days"}, dict.fromkeys("yd"), (name for name in ("y", "d"))]:
+            self.assertEqual(format(nanos, units=units), "1y 135d")
+        self.assertEqual(format(nanos, units=None), "1y 1q 1mon 2w")
+        for parts in [10**30, 2**32 + 1]:
+            self.assertEqual(format(193_029_000_000, parts=parts), "3min 13s 29ms")
         units = (name for name in ("min", "s"))
         self.assertEqual(format_many([3_601 * SECOND] * 2, units=units), ["60min 1s"] * 2)
 
@@ -263,48 +222,13 @@ class Printing(unittest.TestCase):
 
 
 class Breakdowns(unittest.TestCase):
-    def test_breaks_durations_down(self):
-        minutes = 193_029 * 10**6
-        largest = 2**64 * SECOND - 1
-        for value, words, parts, rest_ns in [
-            (minutes, {}, [(3, "min"), (13, "s"), (29, "ms")], 0),
-            (minutes, {"parts": 2}, [(3, "min"), (13, "s")], 29_000_000),
-            (datetime.timedelta(milliseconds=193_029), {"parts": 1}, [(3, "min")], 13_029_000_000),
-            (0, {}, [], 0),
-            (datetime.timedelta(0), {"smallest": "h"}, [], 0),
-            (1, {"smallest": "h"}, [], 1),
-            (999, {"units": ["ms", "d"]}, [], 999),
-            (400 * DAY, {"units": {"d", "years"}}, [(1, "y"), (35, "d")], 0),
-            (400 * DAY, {"largest": "w", "smallest": "w"}, [(57, "w")], DAY),
-            (400 * DAY, {"largest": "mon"}, [(13, "mon"), (1, "w"), (3, "d")], 0),
-            (120 * DAY + 5, {"largest": "days", "parts": 10**30}, [(120, "d"), (5, "ns")], 0),
-            (119 * DAY, {"parts": 1}, [(1, "q")], 28 * DAY),
-            (2**64 - 1, {"units": ["ns"]}, [(2**64 - 1, "ns")], 0),
-            (2**64, {"units": ["ns"]}, [(2**64, "ns")], 0),
-            (2**64 * 1000 - 1, {"units": ["us"]}, [(2**64 - 1, "µs")], 999),
-            (2**64 * 1000, {"units": ["us"]}, [(2**64, "µs")], 0),
-            (2**64 * 10**6 + 7, {"largest": "ms"}, [(2**64, "ms"), (7, "ns")], 0),
-            (
-                2**64 * 10**6 + 7_007,
-                {"largest": "ms", "parts": 2},
-                [(2**64, "ms"), (7, "µs")],
-                7,
-            ),
-            (2**63 * SECOND, {"units": ["ms"]}, [(2**63 * 1000, "ms")], 0),
-            (2**63 * SECOND + 7, {"largest": "ms", "parts": 1}, [(2**63 * 1000, "ms")], 7),
-            (largest, {"units": ["ms"]}, [(2**64 * 1000 - 1, "ms")], 999_999),
-            (largest, {"units": ["ms", "ns"]}, [(2**64 * 1000 - 1, "ms"), (999_999, "ns")], 0),
-            (largest, {"units": ["s"]}, [(2**64 - 1, "s")], SECOND - 1),
-        ]:
-            with self.subTest(value=value, **words):
-                told = breakdown(value, **words)
-                self.assertEqual(told, (tuple(parts), rest_ns))
-                self.assertEqual(told, Breakdown(tuple(Part(*part) for part in parts), rest_ns))
+    def test_breaks_only_durations_down(self):
         with self.assertRaisesRegex(OverflowError, r"^a duration of 2\*\*64 seconds or more "):
             breakdown(2**64 * SECOND)
 
     def test_has_named_parts(self):
         told = breakdown(datetime.timedelta(hours=1, minutes=30), smallest="h")
+        self.assertEqual(told, Breakdown((Part(1, "h"),), 1800 * SECOND))
         self.assertEqual(
             (told.parts[0].count, told.parts[0].unit, told.rest_ns), (1, "h", 1800 * SECOND)
         )

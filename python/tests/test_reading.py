@@ -7,7 +7,6 @@ import enum
 import fractions
 import functools
 import itertools
-import json
 import random
 import re
 import subprocess
@@ -27,7 +26,7 @@ from duration_str import (
     parse_seconds,
     to_timedelta,
 )
-from tests.vectors import CHOICES, REFUSED_IN_JSON, VECTORS, error_of, values_under, words_of
+from tests.vectors import CHOICES, REFUSED_IN_MILLIS, VECTORS, error_of, values_under, words_of
 
 
 class Whole(enum.IntEnum):
@@ -107,11 +106,6 @@ class Reading(unittest.TestCase):
         self.assertEqual(longest // datetime.timedelta(microseconds=1), (2**64 - 1) // 1000)
         self.assertEqual(parse("1分", cn_unit=True), datetime.timedelta(minutes=1))
         self.assertEqual(parse("1h 30m", require_unit=True), datetime.timedelta(minutes=90))
-        with self.assertRaises(DurationError) as raised:
-            parse("90", require_unit=True)
-        help_words = "(write the number's unit: y, q, mon, w, d, h, min, s, ms, us or ns)"
-        line = f"expected a unit at column 3, found the end {help_words}"
-        self.assertEqual(str(raised.exception), line)
 
     def test_makes_timedeltas_without_the_calls_of_datetime(self):
         # Later versions of Python perhaps have other calls, and others have none.
@@ -142,14 +136,6 @@ assert parse("90s") == datetime.timedelta(seconds=90)
                 self.assertEqual(parse_ns("3", default_unit=each), parse_ns(f"3{name}"), each)
         self.assertEqual(parse("1s 500", default_unit="ms"), datetime.timedelta(seconds=1.5))
         self.assertEqual(parse_seconds("1500", default_unit="ms", lowercase=True), 1.5)
-        # A factor would count milliseconds too.
-        with self.assertRaisesRegex(DurationError, r"at column 4, found \"\*\"$"):
-            parse_ns("90s*2", default_unit="ms")
-        with self.assertRaisesRegex(DurationError, r"at column 3, found \"\+\"$"):
-            parse_ns("1s+500ms", default_unit="ms")
-        # For a text, naming the second is the same as naming nothing.
-        self.assertEqual(parse_ns("90s*2", default_unit="s"), 180 * 10**9)
-        self.assertEqual(parse_ns("1s+500ms", default_unit="second"), 1_500_000_000)
         with self.assertRaises(DurationError):
             parse_ns("90s*2", default_unit="s", no_calc=True)
 
@@ -195,19 +181,16 @@ assert parse("90s") == datetime.timedelta(seconds=90)
                 self.assertEqual(
                     parse_many([value], default_unit=unit).tolist(), [secs * 10**9 + nanos]
                 )
-        for unit, number in VECTORS["refused_numbers"]:
-            errors = [error_of(parse_ns, each, default_unit=unit) for each in (number, str(number))]
-            self.assertEqual(*map(str, errors))
+        for unit, number, line in VECTORS["refused_numbers"]:
+            for value in (number, str(number)):
+                self.assertEqual(str(error_of(parse_ns, value, default_unit=unit)), line)
             self.assertEqual(parse_many([number], errors="coerce", default_unit=unit)[1][0], 0)
 
-    def test_reads_a_number_of_json(self):
-        (timeout,) = json.loads("[1500]")
-        self.assertEqual(parse(timeout, default_unit="ms"), datetime.timedelta(seconds=1.5))
-        for text, line in REFUSED_IN_JSON:
-            (timeout,) = json.loads(f"[{text}]")
+    def test_says_why_it_refuses_numbers(self):
+        for value, line in REFUSED_IN_MILLIS:
             for call in [parse, parse_ns, parse_seconds]:
                 with self.assertRaisesRegex(ValueError, f"^{re.escape(line)}$"):
-                    call(timeout, default_unit="ms")
+                    call(value, default_unit="ms")
 
     def test_says_how_numbers_are_read(self):
         for value in [1, 1.5, Whole.FEW]:

@@ -13,16 +13,11 @@ FOLDERS = pathlib.Path(__file__).parents[1:3]
 FILE = next(file for folder in FOLDERS if (file := folder / "rust/vectors.json").exists())
 VECTORS = json.loads(FILE.read_text(encoding="utf-8"))
 
-# Values of JSON that are refused in milliseconds, each with the error's line
-REFUSED_IN_JSON = [
-    (
-        "1.5",
-        'expected a unit or the end at column 2, found "." '
-        "(numbers have digits only: write 1500ms for 1.5s)",
-    ),
-    ("-5", 'expected a number at column 1, found "-" (negative durations are not read)'),
-    ("true", "a duration must be a str or a whole number, not bool"),
-    ("18446744073709551616", 'number of 2^64 or more in "18446744073709551616"'),
+# Values that are refused in milliseconds, each with the error's line
+REFUSED_IN_MILLIS = [row[1:] for row in VECTORS["refused_numbers"] if row[0] == "ms"]
+REFUSED_IN_MILLIS += [
+    [True, "a duration must be a str or a whole number, not bool"],
+    [2**64, 'number of 2^64 or more in "18446744073709551616"'],
 ]
 
 

@@ -1,6 +1,7 @@
 //! `duration`: reads durations from its arguments or from lines, and prints them for people or as
 //! numbers.
 #![no_main]
+mod lists;
 mod options;
 mod patterns;
 mod reading;

@@ -1,4 +1,5 @@
 //! The arguments of the command, and how they say to read and print durations.
+use crate::lists::{STYLES, UNITS};
 use clap::builder::{PossibleValuesParser, TypedValueParser};
 use clap::error::ErrorKind;
 use clap::{Command, CommandFactory, Parser, ValueEnum, value_parser};
@@ -47,7 +48,7 @@ pub struct Choices {
     pub from: Option<TimeUnit>,
     /// Print 1h 30min (short), 1h30min (compact) or 1 hour 30 minutes (long)
     #[arg(long, default_value_t, value_parser =
-        PossibleValuesParser::new(["short", "compact", "long"])
+        PossibleValuesParser::new(STYLES)
             .try_map(|word| word.parse::<Style>()))]
     style: Style,
     /// Print at most N parts, and leave out the rest
@@ -231,10 +232,6 @@ fn list_of_units(words: &str) -> Result<UnitList, String> {
     units.collect::<Result<_, _>>().map(UnitList)
 }
 
-/// The words that completions offer for a unit.
-// Made by tests/repository --write.
-const WORDS: [&str; 11] = ["y", "q", "mon", "w", "d", "h", "min", "s", "ms", "us", "ns"];
-
 pub fn completions(shell: Shell) -> String {
     let complete = |command: Command, name, words: &'static [&str]| {
         let words = PossibleValuesParser::new(words);
@@ -242,7 +239,7 @@ pub fn completions(shell: Shell) -> String {
     };
     let mut command = complete(Choices::command(), "units", &["LIST"]);
     for name in ["to", "from", "largest", "smallest"] {
-        command = complete(command, name, &WORDS);
+        command = complete(command, name, &UNITS);
     }
     let mut script = Vec::new();
     clap_complete::generate(shell, &mut command, "duration", &mut script);
@@ -263,12 +260,12 @@ fn with_list(shell: Shell, script: &str) -> String {
             // The part of the list before the last word is put in front of each word. It is left
             // out if it has a character that no unit has. After a tab fish expects an explanation
             // of the word, which is empty here.
-            let words = WORDS.join(r"\t,") + r"\t";
+            let words = UNITS.join(r"\t,") + r"\t";
             let list = r"(string match -r '^(?:.*=)?\K(?:[\pL,]*,)?' -- (commandline -ct))";
             format!(r#"{before}"{list}{{{words}}}"{after}"#)
         }
         Shell::Zsh => {
-            let words = WORDS.join(" ");
+            let words = UNITS.join(" ");
             script.replace("(LIST)", &format!("_sequence compadd - {words}"))
         }
         _ => {
@@ -278,7 +275,7 @@ fn with_list(shell: Shell, script: &str) -> String {
             // character that no unit has is left alone: bash would write the answer after the
             // blank.
             let answer = r#"COMPREPLY=($(compgen -W "LIST" -- "${cur}"))"#;
-            let (words, last) = (WORDS.join(" "), r"${cur##*,}");
+            let (words, last) = (UNITS.join(" "), r"${cur##*,}");
             let answers = format!(
                 r#"if [[ ${{cur}} != *[![:alpha:],\'\"]* ]]; then
                         COMPREPLY=($(compgen -W "{words}" -- "{last}"))

@@ -1,5 +1,5 @@
 //! Tests the program by running it. Its lines about refused texts are compared with the library's.
-use duration_str::{TimeUnit, parse_duration, parse_in};
+use duration_str::parse_duration;
 use serde_json::{Value, json};
 use std::ffi::OsStr;
 use std::fs::File;
@@ -173,46 +173,170 @@ fn prints_numbers() {
     }
 }
 
-#[test]
-fn prints_in_chosen_units() {
-    for (words, wanted) in [
-        ("y,mon,d 500d", "1y 4mon 15d"),
-        ("d,years,Month 500d", "1y 4mon 15d"),
-        ("y,d,y,d 400d", "1y 35d"),
-        ("mon,d --parts 1 119d", "3mon"),
-        ("d,h --largest h --style long 500d", "12000 hours"),
-        ("us,µs 1999ns", "1µs"),
-        ("y,d 23h", "0d"),
-        ("ms 999us", "0s"),
-        ("y --units h 1d", "24h"),
-    ] {
-        let words: Vec<&str> = ["--units"].into_iter().chain(words.split(' ')).collect();
-        assert_eq!(answer(&words), format!("{wanted}\n"), "{words:?}");
-    }
-    let object = answer(&["--units=s,min", "--json", "1h 5s"]);
-    assert!(object.contains("\"printed\":\"60min 5s\","), "{object}");
+/// The rows of `rust/vectors.json` with this name.
+fn rows(name: &str) -> Vec<Value> {
+    let mut vectors: Value = serde_json::from_str(include_str!("../../rust/vectors.json")).unwrap();
+    let rows: Vec<Value> = serde_json::from_value(vectors[name].take()).unwrap();
+    assert!(!rows.is_empty());
+    rows
 }
 
-/// The faults are those of the grammar in which each number has a unit, also under other options.
+fn texts(list: &Value) -> Vec<&str> {
+    list.as_array()
+        .unwrap()
+        .iter()
+        .map(|text| text.as_str().unwrap())
+        .collect()
+}
+
+/// The words for the options with these names, or `None` if the command lacks one. It has no word
+/// for `no_calc`, which another default unit than seconds turns on.
+fn words_of(names: &[&str]) -> Option<Vec<String>> {
+    let is_other = |name: &&str| name.starts_with("default_unit=") && *name != "default_unit=s";
+    if names.contains(&"no_calc") && !names.iter().any(is_other) {
+        return None;
+    }
+    let names = names.iter().filter(|name| **name != "no_calc");
+    let words = names.map(|name| format!("--{}", name.replace("default_unit", "from")));
+    Some(words.map(|word| word.replace('_', "-")).collect())
+}
+
+/// The JSON object for a text.
+fn object(words: &[String], text: &str) -> Value {
+    let words = words
+        .iter()
+        .map(String::as_str)
+        .chain(["--json", "--", text]);
+    let (_, output, errors) = run(&words.collect::<Vec<_>>(), b"");
+    assert_eq!(errors, "", "{text}");
+    serde_json::from_str(&output).unwrap()
+}
+
+/// The nanoseconds of a row, whose seconds and nanoseconds are these.
+fn nanos(secs: &Value, nanos: &Value) -> Value {
+    let secs = u128::from(secs.as_u64().unwrap());
+    json!((secs * 1_000_000_000 + u128::from(nanos.as_u64().unwrap())).to_string())
+}
+
 #[test]
-fn requires_units() {
-    let help = "(write the number's unit: y, q, mon, w, d, h, min, s, ms, us or ns)";
-    for (text, line) in [
-        ("90 -", "expected a unit at column 4, found \"-\""),
-        ("1h 30 + 5x", "expected a unit at column 7, found \"+\""),
-        ("1 + 2x", "expected a unit at column 3, found \"+\""),
-        (
-            "99999999999999999999",
-            "expected a unit at column 21, found the end",
-        ),
-    ] {
-        for more in [&[][..], &["--lowercase"], &["--cn-unit"]] {
-            let words = [&["--require-unit"], more, &[text]].concat();
-            let errors = format!("duration: argument 1: {line} {help}\n");
-            assert_eq!(run(&words, b""), (1, "".into(), errors));
+fn reads_the_vectors() {
+    for group in rows("values") {
+        let words = words_of(&texts(&group["on"])).unwrap();
+        for row in group["rows"].as_array().unwrap() {
+            for text in texts(&row[2]) {
+                let wanted = nanos(&row[0], &row[1]);
+                assert_eq!(
+                    object(&words, text)["nanoseconds"],
+                    wanted,
+                    "{words:?} {text}"
+                );
+            }
         }
     }
-    assert_eq!(answer(&["--require-unit", "--cn-unit", "1分"]), "1min\n");
+    for row in rows("numbers") {
+        let words = [format!("--from={}", row[0].as_str().unwrap())];
+        let read = object(&words, &row[1].to_string());
+        assert_eq!(read["nanoseconds"], nanos(&row[2], &row[3]), "{row}");
+    }
+}
+
+#[test]
+fn refuses_the_vectors() {
+    for row in rows("refused") {
+        let text = row[0].as_str().unwrap();
+        let Some(words) = words_of(&texts(&row[1])) else {
+            continue;
+        };
+        if text.contains('\0') {
+            continue;
+        }
+        let object = object(&words, text);
+        let column = match row[2].as_str().unwrap() {
+            "SYNTAX" => {
+                let before = &text[..row[3].as_u64().unwrap() as usize];
+                json!(before.chars().count() + 1)
+            }
+            _ => Value::Null,
+        };
+        assert_eq!(
+            [&object["column"], &object["found"], &object["message"]],
+            [&column, &row[4], &row[6]],
+            "{row}"
+        );
+    }
+    for row in rows("refused_numbers") {
+        let words = [format!("--from={}", row[0].as_str().unwrap())];
+        let object = object(&words, &row[1].to_string());
+        // With `--from` a fraction is read.
+        let line = if row[1].is_f64() {
+            &Value::Null
+        } else {
+            &row[2]
+        };
+        assert_eq!(&object["message"], line, "{row}");
+    }
+}
+
+#[test]
+fn takes_bare_numbers_as_a_unit() {
+    for row in rows("from") {
+        let from = format!("--from={}", row[0].as_str().unwrap());
+        for (round, wanted) in [("down", &row[2]), ("up", &row[3]), ("nearest", &row[2])] {
+            let words = [&from, "--to=ns", &format!("--round={round}")].map(String::from);
+            let object = object(&words, row[1].as_str().unwrap());
+            if row[2].is_string() {
+                assert_eq!(object["message"], row[2]);
+            } else {
+                assert_eq!(&object["printed"], wanted, "{row} {round}");
+            }
+        }
+    }
+}
+
+/// The words for the limits of a row: units in a list, the largest and the smallest one, and parts.
+fn words_for(limits: &Value) -> Vec<String> {
+    let word = |(name, value): (&String, &Value)| match value {
+        Value::Array(_) => format!("--{name}={}", texts(value).join(",")),
+        Value::String(unit) => format!("--{name}={unit}"),
+        _ => format!("--{name}={value}"),
+    };
+    limits.as_object().unwrap().iter().map(word).collect()
+}
+
+#[test]
+fn prints_the_vectors_and_breaks_them_down() {
+    for row in rows("printed") {
+        let text = row[0].as_str().unwrap();
+        if parse_duration(text).is_err() {
+            continue;
+        }
+        let short = row[2].as_str().unwrap();
+        for (style, printed) in [
+            ("short", short),
+            ("compact", &short.replace(' ', "")),
+            ("long", row[3].as_str().unwrap()),
+        ] {
+            let words = [words_for(&row[1]), vec![format!("--style={style}")]].concat();
+            let object = object(&words, text);
+            let part =
+                |part: &Value| format!("{}{}", part["count"], part["unit"].as_str().unwrap());
+            let parts: Vec<String> = object["parts"]
+                .as_array()
+                .unwrap()
+                .iter()
+                .map(part)
+                .collect();
+            let wanted = if short.starts_with('0') { "" } else { short };
+            assert_eq!(parts.join(" "), wanted, "{row}");
+            assert_eq!(object["printed"], printed, "{row}");
+            assert_eq!(object["rest_ns"], nanos(&row[4], &row[5]), "{row}");
+        }
+    }
+    for row in rows("printed_as_zero") {
+        let words = words_for(&row[1]);
+        let words: Vec<&str> = words.iter().map(String::as_str).chain(["1h"]).collect();
+        assert_eq!(run(&words, b"").0, 2, "{row}");
+    }
 }
 
 /// The expressions are those of the schema, which tests/patterns compares with the grammar.
@@ -247,139 +371,6 @@ fn prints_the_pattern() {
     assert_eq!((ended.0, &ended.1[ended.1.len() - 2..]), (0, "$\0"));
 }
 
-/// `--from` names the default unit. Naming the second is the same as naming nothing. With any
-/// other unit `+` and `*` are not read.
-#[test]
-fn reads_all_texts_in_the_unit_of_from() {
-    for (words, wanted) in [
-        (["ms", "1s 500"], "1s 500ms\n"),
-        (["min", "1h 30"], "1h 30min\n"),
-        (["s", "1h 30"], "1h 30s\n"),
-        (["s", "1s+500ms"], "1s 500ms\n"),
-        (["seconds", "90*2"], "3min\n"),
-    ] {
-        assert_eq!(answer(&[&["--from"], &words[..]].concat()), wanted);
-    }
-    for text in ["1s+500ms", "90s*2", "1 + 2", "90 -", "1500 5", "1s 500x"] {
-        for (unit, name) in [(TimeUnit::MilliSecond, "ms"), (TimeUnit::Second, "s")] {
-            let (status, output, errors) = match parse_in(text, unit) {
-                Ok(_) => (0, format!("{}\n", answer(&[text]).trim()), "".into()),
-                Err(error) => (1, "".into(), format!("duration: argument 1: {error}\n")),
-            };
-            let wanted = (status, output, errors);
-            assert_eq!(run(&["--from", name, text], b""), wanted, "{text}");
-        }
-    }
-    let line = "expected a number or the end at column 3, found \"+\"";
-    let errors = format!("duration: argument 1: {line}\n");
-    let refused = run(&["--from", "ms", "1s+500ms"], b"");
-    assert_eq!(refused, (1, "".into(), errors));
-}
-
-#[test]
-fn takes_bare_numbers_as_a_unit() {
-    let rows: [(&[&str], &str); 11] = [
-        (&["h", ".50000000000000000000"], "30min\n"),
-        (
-            &["s", "1e-05", "1.2e+06", "12.5E1", "0.00015e4", "0e999"],
-            "10µs\n1w 6d 21h 20min\n2min 5s\n1s 500ms\n0s\n",
-        ),
-        (
-            &[
-                "ns",
-                "--to",
-                "ns",
-                "18446744073709551.615e3",
-                "1e-99999",
-                "0e99999",
-            ],
-            "18446744073709551615\n0\n0\n",
-        ),
-        (&["min", " 90 ", "2h"], "1h 30min\n2h\n"),
-        (&["ms", "0.5", "0.0000009"], "500µs\n0s\n"),
-        (&["us", "1", "1.9999"], "1µs\n1µs 999ns\n"),
-        (
-            &["h", "0.333333333333333333"],
-            "19min 59s 999ms 999µs 999ns\n",
-        ),
-        (&["y", "1.5"], "1y 2q 12h\n"),
-        // A year has 3.15e16 nanoseconds, so the 18th decimal counts.
-        (&["y", "0.000000000000000032"], "1ns\n"),
-        (&["ns", "007.99"], "7ns\n"),
-        (
-            &["s", "1.250000000999999999999999999999999999999999"],
-            "1s 250ms\n",
-        ),
-    ];
-    for (words, wanted) in rows {
-        assert_eq!(answer(&[&["--from"], words].concat()), wanted, "{words:?}");
-    }
-    for text in [
-        "1h 3.5", "-5", "1.", ".", "1,5", "1e", "e5", "1e5.0", "1.e5", "", "+1", "\u{a0}1", "1.5.2",
-    ] {
-        let errors = format!(
-            "duration: argument 1: {}\n",
-            parse_duration(text).unwrap_err()
-        );
-        assert_eq!(
-            run(&["--from", "s", "--", text], b""),
-            (1, "".into(), errors)
-        );
-    }
-    // Each text is 2^64 nanoseconds or more. WRAPPING is 2^119 seconds, whose nanoseconds would be
-    // 0 in 128 bits. The last text has more digits than a quote shows.
-    const WRAPPING: &str = "664613997892457936451903530140172288";
-    for text in [
-        "18446744073.709551616",
-        "99999999999999999999.0",
-        "1e12",
-        "1e99999",
-        &format!("{WRAPPING}.0"),
-        &format!("{}.9", "9".repeat(38)),
-        &format!("{}.9", "9".repeat(39)),
-    ] {
-        let quote = if text.len() > 40 {
-            format!("\"{}\"...", &text[..40])
-        } else {
-            format!("\"{text}\"")
-        };
-        let errors = format!("duration: argument 1: duration of over 584 years in {quote}\n");
-        assert_eq!(
-            run(&["--from", "s", &format!(" {text}")], b""),
-            (1, "".into(), errors)
-        );
-    }
-    // A number that is too large has the line of the other packages, if it has digits only.
-    for text in ["1700000000000000000", WRAPPING, " 18446744073709551616"] {
-        assert_eq!(run(&["--from", "s", text], b""), run(&[text], b""));
-    }
-    let errors = "duration: argument 1: number of 2^64 or more in \"18446744073709551616\"\n";
-    assert_eq!(
-        run(&["--from", "ns", "18446744073709551616"], b""),
-        (1, "".into(), errors.into())
-    );
-    assert_eq!(
-        answer(&["--from", "s", "--to", "ns", "18446744073.709551615"]),
-        "18446744073709551615\n"
-    );
-    // With --round up no number above zero is printed as zero, and a whole number stays the same.
-    for (unit, text, nanos) in [
-        ("s", "1e-10", 1),
-        ("y", "1e-40", 1),
-        ("s", "0e-40", 0),
-        ("ms", "1.5", 1_500_000),
-        ("us", "1.9990", 1999),
-        ("us", "1.9991", 2000),
-        ("s", "0.000000001000000000000000000", 1),
-        ("s", "0.000000001000000000000000001", 2),
-    ] {
-        assert_eq!(
-            answer(&["--from", unit, "--to", "ns", "--round=up", text]),
-            format!("{nanos}\n")
-        );
-    }
-}
-
 #[test]
 fn converts_a_column() {
     let told = |number, what: &str| format!("duration: line {number}, field 2: {what}\n");
@@ -411,35 +402,6 @@ fn converts_a_column() {
         run(&["--field=1", "--header"], b"  ELAPSED COMMAND\n   90 init").1,
         "  ELAPSED COMMAND\n   1min 30s init"
     );
-}
-
-#[test]
-fn prints_parts_as_json() {
-    for (words, parts, rest) in [
-        (&["0"][..], json!([]), "0"),
-        (
-            &["--parts=2", "193s 29ms"],
-            json!([{ "count": 3, "unit": "min" }, { "count": 13, "unit": "s" }]),
-            "29000000",
-        ),
-        (&["--smallest=h", "59min"], json!([]), "3540000000000"),
-        (
-            &["--units=us", "1ms"],
-            json!([{ "count": 1000, "unit": "\u{b5}s" }]),
-            "0",
-        ),
-        (
-            &["--units=ns", "18446744073709551615ns"],
-            json!([{ "count": u64::MAX, "unit": "ns" }]),
-            "0",
-        ),
-    ] {
-        let object: Value = serde_json::from_str(&answer(&[&["--json"], words].concat())).unwrap();
-        assert_eq!(
-            (&object["parts"], &object["rest_ns"]),
-            (&parts, &json!(rest))
-        );
-    }
 }
 
 #[test]

@@ -7,9 +7,9 @@ use crate::rows::{
 };
 use crate::shared::OFF;
 use duration_str::{
-    Fault, Format, HumanFormat, Options, STYLED_BUFFER_SIZE, Style, TimeUnit, parse, parse_chrono,
-    parse_looked, parse_std, parse_time, parse_with, parse_with_default_unit, write_format,
-    write_human,
+    Breakdown, Fault, Format, HumanFormat, Options, STYLED_BUFFER_SIZE, Style, TimeUnit, Units,
+    parse, parse_chrono, parse_looked, parse_std, parse_time, parse_with, parse_with_default_unit,
+    write_format, write_human,
 };
 use jiff::SignedDuration;
 use serde_json::Value;
@@ -136,34 +136,68 @@ fn prints_into_a_buffer(text: &str, printed: &str) -> bool {
 
 /// Fails unless the text of a row is read as a duration that prints as the row says.
 fn prints_row(rt: &impl Abort, alloc: Global, row: &Value) {
-    let (text, printed) = (text_at(row, 0), text_at(row, 4));
+    let (text, printed) = (text_at(row, 0), text_at(row, 2));
     holds_in_memory(rt, text, prints_into_strings(alloc, text, printed));
     holds(rt, text, prints_into_a_buffer(text, printed));
     holds(rt, text, parse(printed) == parse(text));
 }
 
-/// The format of a row: the largest and the smallest unit, and the greatest number of parts.
-fn format_of(row: &Value) -> Option<Format> {
-    let largest = TimeUnit::from_word(text_at(row, 1), OFF)?;
-    let smallest = TimeUnit::from_word(text_at(row, 2), OFF)?;
-    let parts = place_at(row, 3)?;
-    Some(
-        Format::whole()
-            .largest(largest)
-            .smallest(smallest)
-            .parts(parts),
-    )
+/// The unit that limits name as `largest` or `smallest`, or the other one if they name none.
+fn limit_at(limits: &Value, name: &str, otherwise: TimeUnit) -> Option<TimeUnit> {
+    match limits.get(name) {
+        Some(unit) => TimeUnit::from_word(unit.as_str()?, OFF),
+        None => Some(otherwise),
+    }
 }
 
-/// Whether the text of a row is read as a duration that prints as the row says, in two styles.
-/// Texts of more than 584 years are not read.
+/// The units that limits list, or all if they list none.
+fn units_at(limits: &Value) -> Option<Units> {
+    if limits.get("units").is_none() {
+        return Some(Units::ALL);
+    }
+    let mut units = Units::NONE;
+    for name in listed(limits, "units") {
+        units = units.with(TimeUnit::from_word(name.as_str()?, OFF)?);
+    }
+    Some(units)
+}
+
+/// The format of a row, which names its limits.
+fn format_of(row: &Value) -> Option<Format> {
+    let limits = row.get(1)?;
+    let whole = Format {
+        units: units_at(limits)?,
+        ..Format::whole()
+    };
+    let format = whole
+        .largest(limit_at(limits, "largest", TimeUnit::Year)?)
+        .smallest(limit_at(limits, "smallest", TimeUnit::NanoSecond)?);
+    match limits.get("parts") {
+        Some(parts) => Some(format.parts(usize::try_from(parts.as_u64()?).ok()?)),
+        None => Some(format),
+    }
+}
+
+/// Whether the parts of a duration leave as many nanoseconds as the row says.
+fn leaves_rest(row: &Value, length: Duration, format: Format) -> bool {
+    let mut rest = length.as_nanos();
+    for (unit, count) in Breakdown::new(&length, format) {
+        rest = rest.saturating_sub(count.saturating_mul(u128::from(unit.nanos())));
+    }
+    number_at(row, 4).is_some_and(|secs| u128::from(secs) == rest / 1_000_000_000)
+        && number_at(row, 5).is_some_and(|nanos| u128::from(nanos) == rest % 1_000_000_000)
+}
+
+/// Whether the text of a row is read as a duration that prints, in two styles, and breaks down as
+/// the row says. Texts of more than 584 years are not read.
 fn prints_in_format(row: &Value, format: Format) -> bool {
     let Ok(length) = parse(text_at(row, 0)) else {
         return true;
     };
     let mut buffer = [0; STYLED_BUFFER_SIZE];
-    write_format(&length, format, &mut buffer) == text_at(row, 4)
-        && write_format(&length, format.style(Style::Long), &mut buffer) == text_at(row, 5)
+    write_format(&length, format, &mut buffer) == text_at(row, 2)
+        && write_format(&length, format.style(Style::Long), &mut buffer) == text_at(row, 3)
+        && leaves_rest(row, length, format)
 }
 
 /// Whether all of a duration is printed in this format.
@@ -171,21 +205,28 @@ fn is_whole(format: Format) -> bool {
     format == Format::whole()
 }
 
-#[test]
-fn prints_what_is_read(rt: HostRuntime) {
-    let vectors = vectors(rt.alloc());
-    let rows = listed(&vectors, "printed");
-    assert!(rt; rows.len() > 0);
+/// Fails unless each row is printed as it says.
+fn prints_rows(rt: &impl Abort, alloc: Global, rows: &[Value]) {
     for row in rows {
         let text = text_at(row, 0);
         match format_of(row) {
             Some(format) => {
-                holds(&rt, text, prints_in_format(row, format));
+                holds(rt, text, prints_in_format(row, format));
                 if is_whole(format) && parse(text).is_ok() {
-                    prints_row(&rt, rt.alloc(), row);
+                    prints_row(rt, alloc, row);
                 }
             }
-            None => holds(&rt, text, false),
+            None => holds(rt, text, false),
         }
+    }
+}
+
+#[test]
+fn prints_what_is_read(rt: HostRuntime) {
+    let vectors = vectors(rt.alloc());
+    for name in &["printed", "printed_as_zero"] {
+        let rows = listed(&vectors, name);
+        assert!(rt; rows.len() > 0);
+        prints_rows(&rt, rt.alloc(), rows);
     }
 }

@@ -85,6 +85,7 @@ from __future__ import annotations
 
 from ._arrays import format_many, to_timedelta
 from ._columns import parse_many
+from ._lists import PrintedUnit, Style, Unit
 from ._models import Duration, DurationField, DurationRequireUnit
 from ._native import format as format
 from ._native import breakdown, parse, parse_ns, parse_seconds
@@ -96,9 +97,6 @@ from ._texts import (
     DurationTypeError,
     Expected,
     Part,
-    PrintedUnit,
-    Style,
-    Unit,
 )
 
 __all__ = [

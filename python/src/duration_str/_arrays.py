@@ -10,7 +10,8 @@ from typing import TYPE_CHECKING, Any, overload
 
 from . import _native
 from ._columns import Errors, keeps_types, raises_errors, typed_values, values_of, zeros
-from ._texts import UNNAMED, UNSAID, Style, Unit, nanos_a_step, nanos_of, type_error_of
+from ._lists import Style, Unit
+from ._texts import UNNAMED, UNSAID, nanos_a_step, nanos_of, type_error_of
 
 if TYPE_CHECKING:
     import numpy

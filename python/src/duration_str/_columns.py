@@ -7,7 +7,8 @@ from collections.abc import Iterable
 from typing import Any, Literal, SupportsIndex, overload
 
 from . import _native
-from ._texts import UNNAMED, UNSAID, Unit
+from ._lists import Unit
+from ._texts import UNNAMED, UNSAID
 
 #: What to do with a refused value
 Errors = Literal["raise", "coerce"]

@@ -5,6 +5,7 @@
 #define Py_LIMITED_API 0x030b0000
 #endif
 #define PY_SSIZE_T_CLEAN
+#include "_lists.h"
 #include <Python.h>
 #include <duration_str.h>
 #include <string.h>
@@ -248,14 +249,6 @@ static bool has_one(const char *call, Py_ssize_t count) {
     return count == 1;
 }
 
-/* The names of the units as they are printed, in Latin-1, then the names as errors list them, and
- * the names of the styles */
-/* The names of the units are made by tests/repository --write. */
-static const char *const unit_names[] = {
-    "y", "q", "mon", "w", "d", "h", "min", "s", "ms", "\xb5s", "ns"};
-static const char listed_units[] = "y, q, mon, w, d, h, min, s, ms, \xc2\xb5s or us, ns";
-static const char *const style_names[] = {"short", "compact", "long"};
-
 /* The index of a name among these names, or -1. */
 static int place_among(PyObject *name, const char *const *names, int count) {
     for (int place = 0; PyUnicode_Check(name) && place < count; place++)
@@ -441,7 +434,7 @@ static int take_parts(PyObject *value, uint32_t *parts) {
 static int take_style(PyObject *name, uint32_t *style) {
     const int place = place_among(name, style_names, sizeof style_names / sizeof *style_names);
     if (place < 0)
-        raise_name(name, "style", "short, compact, long");
+        raise_name(name, "style", listed_styles);
     *style = (uint32_t)place;
     return place < 0 ? -1 : 0;
 }

@@ -3,7 +3,8 @@ from collections.abc import Callable, Iterable
 from datetime import timedelta
 from typing import Any, Literal, Protocol, SupportsIndex, overload, type_check_only
 
-from ._texts import Breakdown, Style, Unit
+from ._lists import Style, Unit
+from ._texts import Breakdown
 
 @type_check_only
 class NumpyDuration(Protocol):

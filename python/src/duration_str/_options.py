@@ -4,8 +4,9 @@ from __future__ import annotations
 
 from typing import Any
 
+from ._lists import Unit
 from ._native import reading
-from ._texts import UNNAMED, UNSAID, Unit
+from ._texts import UNNAMED, UNSAID
 
 
 class WithOptions:

@@ -2,61 +2,9 @@
 
 from __future__ import annotations
 
+from ._lists import SENTENCES, UNIT_PATTERNS, Unit
 from ._native import reading
-from ._texts import UNNAMED, UNSAID, Unit
-
-# The options are bits, as in the library for C.
-_NO_CALC, _LOWERCASE, _CN_UNIT, _REQUIRE_UNIT = 1, 2, 4, 8
-
-# Made by tests/repository --write.
-# fmt: off
-# The sentences by `no_calc` and `require_unit`. In each of them, U stands for a unit.
-_SENTENCES = {
-    0: (
-        r"^[ \t\n\r]*[0-9]+[ \t\n\r]*(?:U[ \t\n\r]*(?:(?:[+*][ \t\n\r]*)?[0-9]+[ \t\n\r]*|$)|[+*]["
-        r" \t\n\r]*[0-9]+[ \t\n\r]*)*$"
-    ),
-    1: (
-        r"^[ \t\n\r]*[0-9]+[ \t\n\r]*(?:U[ \t\n\r]*(?:[0-9]+[ \t\n\r]*|$))*$"
-    ),
-    8: (
-        r"^[ \t\n\r]*[0-9]+[ \t\n\r]*U[ \t\n\r]*(?:(?:[+*][ \t\n\r]*)?[0-9]+[ \t\n\r]*U[ \t\n\r]*)"
-        r"*$"
-    ),
-    9: (
-        r"^[ \t\n\r]*(?:[0-9]+[ \t\n\r]*U[ \t\n\r]*)+$"
-    ),
-}
-# The units by `lowercase` and `cn_unit`.
-_UNITS = {
-    0: (
-        r"(?:[Yy](?:[Ee][Aa][Rr][Ss]?)?|[Qq](?:[Uu][Aa][Rr][Tt][Ee][Rr][Ss]?)?|[Mm](?:[Oo][Nn](?:["
-        r"Tt][Hh][Ss]?)?|[Ii](?:[Nn](?:[Uu][Tt][Ee][Ss]?)?|[Ll][Ll][Ii][Ss][Ee][Cc][Oo][Nn][Dd][Ss"
-        r"]?|[Cc][Rr][Oo][Ss][Ee][Cc][Oo][Nn][Dd][Ss]?)|[Ss](?:[Ee][Cc])?)?|[Ww](?:[Ee][Ee][Kk][Ss"
-        r"]?)?|[Dd](?:[Aa][Yy][Ss]?)?|[Hh](?:[Rr]|[Oo][Uu][Rr][Ss]?)?|[Ss](?:[Ee][Cc](?:[Oo][Nn][D"
-        r"d][Ss]?)?)?|[µUu][Ss](?:[Ee][Cc](?:[Oo][Nn][Dd])?)?|[Nn](?:[Ss](?:[Ee][Cc])?|[Aa][Nn][Oo"
-        r"][Ss][Ee][Cc][Oo][Nn][Dd][Ss]?))"
-    ),
-    2: (
-        r"(?:y(?:ears?)?|q(?:uarters?)?|m(?:on(?:ths?)?|i(?:n(?:utes?)?|lliseconds?|croseconds?)|s"
-        r"(?:ec)?)?|w(?:eeks?)?|d(?:ays?)?|h(?:r|ours?)?|s(?:ec(?:onds?)?)?|[µu]s(?:ec(?:ond)?)?|n"
-        r"(?:s(?:ec)?|anoseconds?))"
-    ),
-    4: (
-        r"(?:[Yy](?:[Ee][Aa][Rr][Ss]?)?|[Qq](?:[Uu][Aa][Rr][Tt][Ee][Rr][Ss]?)?|[Mm](?:[Oo][Nn](?:["
-        r"Tt][Hh][Ss]?)?|[Ii](?:[Nn](?:[Uu][Tt][Ee][Ss]?)?|[Ll][Ll][Ii][Ss][Ee][Cc][Oo][Nn][Dd][Ss"
-        r"]?|[Cc][Rr][Oo][Ss][Ee][Cc][Oo][Nn][Dd][Ss]?)|[Ss](?:[Ee][Cc])?)?|[Ww](?:[Ee][Ee][Kk][Ss"
-        r"]?)?|[Dd](?:[Aa][Yy][Ss]?)?|[Hh](?:[Rr]|[Oo][Uu][Rr][Ss]?)?|[Ss](?:[Ee][Cc](?:[Oo][Nn][D"
-        r"d][Ss]?)?)?|[µUu][Ss](?:[Ee][Cc](?:[Oo][Nn][Dd])?)?|[Nn](?:[Ss](?:[Ee][Cc])?|[Aa][Nn][Oo"
-        r"][Ss][Ee][Cc][Oo][Nn][Dd][Ss]?)|[年月周日天时分秒]|[毫微纳]秒)"
-    ),
-    6: (
-        r"(?:y(?:ears?)?|q(?:uarters?)?|m(?:on(?:ths?)?|i(?:n(?:utes?)?|lliseconds?|croseconds?)|s"
-        r"(?:ec)?)?|w(?:eeks?)?|d(?:ays?)?|h(?:r|ours?)?|s(?:ec(?:onds?)?)?|[µu]s(?:ec(?:ond)?)?|n"
-        r"(?:s(?:ec)?|anoseconds?)|[年月周日天时分秒]|[毫微纳]秒)"
-    ),
-}
-# fmt: on
+from ._texts import UNNAMED, UNSAID
 
 
 def pattern(
@@ -88,5 +36,6 @@ def pattern(
         require_unit=require_unit,
         default_unit=default_unit,
     )
-    unit = _UNITS[bits & (_LOWERCASE | _CN_UNIT)]
-    return _SENTENCES[bits & (_NO_CALC | _REQUIRE_UNIT)].replace("U", unit)
+    # The bits are those of the library for C, in the order of the keywords.
+    sentence = SENTENCES[bits & 1 | bits >> 2 & 2]
+    return sentence.replace("U", UNIT_PATTERNS[bits >> 1 & 3])

@@ -8,30 +8,9 @@ import datetime
 import enum
 import sys
 from importlib import import_module
-from typing import Any, Literal, NamedTuple
+from typing import Any, NamedTuple
 
-#: A unit by one of its names
-# Made by tests/repository --write.
-# fmt: off
-Unit = Literal[
-    "y", "year", "years", "q", "quarter", "quarters", "mon", "month", "months", "w", "week",
-    "weeks", "d", "day", "days", "h", "hr", "hour", "hours", "m", "min", "minute", "minutes", "s",
-    "sec", "second", "seconds", "ms", "msec", "millisecond", "milliseconds", "µs", "µsec",
-    "µsecond", "us", "usec", "usecond", "microsecond", "microseconds", "ns", "nsec", "nanosecond",
-    "nanoseconds"
-]
-# fmt: on
-
-#: A unit by the name that is printed in the short style
-# Made by tests/repository --write.
-# fmt: off
-PrintedUnit = Literal[
-    "y", "q", "mon", "w", "d", "h", "min", "s", "ms", "µs", "ns"
-]
-# fmt: on
-
-#: How a duration is printed: `1h 30min`, `1h30min`, `1 hour 30 minutes`
-Style = Literal["short", "compact", "long"]
+from ._lists import PrintedUnit
 
 
 class Part(NamedTuple):

@@ -1,8 +1,8 @@
 //! Texts that are refused, and what their faults say.
-use crate::{FEATURES, Refused, default_unit_of, options_of, vectors};
+use crate::{FEATURES, Refused, by_usual_calls, default_unit_of, options_of, vectors};
 use duration_str::{
-    Cause, DError, Expected, Fault, Options, TimeUnit, parse, parse_duration, parse_in,
-    parse_require_unit, parse_with, parse_with_default_unit,
+    Cause, DError, Expected, Fault, Options, TimeUnit, parse, parse_require_unit, parse_with,
+    parse_with_default_unit,
 };
 use duration_str_core as proved;
 use std::error::Error;
@@ -62,6 +62,9 @@ fn tells_all_of_a_refusal() {
         assert_eq!(name_of(fault.cause()), cause, "{text}");
         assert_eq!(fault.expected().map_or(vec![], kinds_of), *kinds, "{text}");
         let error = fault.into_owned();
+        for same in by_usual_calls(text, options, default_unit) {
+            assert_eq!(same.as_ref(), Err(&error), "{text}");
+        }
         assert_eq!([fault.to_string(), error.to_string()], [&line[..]; 2]);
         let above = spaces.map_or(String::new(), |spaces| {
             format!("{text}\n{}^\n", " ".repeat(spaces))
@@ -178,52 +181,4 @@ fn pads_errors() {
     }
     let (unit, style) = (duration_str::UnknownUnit, duration_str::UnknownStyle);
     assert_eq!(format!("{unit:.7}|{style:.8}|"), "no unit|no style|");
-}
-
-#[test]
-fn requires_units() {
-    for text in ["1h 30m", "1h30m", "0s", "1m*2s", " 1 h + 30 m "] {
-        assert_eq!(
-            parse_require_unit(text).unwrap(),
-            parse_duration(text).unwrap()
-        );
-    }
-    for Refused(text, names, ..) in &vectors().refused {
-        if *names == ["require_unit"] {
-            let fault = parse_with_default_unit(text, ADDITIONS, None).unwrap_err();
-            assert_eq!(parse_require_unit(text), Err(fault.into_owned()));
-        }
-    }
-    // If each number before the fault has its unit, requiring units does not change the cause.
-    for text in [
-        "",
-        "600y",
-        "1s+2s*3s",
-        "1s x",
-        "-5",
-        "99999999999999999999h 5",
-    ] {
-        let (error, same) = (
-            parse_require_unit(text).unwrap_err(),
-            parse_duration(text).unwrap_err(),
-        );
-        assert_eq!(error, same);
-    }
-}
-
-/// The options of the calls that take no options. Only the feature `cn_unit`, which adds names,
-/// affects them.
-const ADDITIONS: Options = Options {
-    cn_unit: cfg!(feature = "cn_unit"),
-    ..Options::off()
-};
-
-#[test]
-fn refuses_in_another_unit() {
-    let no_calc = ADDITIONS.with_no_calc();
-    for text in ["90s*2", "1500 5", "", "1x"] {
-        let unit = TimeUnit::MilliSecond;
-        let fault = parse_with_default_unit(text, no_calc, Some(unit)).unwrap_err();
-        assert_eq!(parse_in(text, unit), Err(fault.into_owned()));
-    }
 }

@@ -1,5 +1,5 @@
 //! Durations as text, which serde writes and reads.
-use crate::STYLES;
+use crate::vectors;
 use duration_str::human::{self, HumanText};
 use duration_str::{
     HumanDuration, Style, TimeUnit, UnknownStyle, UnknownUnit, human_require_unit, humantime_serde,
@@ -92,9 +92,8 @@ fn reads_the_month_of_humantime() {
 fn reads_and_writes_names() {
     let units: Vec<TimeUnit> = from_value(json!(["y", "Hours", "us"])).unwrap();
     assert_eq!(to_value(&units).unwrap(), json!(["y", "h", "µs"]));
-    let styles = json!(["short", "compact", "long"]);
+    let styles = json!(vectors().styles);
     let read: Vec<Style> = from_value(styles.clone()).unwrap();
-    assert_eq!(read, STYLES);
     assert_eq!(to_value(&read).unwrap(), styles);
     for (refused, refusal) in [
         (

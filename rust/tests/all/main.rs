@@ -15,8 +15,11 @@ mod owned;
 mod printing;
 mod values;
 
-use duration_str::{Options, Style, TimeUnit, humantime};
+use duration_str::{
+    DurationError, Options, TimeUnit, humantime, parse_duration, parse_in, parse_require_unit,
+};
 use serde::Deserialize;
+use std::time::Duration;
 
 fn has(names: &[String], name: &str) -> bool {
     names.iter().any(|each| each == name)
@@ -60,6 +63,32 @@ const FEATURES: Options = Options {
     cn_unit: cfg!(feature = "cn_unit"),
 };
 
+/// The options of the calls that return a `DurationError`. Only the feature `cn_unit`, which adds
+/// names, affects them.
+const ADDITIONS: Options = Options {
+    cn_unit: cfg!(feature = "cn_unit"),
+    ..Options::off()
+};
+
+/// What these calls return for a text, if there are some that read under these options with this
+/// default unit.
+fn by_usual_calls(
+    text: &str,
+    options: Options,
+    default_unit: Option<TimeUnit>,
+) -> Vec<Result<Duration, DurationError>> {
+    match default_unit {
+        None if options == ADDITIONS => vec![parse_require_unit(text)],
+        Some(TimeUnit::Second) if options == ADDITIONS => {
+            vec![parse_duration(text), parse_in(text, TimeUnit::Second)]
+        }
+        Some(unit) if unit != TimeUnit::Second && options == ADDITIONS.with_no_calc() => {
+            vec![parse_in(text, unit)]
+        }
+        _ => vec![],
+    }
+}
+
 /// The file `vectors.json`, which the tests of all packages read. It has texts with their values,
 /// texts that are refused, and durations with their printed texts.
 #[derive(Deserialize)]
@@ -70,10 +99,13 @@ struct Vectors {
     values: Vec<Group>,
     /// Numbers that are not texts: a default unit, a number, and its seconds and nanoseconds.
     numbers: Vec<(String, u64, u64, u32)>,
-    /// Such numbers that are refused.
-    refused_numbers: Vec<(String, serde_json::Value)>,
+    /// Such numbers that are refused, each with the line for its digits.
+    refused_numbers: Vec<(String, serde_json::Value, String)>,
+    /// The names of the styles.
+    styles: Vec<String>,
     printed: Vec<Printed>,
-    printed_in: Vec<PrintedIn>,
+    /// Rows for which no unit or no part is left.
+    printed_as_zero: Vec<Printed>,
     /// Texts that are refused, with everything that their faults say.
     refused: Vec<Refused>,
 }
@@ -101,29 +133,20 @@ struct Refused(
     Option<usize>,
 );
 
-/// A row of six fields: a duration's text, or its seconds and nanoseconds as in `1 s 1 ns`, the
-/// largest unit, the smallest unit, the greatest number of parts, the printed text in the short
-/// style, and the printed text in the long style.
+/// A duration's text, or its seconds and nanoseconds as in `1 s 1 ns`, how it is printed, the
+/// printed text in the short style and in the long style, and the seconds and nanoseconds of the
+/// rest.
 #[derive(Deserialize)]
-struct Printed(String, String, String, usize, String, String);
+struct Printed(String, Limits, String, String, u64, u32);
 
-/// All styles.
-pub const STYLES: &[Style] = &[Style::Short, Style::Compact, Style::Long];
-
-/// The printed text in each style, given the short and the long one.
-pub fn in_styles(short: &str, long: &str) -> Vec<(Style, String)> {
-    let text = |style: Style| match style {
-        Style::Short => short.to_string(),
-        Style::Compact => short.replace(' ', ""),
-        Style::Long => long.to_string(),
-        _ => panic!("no text in the style {style}"),
-    };
-    STYLES.iter().map(|style| (*style, text(*style))).collect()
+/// The units and the greatest number of parts. What is left out limits nothing.
+#[derive(Deserialize)]
+struct Limits {
+    units: Option<Vec<String>>,
+    largest: Option<String>,
+    smallest: Option<String>,
+    parts: Option<usize>,
 }
-
-/// A row like `Printed`, with the names of the units to print in. Their order doesn't matter.
-#[derive(Deserialize)]
-struct PrintedIn(String, Vec<String>, usize, String, String);
 
 fn vectors() -> Vectors {
     serde_json::from_str(include_str!("../../vectors.json"))

@@ -165,7 +165,7 @@ fn reads_the_numbers_of_the_vectors() {
             }
         }
     }
-    for (unit, number) in vectors().refused_numbers {
+    for (unit, number, _) in vectors().refused_numbers {
         for value in [json!(number.to_string()), number] {
             if let Some(read) = by_module(&unit, value) {
                 assert!(read.is_err(), "{unit}");

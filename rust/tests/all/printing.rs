@@ -1,5 +1,5 @@
 //! Printed durations.
-use crate::{Printed, PrintedIn, in_styles, vectors};
+use crate::{Limits, Printed, vectors};
 use duration_str::{
     Format, FormattedDuration, HumanDuration, HumanFormat, Options, Style, TimeUnit,
     format_duration, parse_with, write_format, write_human,
@@ -24,89 +24,107 @@ fn unit(name: &str) -> TimeUnit {
     TimeUnit::from_word(name, Options::off()).unwrap()
 }
 
+impl Limits {
+    /// The units, the largest and the smallest one, and the greatest number of parts.
+    fn all(&self) -> (Vec<TimeUnit>, TimeUnit, TimeUnit, usize) {
+        let units = match &self.units {
+            Some(names) => names.iter().map(|name| unit(name)).collect(),
+            None => TimeUnit::ALL.to_vec(),
+        };
+        let largest = self.largest.as_deref().map_or(TimeUnit::Year, unit);
+        let smallest = self.smallest.as_deref().map_or(TimeUnit::NanoSecond, unit);
+        let parts = self.parts.unwrap_or(TimeUnit::ALL.len());
+        (units, largest, smallest, parts)
+    }
+}
+
+/// A duration in this style, within limits that are set in several orders.
+fn in_each_order(length: Duration, limits: &Limits, style: Style) -> Vec<FormattedDuration> {
+    let (units, first, last, parts) = limits.all();
+    let human = HumanDuration(length);
+    let others = TimeUnit::ALL.iter().filter(|unit| !units.contains(unit));
+    let without = others.fold(human.parts(parts), |human, unit| human.without(*unit));
+    let ordered = format_duration(length)
+        .only(&units)
+        .largest(first)
+        .smallest(last);
+    Vec::from([
+        ordered.parts(parts).style(style),
+        human
+            .only(&units)
+            .parts(parts)
+            .largest(first)
+            .smallest(last)
+            .style(style),
+        human
+            .style(style)
+            .smallest(last)
+            .only(&units)
+            .parts(parts)
+            .largest(first),
+        human
+            .smallest(last)
+            .parts(parts)
+            .largest(first)
+            .only(&units)
+            .style(style),
+        human
+            .largest(first)
+            .style(style)
+            .parts(parts)
+            .smallest(last)
+            .only(&units),
+        without.largest(first).smallest(last).style(style),
+    ])
+}
+
+/// Except for a zero, a short text is its parts with blanks between them. So it also says which
+/// parts there are.
 #[test]
-fn prints_the_vectors_in_chosen_units() {
-    for PrintedIn(text, names, parts, short, long) in vectors().printed_in {
-        let length = length_of(&text);
-        let units: Vec<TimeUnit> = names.iter().map(|name| unit(name)).collect();
-        for (style, printed) in in_styles(&short, &long) {
-            let format = Format::whole().style(style).only(&units).parts(parts);
-            let written = write_format(&length, format, &mut [0xff; 144]).to_string();
-            assert_eq!(written, *printed, "{text} in {names:?}");
-            let human = HumanDuration(length);
-            let others = TimeUnit::ALL.iter().filter(|unit| !units.contains(unit));
-            let without = others.fold(human.parts(parts), |human, unit| human.without(*unit));
-            for other in [
-                format_duration(length)
-                    .parts(parts)
-                    .style(style)
-                    .only(&units),
-                human.only(&units).style(style).parts(parts),
-                without.style(style),
-            ] {
-                assert_eq!(other.to_string(), *printed, "{text} in {names:?}");
+fn prints_the_vectors_and_breaks_them_down() {
+    let vectors = vectors();
+    for row in vectors.printed.iter().chain(&vectors.printed_as_zero) {
+        let Printed(text, limits, short, long, secs, nanos) = row;
+        let length = length_of(text);
+        let (units, first, last, parts) = limits.all();
+        let format = Format::whole().largest(first).smallest(last);
+        let format = format.parts(parts).only(&units);
+        for name in &vectors.styles {
+            let style = name.parse().unwrap();
+            let printed = match &name[..] {
+                "compact" => short.replace(' ', ""),
+                "long" => long.clone(),
+                _ => short.clone(),
+            };
+            let mut buffer = [0xff; 144];
+            assert_eq!(
+                write_format(&length, format.style(style), &mut buffer),
+                printed
+            );
+            for other in in_each_order(length, limits, style) {
+                assert_eq!(other.to_string(), printed, "{text}");
+                breaks_down(other, short, Duration::new(*secs, *nanos));
             }
+        }
+        if format == Format::whole() {
+            prints_whole(length, short);
         }
     }
 }
 
-/// The rows were worked out by hand. Counts of 0 are left out, the style does not matter, and the
-/// rest is what the parts leave.
-#[test]
-fn breaks_durations_down() {
-    use TimeUnit::{Day, Hour, MilliSecond, Minute, NanoSecond, Second, Week, Year};
-    let build = format_duration(Duration::from_millis(193_029));
-    let hours = format_duration(Duration::new(3_600, 5));
-    let year = format_duration(Duration::new(400 * 86_400, 7)).only(&[Day, Year]);
-    let most = format_duration(Duration::MAX);
-    for (printed, parts, rest) in [
-        (
-            build,
-            &[(Minute, 3), (Second, 13), (MilliSecond, 29)][..],
-            0,
-        ),
-        (build.parts(2), &[(Minute, 3), (Second, 13)], 29_000_000),
-        (
-            build.parts(1).style(Style::Long),
-            &[(Minute, 3)],
-            13_029_000_000,
-        ),
-        (build.parts(0), &[], 193_029_000_000),
-        (build.only(&[]), &[], 193_029_000_000),
-        (build.smallest(Hour), &[], 193_029_000_000),
-        (
-            build.largest(Second).smallest(Second),
-            &[(Second, 193)],
-            29_000_000,
-        ),
-        (hours, &[(Hour, 1), (NanoSecond, 5)], 0),
-        (hours.parts(1), &[(Hour, 1)], 5),
-        (year, &[(Year, 1), (Day, 35)], 7),
-        (format_duration(Duration::ZERO), &[], 0),
-        (
-            most.only(&[Week]),
-            &[(Week, 30_500_568_904_943)],
-            25_215_999_999_999,
-        ),
-        (
-            most.only(&[NanoSecond]),
-            &[(NanoSecond, 18_446_744_073_709_551_615_999_999_999)],
-            0,
-        ),
-        (
-            most.only(&[Year, NanoSecond]),
-            &[(Year, 584_942_417_355), (NanoSecond, 2_271_615_999_999_999)],
-            0,
-        ),
-    ] {
-        let mut breakdown = printed.breakdown();
-        assert_eq!(breakdown.rest(), printed.get_ref().as_nanos());
-        let (least, most) = breakdown.size_hint();
-        assert!(least <= parts.len() && most >= Some(parts.len()));
-        assert_eq!(breakdown.by_ref().collect::<Vec<_>>(), parts, "{printed}");
-        assert_eq!(breakdown.rest(), rest, "{printed}");
-        assert_eq!(breakdown.next(), None, "{printed}");
-    }
+fn breaks_down(printed: FormattedDuration, short: &str, rest: Duration) {
+    let mut breakdown = printed.breakdown();
+    assert_eq!(breakdown.rest(), printed.get_ref().as_nanos());
+    let (least, most) = breakdown.size_hint();
+    let parts: Vec<String> = breakdown
+        .by_ref()
+        .map(|(unit, count)| format!("{count}{unit}"))
+        .collect();
+    assert!(least <= parts.len() && most >= Some(parts.len()));
+    let is_zero = short.starts_with('0');
+    assert_eq!(parts.join(" "), if is_zero { "" } else { short });
+    assert_eq!(breakdown.rest(), rest.as_nanos(), "{printed}");
+    assert_eq!(breakdown.next(), None, "{printed}");
 }
 
 #[test]
@@ -127,25 +145,6 @@ fn returns_no_part_after_the_last_one() {
     let build = format_duration(Duration::from_millis(193_029));
     for printed in [build, build.parts(2), build.parts(0), build.only(&[])] {
         assert!(is_ended(printed.breakdown()), "{printed}");
-    }
-}
-
-/// Except for a zero, a short text is its parts with blanks between them. So the vectors' short texts
-/// also say which parts there are.
-#[test]
-fn breaks_the_vectors_down_as_they_are_printed() {
-    for PrintedIn(text, names, parts, short, _) in vectors().printed_in {
-        let units: Vec<TimeUnit> = names.iter().map(|name| unit(name)).collect();
-        let printed = format_duration(length_of(&text)).only(&units).parts(parts);
-        let joined: Vec<String> = printed
-            .breakdown()
-            .map(|(unit, count)| format!("{count}{unit}"))
-            .collect();
-        if joined.is_empty() {
-            assert!(short.starts_with('0'), "{text} in {names:?}");
-        } else {
-            assert_eq!(joined.join(" "), short, "{text} in {names:?}");
-        }
     }
 }
 
@@ -177,59 +176,6 @@ fn takes_units_out_in_any_order() {
     assert_eq!(days.to_string(), "500d 1h");
     assert_eq!(days.smallest(TimeUnit::Day).to_string(), "500d");
     assert_eq!(days.smallest(TimeUnit::Month).to_string(), "0s");
-}
-
-#[test]
-fn prints_the_vectors() {
-    for Printed(text, largest, smallest, parts, short, long) in vectors().printed {
-        let length = length_of(&text);
-        let (first, last) = (unit(&largest), unit(&smallest));
-        for (style, printed) in in_styles(&short, &long) {
-            let format = Format::whole()
-                .largest(first)
-                .smallest(last)
-                .parts(parts)
-                .style(style);
-            assert_eq!(
-                write_format(&length, format, &mut [0xff; 144]),
-                printed,
-                "{text}"
-            );
-            let human = HumanDuration(length);
-            for other in [
-                format_duration(length)
-                    .largest(first)
-                    .smallest(last)
-                    .parts(parts)
-                    .style(style),
-                human
-                    .parts(parts)
-                    .largest(first)
-                    .smallest(last)
-                    .style(style),
-                human
-                    .style(style)
-                    .smallest(last)
-                    .parts(parts)
-                    .largest(first),
-                human
-                    .smallest(last)
-                    .parts(parts)
-                    .largest(first)
-                    .style(style),
-                human
-                    .largest(first)
-                    .style(style)
-                    .parts(parts)
-                    .smallest(last),
-            ] {
-                assert_eq!(other.to_string(), *printed, "{text}");
-            }
-        }
-        if (&largest[..], &smallest[..], parts) == ("y", "ns", 11) {
-            prints_whole(length, &short);
-        }
-    }
 }
 
 fn prints_whole(length: Duration, printed: &str) {

@@ -1,8 +1,7 @@
 //! Texts that are read, and their values.
-use crate::{FEATURES, Group, choices, default_unit_of, has, options_of, vectors};
+use crate::{FEATURES, Group, by_usual_calls, choices, default_unit_of, has, options_of, vectors};
 use duration_str::{
-    Options, TimeUnit, parse, parse_duration, parse_in, parse_std, parse_with,
-    parse_with_default_unit,
+    Fault, Options, TimeUnit, parse, parse_in, parse_std, parse_with, parse_with_default_unit,
 };
 use duration_str_core as proved;
 use std::time::Duration;
@@ -30,10 +29,13 @@ fn check(group: &Group, options: Options, is_read: bool) {
             let answer = parse_with_default_unit(text, options, default_unit);
             let wanted = is_read.then_some(Duration::new(*secs, *nanos));
             assert_eq!(
-                answer.ok(),
+                answer.as_ref().ok().copied(),
                 wanted,
                 "{text:?} under {options:?}, {default_unit:?}"
             );
+            for same in by_usual_calls(text, options, default_unit) {
+                assert_eq!(same, answer.map_err(Fault::into_owned), "{text:?}");
+            }
             if default_unit == Some(TimeUnit::Second) {
                 check_seconds(text, options);
             }
@@ -72,35 +74,6 @@ fn reads_the_vectors_and_refuses_them_under_the_other_options() {
     }
 }
 
-/// `parse_in` is for a program whose numbers count another unit. Naming the second is the same as
-/// naming nothing. With any other unit `+` and `*` are not read.
-#[test]
-fn reads_in_another_unit() {
-    for unit in TimeUnit::ALL {
-        let wanted = Ok(Duration::from_nanos(5 * unit.nanos()));
-        assert_eq!(parse_in("5", *unit), wanted, "{unit}");
-        for text in ["1+2", "1s+500ms", "1h 90s*2", "3*2", "1s+", "*2", ""] {
-            if *unit == TimeUnit::Second {
-                assert_eq!(parse_in(text, *unit), parse_duration(text), "{text}");
-            } else {
-                let place = text.find(['+', '*']);
-                let refusal = parse_in(text, *unit).unwrap_err();
-                assert_eq!(refusal.place(), place, "{text} in {unit}");
-            }
-        }
-    }
-    assert_eq!(
-        parse_in("1s+2", TimeUnit::Second),
-        Ok(Duration::from_secs(3))
-    );
-    assert_eq!(
-        parse_in("1M 500", TimeUnit::MilliSecond),
-        Ok(Duration::from_millis(60_500))
-    );
-    let is_read = parse_in("1\u{5206}", TimeUnit::MilliSecond).is_ok();
-    assert_eq!(is_read, cfg!(feature = "cn_unit"));
-}
-
 /// The texts of the numbers. The modules for serde read the numbers themselves.
 #[test]
 fn reads_the_digits_of_numbers_in_another_unit() {
@@ -108,9 +81,9 @@ fn reads_the_digits_of_numbers_in_another_unit() {
         let read = parse_in(&number.to_string(), unit.parse().unwrap());
         assert_eq!(read, Ok(Duration::new(secs, nanos)), "{number} {unit}");
     }
-    for (unit, number) in vectors().refused_numbers {
-        let read = parse_in(&number.to_string(), unit.parse().unwrap());
-        assert!(read.is_err(), "{number} {unit}");
+    for (unit, number, line) in vectors().refused_numbers {
+        let refusal = parse_in(&number.to_string(), unit.parse().unwrap()).unwrap_err();
+        assert_eq!(refusal.to_string(), line);
     }
 }
 

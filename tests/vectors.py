@@ -1,0 +1,131 @@
+"""Compares the rows of rust/vectors.json, which the tests of all packages read, with the reference
+parser. tests/repository names the rows that differ. tests/compare takes the texts and durations.
+"""
+import itertools
+import json
+import pathlib
+import re
+
+import reference_parser
+from reference_parser import (
+    BLANKS,
+    CHOICES,
+    PLACES,
+    SECOND,
+    STYLES,
+    UNITS,
+    Choice,
+    as_packages_mean,
+)
+
+FILE = "rust/vectors.json"
+KINDS = (*reference_parser.KINDS, "end")
+
+
+def tables():
+    """The rows of each table. tests/repository may have written some of them just now."""
+    return json.loads((pathlib.Path(__file__).resolve().parent.parent / FILE).read_text("utf-8"))
+
+
+def texts():
+    """The texts of values and refusals, each with a choice and with the nanoseconds that it is read
+    as, or None.
+    """
+    rows = tables()
+    known = {*rows["options"]}
+    for group, options in itertools.product(rows["values"], CHOICES):
+        choice = Choice(options, Choice.named(group["on"]).default_unit)
+        is_read = {*group["on"]} & known <= {*options.words()} <= known - {*group["off"]}
+        for secs, nanos, each in group["rows"]:
+            nanos = secs * SECOND + nanos if is_read else None
+            yield from ((text, choice, nanos) for text in each)
+    for text, names, *_ in rows["refused"]:
+        yield text, Choice.named(names), None
+    for unit, number, secs, nanos in rows["numbers"]:
+        yield str(number), in_unit(unit), secs * SECOND + nanos
+    for unit, number, _ in rows["refused_numbers"]:
+        yield str(number), in_unit(unit), None
+
+
+def in_unit(name):
+    return as_packages_mean(Choice.named([f"default_unit={name}"]))
+
+
+def refusals():
+    """The rows of refusals, each with what the reference parser has instead, and with its line."""
+    rows = tables()
+    for row in rows["refused"]:
+        text, names, *_, line, spaces = row
+        answer = Choice.named(names).answer(text)
+        place = None if answer.place is None else len(text[: answer.place].encode())
+        kinds = [kind for kind in KINDS if kind in answer.expected]
+        cause = answer.cause.replace(" ", "_").upper()
+        told = [text, names, cause, place, answer.found or None, kinds]
+        if cause != "READ":
+            told += [reference_parser.one_line(text, answer), spaces_of(text, answer)]
+        yield row, told, line
+    for row in rows["refused_numbers"]:
+        unit, number, line = row
+        answer = in_unit(unit).answer(str(number))
+        told = [unit, number]
+        if answer.cause != "read":
+            told.append(reference_parser.one_line(str(number), answer))
+        yield row, told, line
+
+
+def spaces_of(text, answer):
+    """The blanks before the caret of a report, or None if it has no caret."""
+    caret = re.search(r"\n( *)\^\n.*\Z", reference_parser.report(text, answer))
+    return caret and len(caret[1])
+
+
+def durations():
+    """The rows of printed durations, each with its nanoseconds, its units and its parts."""
+    rows = tables()
+    for row in rows["printed"] + rows["printed_as_zero"]:
+        text, limits = row[:2]
+        whole = re.fullmatch(r"(\d+) s (\d+) ns", text)
+        length = int(whole[1]) * SECOND + int(whole[2]) if whole else Choice().answer(text).value
+        chosen = {PLACES[name.lower()] for name in limits.get("units", PLACES)}
+        between = range(
+            PLACES[limits.get("largest", "y")], PLACES[limits.get("smallest", "ns")] + 1
+        )
+        units = tuple(UNITS[place] for place in between if place in chosen)
+        yield row, length, units, limits.get("parts", len(UNITS))
+
+
+def differing():
+    """The rows that the reference parser answers in another way, each with its answer."""
+    rows = tables()
+    for text, choice, nanos in texts():
+        if (told := choice.answer(text).value) != nanos:
+            yield [text, choice.words(), nanos], told
+    yield from ((row, told) for row, told, _ in refusals() if row != told)
+    for row in rows["from"]:
+        unit, text, *_ = row
+        length = UNITS[PLACES[unit]].length
+        told = [reference_parser.bare_number(text, length, way) for way in ("down", "up")]
+        if None in told:
+            told = [f"duration of over 584 years in {reference_parser.quote(text.strip(BLANKS))}"]
+        if row != [unit, text, *told]:
+            yield row, told
+    for row, length, units, parts in durations():
+        short, long = (
+            reference_parser.print_within(length, units, parts, style)
+            for style in ("short", "long")
+        )
+        _, rest = reference_parser.break_down(length, units, parts)
+        told = [short, long, *divmod(rest, SECOND)]
+        if row[2:] != told:
+            yield row, told
+        if (row in rows["printed"]) != bool(units and parts):
+            yield row, "the other table for it"
+    if rows["styles"] != [*STYLES]:
+        yield rows["styles"], STYLES
+
+
+def problems():
+    yield from (f"{FILE}: {name} is empty" for name, rows in tables().items() if not rows)
+    for row, told in differing():
+        row, told = (json.dumps(each, ensure_ascii=False) for each in (row, told))
+        yield f"{FILE}: for {row} the reference parser has {told}"
