@@ -9,8 +9,8 @@
   other programs and speed, have one sentence that leads there, and no other about proofs.
 - The helps in docs/GRAMMAR.md are those of lines in the vectors. In tables of README.md, GRAMMAR.md
   and MIGRATING.md each text is answered as the reference parser answers it, and each duration
-  printed as it prints it. (Nothing in MIGRATING's table of humantime is checked, since the
-  reference parser has other units.)
+  printed as it prints it. (tests/peers asks the module `humantime`, which has
+  other units, and other libraries.)
 - The contracts that CALLING.md quotes are those of the sources, and the oldest versions of Rust,
   Python and Node are those that the packages name.
 - docs/MIGRATING.md has no code in its prose, since people paste code, and tests/documents only runs
@@ -157,16 +157,21 @@ def is_answered(told, text, names):
     return answer.cause == "read" and meant.cause == "read" and answer.value == meant.value
 
 
+def told_of(row, column):
+    """The texts of a row, each with what the column says of it. `\\f` in a text is a form feed."""
+    texts = re.findall(r"`([^`]+)`", row.get("text", "").replace(r"\f", "\f"))
+    told = [row[column]]
+    if not told[0].startswith("`") or " " not in told[0]:
+        # What stands after a colon or in brackets says more than the answer.
+        told = re.sub(r" \(.*|: .*|, as .*", "", told[0]).split(", ")
+    return zip(texts, told * (len(texts) if len(told) == 1 else 1))
+
+
 def other_answers():
     for name in ("README.md", "docs/GRAMMAR.md", "docs/MIGRATING.md"):
         for row in rows_of_tables(name):
-            texts = re.findall(r"`([^`]+)`", row.get("text", ""))
             for column in row.keys() & ANSWERED.keys():
-                told = [row[column]]
-                if not told[0].startswith("`") or " " not in told[0]:
-                    # What stands after a colon or in brackets says more than the answer.
-                    told = re.sub(r" \(.*|: .*|, as .*", "", told[0]).split(", ")
-                for text, each in zip(texts, told * (len(texts) if len(told) == 1 else 1)):
+                for text, each in told_of(row, column):
                     if not is_answered(each, text, ANSWERED[column]):
                         yield f"{name}: the reference parser answers otherwise: `{text}`: {each}"
 
