@@ -29,12 +29,9 @@ function refuse(text) {
 
 const counts = Array.from({ length: 1000 }, (_, count) => count);
 const oneTerm = counts.map((count) => `${count % 60} ${["s", "min", "h", "d"][count % 4]}`);
+const hours = Array(1000).fill("1h");
 const halfHours = counts.map((count) => (1 + count % 47) * HALF_HOUR);
 const ms = existsSync(MS) ? createRequire(import.meta.url)(MS) : undefined;
-const OF_MS = [
-    ["`ms` of one term", (text) => ms(text), oneTerm],
-    ["`ms` of half hours, which it rounds to a unit", (length) => ms(length), halfHours],
-];
 
 /** The calls, each with its arguments. */
 const calls = [
@@ -47,13 +44,16 @@ const calls = [
         refuse,
         Array(100).fill("1m 3-5"),
     ],
+    ["`parse` of `1h`", (text) => parse(text), hours],
+    ["`ms` of `1h`", (text) => ms(text), hours],
     ["`parse` of one term, such as `5 min`", (text) => parse(text), oneTerm],
+    ["`ms` of one term", (text) => ms(text), oneTerm],
     ["`parse` of a number such as `150`, as milliseconds", (value) => parse(value, MILLIS), counts],
     ["`format` of half hours, such as `13h 30min`", (length) => format(length), halfHours],
     ["`format` of half hours, in hours and minutes", (length) => format(length, UNITS), halfHours],
     ["`format` of half hours, down to hours", (length) => format(length, DOWN_TO_HOURS), halfHours],
-    ...(ms ? OF_MS : []),
-];
+    ["`ms` of half hours, which it rounds to a unit", (length) => ms(length), halfHours],
+].filter(([what]) => ms || !what.startsWith("`ms`"));
 
 function nanosecondsACall(call, inputs) {
     const start = process.hrtime.bigint();

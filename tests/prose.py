@@ -4,13 +4,13 @@
   other hosts are not followed. A path in backquotes exists, and a name in backquotes occurs in a
   source.
 - What is proved stands in docs/PROMISES.md. Each row there has one promise, names the contract, law
-  or test that shows it, and has a hardest case: a text of the vectors or a test. The section of
+  or test that shows it, and has a hardest case: a text with its answer, or a test. The section of
   README.md has only sentences of that page. The documents of the packages, and those about texts,
   other programs and speed, have one sentence that leads there, and no other about proofs.
 - The helps in docs/GRAMMAR.md are those of lines in the vectors. In tables of README.md, GRAMMAR.md
   and MIGRATING.md each text is answered as the reference parser answers it, and each duration
-  printed as it prints it. (Nothing in MIGRATING's table of humantime is checked, since the
-  reference parser has other units.)
+  printed as it prints it. The same holds of the hardest cases. (tests/peers asks other libraries,
+  and the module `humantime`, which has other units.)
 - The contracts that CALLING.md quotes are those of the sources, and the oldest versions of Rust,
   Python and Node are those that the packages name.
 - docs/MIGRATING.md has no code in its prose, since people paste code, and tests/documents only runs
@@ -131,7 +131,7 @@ ANSWERED = {
 
 
 def cells_of(line):
-    return [cell.strip() for cell in line.strip("|").split(" | ")]
+    return [cell.strip() for cell in re.split(r" \|(?= )", line.strip("|"))]
 
 
 def rows_of_tables(name):
@@ -157,26 +157,50 @@ def is_answered(told, text, names):
     return answer.cause == "read" and meant.cause == "read" and answer.value == meant.value
 
 
-def other_answers():
+def answers_in(cell):
+    """The answers in a cell. What stands after a colon or in brackets says more than the answer."""
+    if re.fullmatch("`[^`]*`", cell):
+        return [cell]
+    return re.sub(r" \(.*|: .*|, as .*", "", cell).split(", ")
+
+
+def told_of(row, column):
+    """The texts of a row, each with what the column says of it. `\\f` in a text is a form feed."""
+    texts = re.findall(r"`([^`]+)`", row.get("text", "").replace(r"\f", "\f"))
+    told = answers_in(row[column])
+    return zip(texts, told * (len(texts) if len(told) == 1 else 1))
+
+
+def told_answers():
+    """What the tables say of texts: the document, a text, its options, and the answer."""
     for name in ("README.md", "docs/GRAMMAR.md", "docs/MIGRATING.md"):
         for row in rows_of_tables(name):
-            texts = re.findall(r"`([^`]+)`", row.get("text", ""))
             for column in row.keys() & ANSWERED.keys():
-                told = [row[column]]
-                if not told[0].startswith("`") or " " not in told[0]:
-                    # What stands after a colon or in brackets says more than the answer.
-                    told = re.sub(r" \(.*|: .*|, as .*", "", told[0]).split(", ")
-                for text, each in zip(texts, told * (len(texts) if len(told) == 1 else 1)):
-                    if not is_answered(each, text, ANSWERED[column]):
-                        yield f"{name}: the reference parser answers otherwise: `{text}`: {each}"
+                for text, each in told_of(row, column):
+                    yield name, text, ANSWERED[column], each
+    for text, names, told in cases("answer"):
+        yield PROMISES, text, names, answers_in(told)[0]
+
+
+def other_answers():
+    for name, text, names, told in told_answers():
+        if not is_answered(told, text, names):
+            yield f"{name}: the reference parser answers otherwise: `{text}`: {told}"
 
 
 PRINTED_IN = "printed in these units"
 
 
-def other_printed():
-    """The rows of GRAMMAR.md about printing whose text the reference parser prints otherwise."""
+def told_printed():
+    """What the tables say of printed durations: the document, the duration's text and nanoseconds,
+    the units and the number of parts, and the printed text.
+    """
     printed = [unit.printed for unit in reference_parser.UNITS]
+
+    def told(name, length, names, parts, text):
+        units = tuple(unit for unit in reference_parser.UNITS if unit.printed in names)
+        return name, length, reference_parser.Choice().answer(length).value, units, parts, text
+
     for row in rows_of_tables("docs/GRAMMAR.md"):
         if PRINTED_IN not in row:
             continue
@@ -185,12 +209,20 @@ def other_printed():
             names = [name for name in printed if name not in names]
         elif " to " in row[PRINTED_IN]:
             names = printed[printed.index(names[0]) : printed.index(names[1]) + 1]
-        units_chosen = [unit for unit in reference_parser.UNITS if unit.printed in names]
         parts = len(printed) if row["parts"] == "all" else int(row["parts"])
-        nanos = reference_parser.Choice().answer(length).value
-        text = reference_parser.print_within(nanos, units_chosen, parts)
-        if f"`{text}`" != re.match("`.*?`", row["text"])[0]:
-            yield f"docs/GRAMMAR.md: {length} prints as `{text}`, and not as {row['text']}"
+        yield told("docs/GRAMMAR.md", length, names, parts, row["text"])
+    for length, names, text in cases("printed"):
+        given = dict(name.split("=") for name in names)
+        units = given.get("units", ",".join(printed)).split(",")
+        yield told(PROMISES, length, units, int(given.get("parts", len(printed))), text)
+
+
+def other_printed():
+    """The rows about printing whose text the reference parser prints otherwise."""
+    for name, length, nanos, units, parts, told in told_printed():
+        text = reference_parser.print_within(nanos, units, parts)
+        if f"`{text}`" != re.match("`.*?`|$", told)[0]:
+            yield f"{name}: {length} prints as `{text}`, and not as {told}"
 
 
 # ---- What is proved
@@ -226,26 +258,41 @@ def plain(text):
     return re.sub(r"\[([^]]*)\]\([^)]*\)", r"\1", text).replace("`", "")
 
 
+NAMES = "`([^`]+)`(?:, `[^`]+`)*"
+# A case of a promise is a text, perhaps with options, or it names what shows it.
+TEXT_CASE = re.compile(rf"`([^`]+)`(?: with ({NAMES}))?")
+NAMED_CASE = re.compile(f"(?:test|rows?|wrong body) {NAMES}")
+
+
+def cases(column):
+    """The texts in the rows of promises, each with its options and with its cell in this column."""
+    for row in rows_of_tables(PROMISES):
+        case = TEXT_CASE.fullmatch(row.get("hardest case", ""))
+        if case and column in row:
+            yield case[1], re.findall("`([^`]+)`", case[2] or ""), row[column]
+
+
 def wrong_promises():
     """What is wrong in the rows of promises, and what stands there outside of a row."""
-    known = set(texts_of_vectors())
     names = tracked_files("crates/*.rt", "crates/*.antt", "tests/*", "*.edits", "*.edit")
-    known |= set(re.findall(r"\w+", "".join(map(read, names))))
-    head = ["promise", "shown by", "hardest cases"]
+    known = set(re.findall(r"\w+", " ".join([*names, *map(read, names)])))
+    heads = [["promise", "shown by", "hardest case", each] for each in ("answer", "printed")]
     for line in section(PROMISES, "## What is proved").splitlines():
         if re.match(r"$|### |\|-", line):
             continue
-        cells = [cell.strip() for cell in line.strip("|").split(" | ")]
-        if cells == head:
+        cells = cells_of(line)
+        if cells in heads:
             continue
-        if not line.startswith("| ") or len(cells) != 3 or not all(cells):
+        if not line.startswith("| ") or len(cells) != 4 or not all(cells[2:]):
             yield f"{PROMISES}: is no promise with what shows it and a hardest case: {line}"
-        elif len(list(sentences_of(cells[0]))) != 1:
-            yield f"{PROMISES}: has two sentences in one promise: {cells[0]}"
-        elif unknown := set(re.findall(r"`([^`]+)`", cells[1])) - known:
+        elif len(list(sentences_of(cells[0]))) != bool(cells[1]):
+            yield f"{PROMISES}: has not one sentence and what shows it: {line}"
+        elif not TEXT_CASE.fullmatch(cells[2]) and not NAMED_CASE.fullmatch(cells[2]):
+            yield f"{PROMISES}: has no text, test, row or wrong body: {cells[2]}"
+        elif NAMED_CASE.fullmatch(cells[2]):
+            cells[1] += cells[2]
+        if unknown := set(re.findall("`([^`]+)`", cells[1])) - known:
             yield f"{PROMISES}: names what is nowhere: {', '.join(unknown)}"
-        elif not set(re.findall(r"`([^`]+)`", cells[2])) & known:
-            yield f"{PROMISES}: has no text of the vectors and no test: {cells[2]}"
 
 
 def other_sentences_on_proofs():

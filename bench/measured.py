@@ -1,0 +1,64 @@
+"""What the tables of docs/SPEED.md measure, and when.
+
+A comment above each table, such as `<!-- rust at 270bdc6a -->`, names a group of files, and the
+commit with which these were measured. bench/run writes the commits. tests/repository warns of the
+tables that are older than a change of their files.
+"""
+import pathlib
+import re
+import subprocess
+
+TOP = pathlib.Path(__file__).resolve().parent.parent
+SPEED = TOP / "docs/SPEED.md"
+MARK = r"<!-- (\w+) at (\w+) -->\n"
+# Each group's files, besides the core, and the command that measures them.
+CORE = "rust/core/src"
+GROUPS = {
+    "rust": ("rust/src bench/src bench/peer* bench/sizes.py", "bench/run --write"),
+    "c": ("rust/src c/src bench/src", "bench/run --write"),
+    "python": ("c/src python/src bench/c*.py", "bench/run --write"),
+    "javascript": ("c/src js/src bench/*.mjs", "bench/run --write"),
+    "lines": ("shell/src", "bench/run --write"),
+    "shell": ("shell/src program/src", "bench/run --shell --write"),
+}
+COMMENT = r"^\s*(//|# |/?\*+ )"
+
+
+def git(*words):
+    """What git writes. It is nothing if git fails, such as for a commit that the clone lacks."""
+    return subprocess.run(["git", *words], cwd=TOP, capture_output=True, text=True).stdout
+
+
+def uncommitted():
+    """The measured files with changes that are in no commit."""
+    files = {file for files, _ in GROUPS.values() for file in files.split()}
+    return [line[3:] for line in git("status", "--porcelain", "--", CORE, *files).splitlines()]
+
+
+def with_commit(text):
+    """The text before a table, with the last commit in the comment at its end."""
+    commit = git("rev-parse", "--short=8", "HEAD").strip()
+    return re.sub(rf"{MARK}\Z", rf"<!-- \1 at {commit} -->\n", text)
+
+
+def unmarked():
+    """The tables without such a comment."""
+    for before, head in re.findall(r"(?m)^(.*\n)(\| .*)\n\|-", SPEED.read_text(encoding="utf-8")):
+        mark = re.fullmatch(MARK, before)
+        if not mark or mark[1] not in GROUPS:
+            yield f"docs/SPEED.md: has no comment on what is measured above the table {head}"
+
+
+def older():
+    """The tables that are older than a change of their files, except in comments."""
+    tables = {}
+    for *mark, head in re.findall(rf"{MARK}\| (.*?) \|", SPEED.read_text(encoding="utf-8")):
+        tables.setdefault(tuple(mark), []).append(head)
+    for (group, commit), heads in tables.items():
+        files, command = GROUPS[group]
+        paths = [CORE, *files.split()]
+        if changed := [each for each in paths if git("diff", "-I", COMMENT, commit, "--", each)]:
+            yield (
+                f"docs/SPEED.md: {'; '.join(heads)}: measured before {', '.join(changed)} changed,"
+                f" run {command}"
+            )
