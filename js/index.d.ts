@@ -101,8 +101,7 @@ interface Counted<Name extends Unit> {
      */
     units?: readonly Name[] | undefined;
     /**
-     * The greatest number of parts. `Infinity` means all of them. The rest is left out, and nothing
-     * is rounded up.
+     * The greatest number of parts. `Infinity` means all of them. The rest is left out.
      */
     parts?: number | undefined;
     /** The largest unit. With `d`, 120 days are `120d`. */
@@ -112,9 +111,13 @@ interface Counted<Name extends Unit> {
 }
 
 /**
- * How much of a duration is printed, and how. By default all of it is printed, from `y` to `ns`. If
- * all counts are 0, the text is a zero, such as `0h` or `0s` (docs/GRAMMAR.md in the repository says
- * which).
+ * How much of a duration is printed, and how. By default all of it is printed, from `y` to `ns`.
+ *
+ * The text has as many of the largest chosen unit as fit into the duration, then as many of the
+ * next one as fit into the rest, and so on. Counts of 0 are left out. A count with its unit is a
+ * part. After the greatest number of parts, the rest is left out, and nothing is rounded up. If
+ * there are no parts, the text is a zero: `0` and the name of the smallest chosen unit, such as
+ * `0h`, or `0s` if that unit is shorter than a second.
  */
 export interface Format extends Counted<Unit> {
     /**

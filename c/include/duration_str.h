@@ -269,15 +269,18 @@ size_t duration_str_format(
  * `buffer`, which has DURATION_STR_FORMAT_WITH_BUFFER_SIZE bytes. Returns the
  * length of the text, at most DURATION_STR_MAX_LONG_LEN.
  *
- * `style` is one of `enum duration_str_style`. The text has as many of the
- * largest unit in the set `units` as fit, then as many of the next, and so on,
- * until it has `parts` parts. (It is the lexicographically greatest breakdown
- * of this kind that is not above the duration.) For example, 90,061 seconds in
- * two parts are `1d 1h`, and 180 days in all units without the quarter and the
- * week are `6mon`.
+ * `units` is the set of the chosen units, `parts` is the greatest number of
+ * parts, and `style` is one of `enum duration_str_style`.
  *
- * If all counts are 0, or if `parts` is 0, the text is a zero, such as `0h` or
- * `0s` (docs/GRAMMAR.md in the repository says which).
+ * The text has as many of the largest chosen unit as fit into the duration,
+ * then as many of the next one as fit into the rest, and so on. Counts of 0
+ * are left out. A count with its unit is a part. After the greatest number of
+ * parts, the rest is left out, and nothing is rounded up. If there are no
+ * parts, the text is a zero: `0` and the name of the smallest chosen unit,
+ * such as `0h`, or `0s` if that unit is shorter than a second.
+ *
+ * For example, 90,061 seconds in two parts are `1d 1h`, and 180 days in all
+ * units without the quarter and the week are `6mon`.
  *
  * Returns 0, and the text is empty, if `nanos` is 1,000,000,000 or more, if
  * `style` is above 2, or if `units` is the empty set or above
