@@ -26,10 +26,8 @@ export type Options = RequiringOptions | CountingOptions | SecondsOptions;
 interface Switches {
     /** `+` and `*` are not read, and the terms are added one by one. */
     noCalc?: boolean | undefined;
-    /**
-     * Capitals are not read as small letters. Without this option, ASCII capitals are read as small
-     * letters.
-     */
+    /** ASCII capitals are not read as small letters, so `1M` is refused; without this option `1M`
+     * is a minute. */
     lowercase?: boolean | undefined;
     /** The Chinese names of the units are read too. */
     cnUnit?: boolean | undefined;
@@ -37,10 +35,7 @@ interface Switches {
 
 /** Options that can require units, and so name no default unit. */
 interface RequiringOptions extends Switches {
-    /**
-     * A number without a unit is refused, as in `90` and `1h 30`. Without this option, such a
-     * number counts the default unit.
-     */
+    /** A number without a unit is refused, such as in `90` and `1h 30`. */
     requireUnit?: boolean | undefined;
     defaultUnit?: undefined;
 }
@@ -48,12 +43,12 @@ interface RequiringOptions extends Switches {
 /** Options that can name the default unit, and so don't require units. */
 interface CountingOptions extends Switches {
     /**
-     * The default unit, which a number without a unit counts. With `ms`, `1500` is 1.5 seconds, and
-     * so is `1s 500`. With any unit except seconds, `+` and `*` are not read (docs/GRAMMAR.md in
-     * the repository says why).
+     * A number without a unit counts this unit; with any unit except seconds, `+` and `*` are not
+     * read.
      *
-     * If you name a default unit, even seconds, a number that is not a text is read as its
-     * digits would be.
+     * With `ms`, `1500` is 1.5 seconds, and so is `1s 500`. docs/GRAMMAR.md in the repository says
+     * why `+` and `*` are not read then. If you name a default unit, even seconds, a number that is
+     * not a text is read as its digits would be.
      */
     defaultUnit?: Unit | undefined;
     requireUnit?: false | undefined;

@@ -110,14 +110,12 @@ extern "C" {
 enum duration_str_option {
     /* `+` and `*` are not read, and the terms are added one by one */
     DURATION_STR_OPTION_NO_CALC = 1,
-    /* capitals are not read as small letters; without this option ASCII
-     * capitals are read as small letters */
+    /* ASCII capitals are not read as small letters, so `1M` is refused;
+     * without this option `1M` is a minute */
     DURATION_STR_OPTION_LOWERCASE = 2,
     /* the Chinese names of the units are read too */
     DURATION_STR_OPTION_CN_UNIT = 4,
-    /* after a number only a unit can stand, so that `90` and `1h 30` are
-     * refused; without this option a number without a unit counts seconds,
-     * or the unit of DURATION_STR_OPTION_DEFAULT_UNIT */
+    /* a number without a unit is refused, such as in `90` and `1h 30` */
     DURATION_STR_OPTION_REQUIRE_UNIT = 8
 };
 
