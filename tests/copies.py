@@ -7,6 +7,7 @@ Each place is a file, the text before and after what is copied, and what must st
 import re
 import textwrap
 
+from lists import found
 from prose import HEADER, read, section
 
 RATTLE = "crates/duration_str/src"
@@ -69,10 +70,11 @@ def as_list(told):
 def options(told, sentences):
     """The places of what the options do, except those in JavaScript."""
     *switches, _, _ = told
+    bits = dict(found(r"^const (\w+): u32 = (\d+);$", "duration_str_c/src/lib.rt"))
     rows = []
-    for number, name in enumerate([*switches, "require_unit"]):
+    for name in (*switches, "require_unit"):
         comment = filled(f"{told[name]} */", 79, "    /* ", "     * ")
-        rows.append(f"{comment}\n    DURATION_STR_OPTION_{name.upper()} = {2**number}")
+        rows.append(f"{comment}\n    DURATION_STR_OPTION_{name.upper()} = {bits[name.upper()]}")
     yield HEADER, "enum duration_str_option {\n", "\n};", ",\n".join(rows)
     fields = [
         filled(sentences[name], 100, "    /// ") + f"\n    pub {name}: bool," for name in switches
