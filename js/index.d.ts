@@ -360,8 +360,10 @@ export function formatNs(nanoseconds: bigint, format?: Format): string;
 
 /**
  * Breaks a duration down into counts of units. The duration is a number of milliseconds or a bigint
- * of nanoseconds. The parts are those that `format` prints, and a duration of 0 has no parts. The
- * counts, each times the length of its unit, and the rest are together the duration.
+ * of nanoseconds.
+ *
+ * The parts are those that the printed text has, so a duration of 0 has none. The counts, each
+ * times the length of its unit, and the rest are together the duration.
  *
  * ```js
  * const { parts, restNs } = breakdown(193_029, { parts: 2 });

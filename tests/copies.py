@@ -13,6 +13,7 @@ from prose import HEADER, read, section
 RATTLE = "crates/duration_str/src"
 TYPES = "js/index.d.ts"
 PYTHON = "python/src/duration_str"
+RUST = "rust/src/formatted.rs"
 
 
 def filled(text, width, first, further=None):
@@ -27,12 +28,12 @@ def in_strings(text):
 
 
 def paragraphs():
-    """The places of the paragraphs on texts and on printing. The manual pages of C take both from
-    the header.
+    """The places of the paragraphs on texts, on printing, and on parts as numbers. The manual pages
+    of C take them from the header.
     """
     copied = r"<!-- tests/repository --write copies this paragraph .*? -->\n(.*?)\n\n"
     told = re.findall(copied, read("docs/GRAMMAR.md"), re.S)
-    meaning, printing = (paragraph.replace("\n", " ") for paragraph in told)
+    meaning, printing, parts = (paragraph.replace("\n", " ") for paragraph in told)
     for told, name, before, after, prefix, width in (
         (meaning, HEADER, " * what you trust.\n *\n", "\n *\n", " * ", 79),
         (meaning, TYPES, "it also says where.\n *\n", "\n *\n", " * ", 100),
@@ -40,12 +41,17 @@ def paragraphs():
         (meaning, "rust/src/lib.rs", "# What a text means\n//!\n", "\n//!\n", "//! ", 100),
         (printing, HEADER, " of `enum duration_str_style`.\n *\n", "\n *\n", " * ", 79),
         (printing, TYPES, " from `y` to `ns`.\n *\n", "\n */", " * ", 100),
-        (printing, "rust/src/formatted.rs", "# What is printed\n///\n", "\n///\n", "/// ", 100),
+        (printing, RUST, "# What is printed\n///\n", "\n///\n", "/// ", 100),
         (printing, f"{RATTLE}/printing.rt", "do not matter.\n///\n", "\n///\n", "/// ", 100),
+        (parts, HEADER, " if you don't want\n * the rest.\n *\n", "\n *\n", " * ", 79),
+        (parts, TYPES, " or a bigint\n * of nanoseconds.\n *\n", "\n *\n", " * ", 100),
+        (parts, RUST, " of its magnitude.\n    ///\n", "\n    ///\n", "    /// ", 100),
     ):
         yield name, before, after, filled(told, width, prefix)
-    before = '(`1 hour 30 minutes`)\\n\\n"\n    "'
-    yield f"{PYTHON}/_native.c", before, '\\n\\n"', in_strings(filled(printing, 79, ""))
+    end = '\\n\\n"'
+    for told, before in (printing, "(`1 hour 30 minutes`)"), (parts, "are ints of any size."):
+        lines = in_strings(filled(told, 79, ""))
+        yield f"{PYTHON}/_native.c", f'{before}{end}\n    "', end, lines
 
 
 def options_told():

@@ -290,15 +290,17 @@ size_t duration_str_format_with(
     char buffer[DURATION_STR_AT_LEAST DURATION_STR_FORMAT_WITH_BUFFER_SIZE]);
 
 /* Breaks a duration of `secs` seconds and `nanos` nanoseconds down into the
- * units of the set `units`, in at most `parts` parts. These are the parts that
- * duration_str_format_with prints, without counts of 0.
+ * units of the set `units`, in at most `parts` parts.
  *
  * Returns true, and writes to `counts` how many there are of each unit. The
  * count of a unit is at the unit's number in `enum duration_str_time_unit`. It
  * is 0 if the unit has no part. Writes to `*rest` the nanoseconds that no part
- * has. So the counts, each times the length of its unit, and the rest are
- * together the duration. `rest` must not point into `counts`. It may be null if
- * you don't want the rest.
+ * has. `rest` must not point into `counts`. It may be null if you don't want
+ * the rest.
+ *
+ * The parts are those that the printed text has, so a duration of 0 has none.
+ * The counts, each times the length of its unit, and the rest are together the
+ * duration.
  *
  * For example, 193 seconds and 29,000,000 nanoseconds in two parts of all units
  * are 3 minutes and 13 seconds, and the rest is 29,000,000. If `parts` is 0, all

@@ -120,9 +120,11 @@ impl FormattedDuration {
         <[&str; 2]>::from(self.parts_of_text(&mut [0; FORMAT_BUFFER_SIZE])).concat()
     }
 
-    /// Returns the parts that are printed as numbers: the units with their counts, the longest unit
-    /// first. Counts of 0 are left out, and the style does not matter. If the duration is negative,
-    /// these are the parts of its magnitude.
+    /// Returns the parts as numbers: the units with their counts, the longest unit first. The style
+    /// does not matter. If the duration is negative, these are the parts of its magnitude.
+    ///
+    /// The parts are those that the printed text has, so a duration of 0 has none. The counts, each
+    /// times the length of its unit, and the rest are together the duration.
     ///
     /// ```
     /// use duration_str::{TimeUnit, format_duration};
