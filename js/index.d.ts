@@ -26,10 +26,8 @@ export type Options = RequiringOptions | CountingOptions | SecondsOptions;
 interface Switches {
     /** `+` and `*` are not read, and the terms are added one by one. */
     noCalc?: boolean | undefined;
-    /**
-     * Capitals are not read as small letters. Without this option, ASCII capitals are read as small
-     * letters.
-     */
+    /** ASCII capitals are not read as small letters, so `1M` is refused; without this option `1M`
+     * is a minute. */
     lowercase?: boolean | undefined;
     /** The Chinese names of the units are read too. */
     cnUnit?: boolean | undefined;
@@ -37,10 +35,7 @@ interface Switches {
 
 /** Options that can require units, and so name no default unit. */
 interface RequiringOptions extends Switches {
-    /**
-     * A number without a unit is refused, as in `90` and `1h 30`. Without this option, such a
-     * number counts the default unit.
-     */
+    /** A number without a unit is refused, such as in `90` and `1h 30`. */
     requireUnit?: boolean | undefined;
     defaultUnit?: undefined;
 }
@@ -48,12 +43,12 @@ interface RequiringOptions extends Switches {
 /** Options that can name the default unit, and so don't require units. */
 interface CountingOptions extends Switches {
     /**
-     * The default unit, which a number without a unit counts. With `ms`, `1500` is 1.5 seconds, and
-     * so is `1s 500`. With any unit except seconds, `+` and `*` are not read (docs/GRAMMAR.md in
-     * the repository says why).
+     * A number without a unit counts this unit; with any unit except seconds, `+` and `*` are not
+     * read.
      *
-     * If you name a default unit, even seconds, a number that is not a text is read as its
-     * digits would be.
+     * With `ms`, `1500` is 1.5 seconds, and so is `1s 500`. docs/GRAMMAR.md in the repository says
+     * why `+` and `*` are not read then. If you name a default unit, even seconds, a number that is
+     * not a text is read as its digits would be.
      */
     defaultUnit?: Unit | undefined;
     requireUnit?: false | undefined;
@@ -101,8 +96,7 @@ interface Counted<Name extends Unit> {
      */
     units?: readonly Name[] | undefined;
     /**
-     * The greatest number of parts. `Infinity` means all of them. The rest is left out, and nothing
-     * is rounded up.
+     * The greatest number of parts. `Infinity` means all of them. The rest is left out.
      */
     parts?: number | undefined;
     /** The largest unit. With `d`, 120 days are `120d`. */
@@ -112,9 +106,13 @@ interface Counted<Name extends Unit> {
 }
 
 /**
- * How much of a duration is printed, and how. By default all of it is printed, from `y` to `ns`. If
- * all counts are 0, the text is a zero, such as `0h` or `0s` (docs/GRAMMAR.md in the repository says
- * which).
+ * How much of a duration is printed, and how. By default all of it is printed, from `y` to `ns`.
+ *
+ * The text has as many of the largest chosen unit as fit into the duration, then as many of the
+ * next one as fit into the rest, and so on. Counts of 0 are left out. A count with its unit is a
+ * part. After the greatest number of parts, the rest is left out, and nothing is rounded up. If
+ * there are no parts, the text is a zero: `0` and the name of the smallest chosen unit, such as
+ * `0h`, or `0s` if that unit is shorter than a second.
  */
 export interface Format extends Counted<Unit> {
     /**
@@ -362,8 +360,10 @@ export function formatNs(nanoseconds: bigint, format?: Format): string;
 
 /**
  * Breaks a duration down into counts of units. The duration is a number of milliseconds or a bigint
- * of nanoseconds. The parts are those that `format` prints, and a duration of 0 has no parts. The
- * counts, each times the length of its unit, and the rest are together the duration.
+ * of nanoseconds.
+ *
+ * The parts are those that the printed text has, so a duration of 0 has none. The counts, each
+ * times the length of its unit, and the rest are together the duration.
  *
  * ```js
  * const { parts, restNs } = breakdown(193_029, { parts: 2 });

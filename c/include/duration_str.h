@@ -110,14 +110,12 @@ extern "C" {
 enum duration_str_option {
     /* `+` and `*` are not read, and the terms are added one by one */
     DURATION_STR_OPTION_NO_CALC = 1,
-    /* capitals are not read as small letters; without this option ASCII
-     * capitals are read as small letters */
+    /* ASCII capitals are not read as small letters, so `1M` is refused;
+     * without this option `1M` is a minute */
     DURATION_STR_OPTION_LOWERCASE = 2,
     /* the Chinese names of the units are read too */
     DURATION_STR_OPTION_CN_UNIT = 4,
-    /* after a number only a unit can stand, so that `90` and `1h 30` are
-     * refused; without this option a number without a unit counts seconds,
-     * or the unit of DURATION_STR_OPTION_DEFAULT_UNIT */
+    /* a number without a unit is refused, such as in `90` and `1h 30` */
     DURATION_STR_OPTION_REQUIRE_UNIT = 8
 };
 
@@ -269,15 +267,18 @@ size_t duration_str_format(
  * `buffer`, which has DURATION_STR_FORMAT_WITH_BUFFER_SIZE bytes. Returns the
  * length of the text, at most DURATION_STR_MAX_LONG_LEN.
  *
- * `style` is one of `enum duration_str_style`. The text has as many of the
- * largest unit in the set `units` as fit, then as many of the next, and so on,
- * until it has `parts` parts. (It is the lexicographically greatest breakdown
- * of this kind that is not above the duration.) For example, 90,061 seconds in
- * two parts are `1d 1h`, and 180 days in all units without the quarter and the
- * week are `6mon`.
+ * `units` is the set of the chosen units, `parts` is the greatest number of
+ * parts, and `style` is one of `enum duration_str_style`.
  *
- * If all counts are 0, or if `parts` is 0, the text is a zero, such as `0h` or
- * `0s` (docs/GRAMMAR.md in the repository says which).
+ * The text has as many of the largest chosen unit as fit into the duration,
+ * then as many of the next one as fit into the rest, and so on. Counts of 0
+ * are left out. A count with its unit is a part. After the greatest number of
+ * parts, the rest is left out, and nothing is rounded up. If there are no
+ * parts, the text is a zero: `0` and the name of the smallest chosen unit,
+ * such as `0h`, or `0s` if that unit is shorter than a second.
+ *
+ * For example, 90,061 seconds in two parts are `1d 1h`, and 180 days in all
+ * units without the quarter and the week are `6mon`.
  *
  * Returns 0, and the text is empty, if `nanos` is 1,000,000,000 or more, if
  * `style` is above 2, or if `units` is the empty set or above
@@ -289,15 +290,17 @@ size_t duration_str_format_with(
     char buffer[DURATION_STR_AT_LEAST DURATION_STR_FORMAT_WITH_BUFFER_SIZE]);
 
 /* Breaks a duration of `secs` seconds and `nanos` nanoseconds down into the
- * units of the set `units`, in at most `parts` parts. These are the parts that
- * duration_str_format_with prints, without counts of 0.
+ * units of the set `units`, in at most `parts` parts.
  *
  * Returns true, and writes to `counts` how many there are of each unit. The
  * count of a unit is at the unit's number in `enum duration_str_time_unit`. It
  * is 0 if the unit has no part. Writes to `*rest` the nanoseconds that no part
- * has. So the counts, each times the length of its unit, and the rest are
- * together the duration. `rest` must not point into `counts`. It may be null if
- * you don't want the rest.
+ * has. `rest` must not point into `counts`. It may be null if you don't want
+ * the rest.
+ *
+ * The parts are those that the printed text has, so a duration of 0 has none.
+ * The counts, each times the length of its unit, and the rest are together the
+ * duration.
  *
  * For example, 193 seconds and 29,000,000 nanoseconds in two parts of all units
  * are 3 minutes and 13 seconds, and the rest is 29,000,000. If `parts` is 0, all

@@ -25,7 +25,14 @@ use duration_str_core::{Breakdown, FORMAT_BUFFER_SIZE, Format, Style, TimeUnit, 
 ///
 /// # What is printed
 ///
-/// If the largest unit that you ask for is shorter than the smallest, no unit is left, and each
+/// The text has as many of the largest chosen unit as fit into the duration, then as many of the
+/// next one as fit into the rest, and so on. Counts of 0 are left out. A count with its unit is a
+/// part. After the greatest number of parts, the rest is left out, and nothing is rounded up. If
+/// there are no parts, the text is a zero: `0` and the name of the smallest chosen unit, such as
+/// `0h`, or `0s` if that unit is shorter than a second.
+///
+/// Each call that chooses units only takes units away, so you can make these calls in any order. If
+/// the largest unit that you ask for is shorter than the smallest, no unit is left, and each
 /// duration prints as `0s`. The same is true if you ask for no unit. These calls can't fail, so if
 /// a user chooses the units, compare them first:
 ///
@@ -38,15 +45,6 @@ use duration_str_core::{Breakdown, FORMAT_BUFFER_SIZE, Format, Style, TimeUnit, 
 /// assert_eq!(nothing.to_string(), "0s");
 /// assert_eq!(build.only(&[]).style(Style::Long).to_string(), "0 seconds");
 /// ```
-///
-/// Otherwise the text has the greatest possible count of the largest unit, then the greatest count
-/// of the next unit in what is left, and so on down to the smallest unit, or until the number of
-/// parts is reached. Counts of 0 are left out. The remainder at the end is left out too.
-///
-/// Each call that chooses units only takes units away, so you can make these calls in any order.
-///
-/// If all counts are 0, or if you ask for 0 parts, the text is a zero, such as `0h` or `0s`.
-/// `docs/GRAMMAR.md` in the repository says which.
 ///
 /// Width and fill pad the text. A precision is ignored.
 ///
@@ -122,9 +120,11 @@ impl FormattedDuration {
         <[&str; 2]>::from(self.parts_of_text(&mut [0; FORMAT_BUFFER_SIZE])).concat()
     }
 
-    /// Returns the parts that are printed as numbers: the units with their counts, the longest unit
-    /// first. Counts of 0 are left out, and the style does not matter. If the duration is negative,
-    /// these are the parts of its magnitude.
+    /// Returns the parts as numbers: the units with their counts, the longest unit first. The style
+    /// does not matter. If the duration is negative, these are the parts of its magnitude.
+    ///
+    /// The parts are those that the printed text has, so a duration of 0 has none. The counts, each
+    /// times the length of its unit, and the rest are together the duration.
     ///
     /// ```
     /// use duration_str::{TimeUnit, format_duration};

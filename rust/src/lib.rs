@@ -133,9 +133,8 @@
 //! - `serde`, `chrono` and `time` are on by default, and add the calls for these crates. You need
 //!   them only for calls of `duration-str` 0.19.0, and for fields in configuration files.
 //! - `macros` adds the macro `duration!`.
-//! - `no_calc` (operators are not read), `lowercase` (capitals are not read as small letters) and
-//!   `cn_unit` (Chinese names are read) turn on the option of the same name for the calls of
-//!   `duration-str` 0.19.0.
+//! - `no_calc`, `lowercase` and `cn_unit` turn on the [option](Options) of the same name for the
+//!   calls of `duration-str` 0.19.0.
 //!
 //! Cargo turns on each feature that any crate of a program asks for. Of the last three features,
 //! only `cn_unit` takes nothing away from what another crate reads. So it alone affects calls that

@@ -76,12 +76,14 @@ pub const FORMAT_BUFFER_SIZE: usize = 144;
 /// Prints a duration in this format to the start of a buffer, and returns the text. The buffer's
 /// old contents do not matter.
 ///
-/// The text has as many of the format's largest unit as fit, then as many of the next one, and so
-/// on, until it has `format.parts` parts. (It is the lexicographically greatest breakdown that has
-/// only the format's units and at most that many parts, and is not above the duration.) If all
-/// counts are 0, the text is `0` and the name of the smallest unit, or of the second if the
-/// smallest unit is shorter than that. A format without units prints every duration as zero
-/// seconds, such as `0s`. A format with 0 parts prints every duration as it prints a duration of 0.
+/// The text has as many of the largest chosen unit as fit into the duration, then as many of the
+/// next one as fit into the rest, and so on. Counts of 0 are left out. A count with its unit is a
+/// part. After the greatest number of parts, the rest is left out, and nothing is rounded up. If
+/// there are no parts, the text is a zero: `0` and the name of the smallest chosen unit, such as
+/// `0h`, or `0s` if that unit is shorter than a second.
+///
+/// The format has the chosen units and the greatest number of parts. A format without units prints
+/// every duration as zero seconds, such as `0s`.
 ///
 /// The text has at most `MAX_PRINTED_LEN` bytes, or `MAX_LONG_LEN` in the long style. Bytes after
 /// it may change too. The call allocates nothing and cannot fail.

@@ -24,8 +24,7 @@ class Part(NamedTuple):
 
 
 class Breakdown(NamedTuple):
-    """A duration as counts of units. The counts, each times the length of its unit,
-    and the rest are together the duration."""
+    """A duration as counts of units, which `breakdown` returns."""
 
     parts: tuple[Part, ...]
     """The parts whose counts are not 0, the largest unit first."""

@@ -1,0 +1,118 @@
+"""Lays out what docs/GRAMMAR.md says for the documentation of each language: what a text means, how
+a duration is printed, and what the options of reading do. tests/repository compares the result with
+what stands there, and writes it.
+
+Each place is a file, the text before and after what is copied, and what must stand between them.
+"""
+import re
+import textwrap
+
+from lists import found
+from prose import HEADER, read, section
+
+RATTLE = "crates/duration_str/src"
+TYPES = "js/index.d.ts"
+PYTHON = "python/src/duration_str"
+RUST = "rust/src/formatted.rs"
+
+
+def filled(text, width, first, further=None):
+    """The text in lines of up to this width. `first` begins the first one, `further` the others."""
+    further = first if further is None else further
+    return textwrap.fill(text, width, initial_indent=first, subsequent_indent=further)
+
+
+def in_strings(text):
+    """Lines as they stand in strings of C, without the quotation marks around them all."""
+    return text.replace("\n", '\\n"\n    "')
+
+
+def paragraphs():
+    """The places of the paragraphs on texts, on printing, and on parts as numbers. The manual pages
+    of C take them from the header.
+    """
+    copied = r"<!-- tests/repository --write copies this paragraph .*? -->\n(.*?)\n\n"
+    told = re.findall(copied, read("docs/GRAMMAR.md"), re.S)
+    meaning, printing, parts = (paragraph.replace("\n", " ") for paragraph in told)
+    for told, name, before, after, prefix, width in (
+        (meaning, HEADER, " * what you trust.\n *\n", "\n *\n", " * ", 79),
+        (meaning, TYPES, "it also says where.\n *\n", "\n *\n", " * ", 100),
+        (meaning, f"{PYTHON}/__init__.py", "'3min 13s 29ms'\n\n", "\n\n", "", 79),
+        (meaning, "rust/src/lib.rs", "# What a text means\n//!\n", "\n//!\n", "//! ", 100),
+        (printing, HEADER, " of `enum duration_str_style`.\n *\n", "\n *\n", " * ", 79),
+        (printing, TYPES, " from `y` to `ns`.\n *\n", "\n */", " * ", 100),
+        (printing, RUST, "# What is printed\n///\n", "\n///\n", "/// ", 100),
+        (printing, f"{RATTLE}/printing.rt", "do not matter.\n///\n", "\n///\n", "/// ", 100),
+        (parts, HEADER, " if you don't want\n * the rest.\n *\n", "\n *\n", " * ", 79),
+        (parts, TYPES, " or a bigint\n * of nanoseconds.\n *\n", "\n *\n", " * ", 100),
+        (parts, RUST, " of its magnitude.\n    ///\n", "\n    ///\n", "    /// ", 100),
+    ):
+        yield name, before, after, filled(told, width, prefix)
+    end = '\\n\\n"'
+    for told, before in (printing, "(`1 hour 30 minutes`)"), (parts, "are ints of any size."):
+        lines = in_strings(filled(told, 79, ""))
+        yield f"{PYTHON}/_native.c", f'{before}{end}\n    "', end, lines
+
+
+def options_told():
+    """What the options of reading do: three switches, and the two choices of a default unit."""
+    page = section("docs/GRAMMAR.md", "## Options")
+    choices = dict(re.findall(r"^\| (no|another) unit \| (.*?) \|", page, re.M))
+    return dict(re.findall(r"^\| `(\w+)` \| (.*) \|$", page, re.M)) | {
+        "require_unit": f"a number without a unit {choices['no']}",
+        "default_unit": f"a number without a unit {choices['another']}",
+    }
+
+
+def in_manual(text):
+    """A text as mdoc has it, in which a line begins with each macro."""
+    return re.sub(" ?`(.*?)` ?", r"\n.Ql \1\n", text).strip()
+
+
+def as_list(told):
+    return "\n".join(filled(f"- `{name}`: {what}.", 100, "", "  ") for name, what in told.items())
+
+
+def options(told, sentences):
+    """The places of what the options do, except those in JavaScript."""
+    *switches, _, _ = told
+    bits = dict(found(r"^const (\w+): u32 = (\d+);$", "duration_str_c/src/lib.rt"))
+    rows = []
+    for name in (*switches, "require_unit"):
+        comment = filled(f"{told[name]} */", 79, "    /* ", "     * ")
+        rows.append(f"{comment}\n    DURATION_STR_OPTION_{name.upper()} = {bits[name.upper()]}")
+    yield HEADER, "enum duration_str_option {\n", "\n};", ",\n".join(rows)
+    fields = [
+        filled(sentences[name], 100, "    /// ") + f"\n    pub {name}: bool," for name in switches
+    ]
+    yield f"{RATTLE}/options.rt", "pub struct Options {\n", "\n}", "\n".join(fields)
+    rows = [f".It Cm {name}\n{in_manual(sentences[name])}" for name in switches]
+    yield "program/durstr.1.in", "-width lowercase\n", "\n.El", "\n".join(rows)
+    rows = [filled(what, 79, f"  {name:14}", " " * 16) for name, what in told.items()]
+    before = 'and the default unit is the second:\\n\\n"\n    "'
+    yield f"{PYTHON}/_native.c", before, '\\n\\n"', in_strings("\n".join(rows))
+    yield "python/README.md", "these options, by name:\n\n", "\n\n", as_list(told)
+
+
+def options_in_javascript(told, sentences):
+    names = {name: re.sub("_(.)", lambda found: found[1].upper(), name) for name in told}
+    fields = {
+        name: filled(f"{what} */", 100, "    /** ", "     * ") + f"\n    {names[name]}?: boolean"
+        for name, what in sentences.items()
+    }
+    *switches, required, _ = fields.values()
+    end = " | undefined;\n"
+    yield TYPES, "interface Switches {\n", f"{end}}}", end.join(switches)
+    yield TYPES, "interface RequiringOptions extends Switches {\n", end, required
+    before = "interface CountingOptions extends Switches {\n    /**\n"
+    yield TYPES, before, "\n     *\n", filled(sentences["default_unit"], 100, "     * ")
+    told = {names[name]: what for name, what in told.items()}
+    yield "js/README.md", "the options for reading:\n\n", "\n\n", as_list(told)
+
+
+def places():
+    told = options_told()
+    sentences = {name: f"{what[0].upper()}{what[1:]}." for name, what in told.items()}
+    yield from paragraphs()
+    yield from options(told, sentences)
+    yield from options_in_javascript(told, sentences)
