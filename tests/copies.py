@@ -65,7 +65,7 @@ def options_told():
 
 
 def in_manual(text):
-    """A text as mdoc has it, in which a line begins with each macro."""
+    """A text in the notation of mdoc, in which each macro stands at the start of a line."""
     return re.sub(" ?`(.*?)` ?", r"\n.Ql \1\n", text).strip()
 
 

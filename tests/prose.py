@@ -231,7 +231,7 @@ PROMISES = "docs/PROMISES.md"
 LEADS_THERE = " says what is proved, what is tested, and what you trust."
 # The words that make a sentence one about proofs
 OF_PROOFS = re.compile(r"\b(dis)?(prov(e[dns]?|ing)|prover|proofs?|verif\w+|guarantee\w*)\b", re.I)
-# The files that have the sentence that leads to PROMISES, and others that say nothing of proofs
+# The files that have the sentence that leads to PROMISES
 PACKAGES = (
     "c/README.md",
     HEADER,
@@ -245,6 +245,7 @@ PACKAGES = (
     "shell/README.md",
     "web/page.html",
 )
+# Other files, in which that sentence doesn't stand
 OTHERS = ("docs/GRAMMAR.md", "docs/MIGRATING.md", "docs/SPEED.md")
 
 

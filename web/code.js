@@ -126,7 +126,7 @@ function cPrintCall(format) {
     ];
 }
 
-/** The literal of a text in C, in which bytes beyond ASCII are escaped. */
+/** The literal of a text in C, in which control characters and bytes beyond ASCII are escaped. */
 function cLiteral(text) {
     const escaped = (byte) => `\\${byte.toString(8).padStart(3, "0")}`;
     const isPlain = (byte) => byte >= 0x20 && byte < 0x7f;

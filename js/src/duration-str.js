@@ -96,7 +96,7 @@ function digitsOf(value, bits) {
     if (!(bits & READS_NUMBERS)) {
         throw notText(value, ": to read numbers, name their unit, as by { defaultUnit: 'ms' }");
     }
-    // From 2^53 on a number can have lost digits. NaN is not below it.
+    // From 2^53 on a number can have lost digits. NaN is not below 2^53 either.
     if (typeof value === "bigint" || value < 2 ** 53) return `${value}`;
     throw new RangeError(`a number must be below 2^53, or a bigint, not ${value}`);
 }

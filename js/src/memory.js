@@ -114,7 +114,7 @@ export function output(length) {
     for (let place = 0; place < length; place++) {
         const byte = bytes[place];
         if (byte > 0xc2) return decode(bytes.subarray(0, length));
-        // From U+0080 to U+00BF, as for µ, the bytes are C2 and the code.
+        // A character from U+0080 to U+00BF, such as µ, has the bytes C2 and its code.
         if (byte !== 0xc2) codes[count++] = byte;
     }
     return textOf(codes, count);

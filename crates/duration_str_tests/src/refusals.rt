@@ -63,7 +63,7 @@ pub fn names_token(text: &str, o: Options, cause: Cause, token: &str) -> bool {
 }
 
 /// Whether the text is refused for this cause, and its fault prints the line. If the cause has a
-/// place, the text and a caret after this many blanks are above the line.
+/// place, the fault also prints the text above the line, and a caret after this many blanks.
 pub fn is_caused(
     alloc: Global,
     (text, o, cause): (&str, Options, Cause),
@@ -144,7 +144,8 @@ fn is_shown(alloc: Global, fault: Fault<'_>, row: &Value) -> Result<bool, AllocE
     )
 }
 
-/// Whether the token at the fault's place is that of the row. An empty text means that none is.
+/// Whether the token at the fault's place is that of the row. The row has an empty text if there
+/// is no token.
 fn has_token(fault: Fault<'_>, o: Options, row: &Value) -> bool {
     fault.found(o).unwrap_or("") == text_at(row, 4)
 }

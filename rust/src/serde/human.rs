@@ -122,7 +122,7 @@ pub trait HumanText: Sealed + Sized {
 ///
 /// # Errors
 ///
-/// Returns the format's error, also if the text could not be read back.
+/// Returns an error of the format, for example if the text could not be read back.
 ///
 /// ```
 /// use serde_json::value::Serializer;
@@ -141,7 +141,7 @@ pub fn serialize<T: HumanText, S: Serializer>(value: &T, serializer: S) -> Resul
 ///
 /// # Errors
 ///
-/// Returns the format's error, also if a text is refused.
+/// Returns an error of the format, for example if a text is refused.
 ///
 /// ```
 /// use std::time::Duration;

@@ -39,7 +39,7 @@ pub use human::serialize;
 ///
 /// # Errors
 ///
-/// Returns the format's error, also if a text or a number is refused.
+/// Returns an error of the format, for example if a text or a number is refused.
 ///
 /// ```
 /// use duration_str::human_or_seconds;

@@ -36,7 +36,7 @@ pub use human::serialize;
 ///
 /// # Errors
 ///
-/// Returns the format's error, also if a text is refused.
+/// Returns an error of the format, for example if a text is refused.
 ///
 /// ```
 /// use duration_str::human_require_unit;

@@ -37,7 +37,7 @@ use serde::ser::Serializer;
 ///
 /// # Errors
 ///
-/// Returns the format's error, also if the text could not be read back.
+/// Returns an error of the format, for example if the text could not be read back.
 ///
 /// ```
 /// use serde_json::value::Serializer;
@@ -56,7 +56,7 @@ pub fn serialize<T: HumanText, S: Serializer>(value: &T, serializer: S) -> Resul
 ///
 /// # Errors
 ///
-/// Returns the format's error, also if a text is refused.
+/// Returns an error of the format, for example if a text is refused.
 ///
 /// ```
 /// use serde_json::json;

@@ -13,7 +13,7 @@ pub trait DeserializeDuration<'de>: Sealed + Sized {
     ///
     /// # Errors
     ///
-    /// Returns the format's error, also if the text is refused.
+    /// Returns an error of the format, for example if the text is refused.
     fn deserialize_duration<D: Deserializer<'de>>(deserializer: D) -> Result<Self, D::Error>;
 }
 
@@ -94,7 +94,7 @@ impl<'de, T: Length> Visitor<'de> for Optional<T> {
 ///
 /// # Errors
 ///
-/// Returns the format's error, also if the text is refused.
+/// Returns an error of the format, for example if the text is refused.
 ///
 /// ```
 /// use duration_str::deserialize_duration;
@@ -156,7 +156,7 @@ macro_rules! deserializes {
         ///
         /// # Errors
         ///
-        /// Returns the format's error, also if the text is refused.
+        /// Returns an error of the format, for example if the text is refused.
         #[deprecated(
             since = "0.19.0",
             note = "[`deserialize_duration`] reads optional durations too"

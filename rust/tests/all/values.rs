@@ -74,7 +74,7 @@ fn reads_the_vectors_and_refuses_them_under_the_other_options() {
     }
 }
 
-/// The texts of the numbers. The modules for serde read the numbers themselves.
+/// Reads the numbers as texts. The module `numbers` reads them as numbers, by serde.
 #[test]
 fn reads_the_digits_of_numbers_in_another_unit() {
     for (unit, number, secs, nanos) in vectors().numbers {
