@@ -168,7 +168,8 @@ def said_of(line, options, where, before=None):
     if "field" in options:
         begin, end = field_in(line, options) or (None, None)
     elif where.startswith("line"):
-        line = b"" if too_long else line.removesuffix(b"\r")
+        ending = b"" if "zero-terminated" in options else b"\r"
+        line = b"" if too_long else line.removesuffix(ending)
     answer = Refused("no such field") if begin is None else read(line[begin:end], options)
     answer = Refused("line of over 1,048,576 bytes") if too_long else answer
     if "json" in options:

@@ -125,7 +125,7 @@ impl Run<'_> {
                 )?;
             } else if is_header {
                 self.put(&[text])?;
-            } else if self.choices.field.is_none() {
+            } else if self.choices.field.is_none() && self.end == b'\n' {
                 self.line(text.strip_suffix(b"\r").unwrap_or(text), number)?;
             } else {
                 self.line(text, number)?;

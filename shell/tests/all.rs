@@ -452,7 +452,25 @@ fn prints_json() {
         (&wide["column"], &wide["found"]),
         (&json!(5), &json!("\u{5206}"))
     );
-    assert_eq!(run(&["--json", "-z"], b"1h\n2m\x003h").1.lines().count(), 2);
+    // A carriage return before a line feed is not in the text. One before a NUL is.
+    let shown = |words: &[&str], input: &[u8]| -> Vec<Value> {
+        let output = run(words, input).1;
+        let objects = output.lines().map(serde_json::from_str::<Value>);
+        objects
+            .map(|object| object.unwrap()["text"].take())
+            .collect()
+    };
+    assert_eq!(shown(&["--json"], b"1h\r\n2m\r\r\n"), ["1h", "2m\r"]);
+    let items = b"1h\n2m\r\0 3h+\r\0\r\n\x004h\r";
+    let wanted = ["1h\n2m\r", " 3h+\r", "\r\n", "4h\r"];
+    assert_eq!(shown(&["--json", "-z"], items), wanted);
+    let errors = format!(
+        "duration: line 2: {}\nduration: line 3: {}\n",
+        line(wanted[1]),
+        line(wanted[2])
+    );
+    let printed = "1h 2min\x004h\0".to_string();
+    assert_eq!(run(&["-z"], items), (1, printed, errors));
     let bytes: Value = serde_json::from_str(&run(&["--json"], b"1h\xff\n").1).unwrap();
     assert_eq!(
         (&bytes["text"], &bytes["message"]),

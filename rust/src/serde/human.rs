@@ -77,12 +77,13 @@ use crate::humantime;
 use crate::parser::{ADDITIONS, parse_with};
 use crate::serde::original::Length;
 use crate::{HUMAN_BUFFER_SIZE, TimeUnit, write_human};
+use alloc::string::String;
 use alloc::vec::Vec;
 use core::fmt;
 use core::marker::PhantomData;
 use core::str;
 use core::time::Duration;
-use serde::de::{self, Deserialize, Deserializer, Unexpected, Visitor};
+use serde::de::{self, Deserialize, Deserializer, IgnoredAny, MapAccess, Unexpected, Visitor};
 use serde::ser::{self, Serialize, Serializer};
 
 /// The types of fields that this module, [`human_require_unit`](crate::human_require_unit),
@@ -174,11 +175,25 @@ const fn unit_of_numbers(how: u8) -> Option<TimeUnit> {
     }
 }
 
+/// If the feature `arbitrary_precision` of serde_json is on, a number that is no integer of 64 bits
+/// comes as a map from this key to the number's text.
+const NUMBER_KEY: &str = "$serde_json::private::Number";
+
+/// The text of such a number, or `None` for any other map, even if something is wrong in it.
+fn text_of_number<'de, A: MapAccess<'de>>(mut map: A) -> Option<String> {
+    if map.next_key::<String>().ok()?? != NUMBER_KEY {
+        return None;
+    }
+    let text = map.next_value().ok()?;
+    let next_key = map.next_key::<IgnoredAny>().ok()?;
+    next_key.is_none().then_some(text)
+}
+
 /// Reads a text, or its bytes, as a duration. If `HOW` is `SECONDS` or `MILLIS`, it also reads a
 /// whole number, which may be a float.
 struct Text<T, const HOW: u8>(PhantomData<T>);
 
-impl<T: Length, const HOW: u8> Visitor<'_> for Text<T, HOW> {
+impl<'de, T: Length, const HOW: u8> Visitor<'de> for Text<T, HOW> {
     type Value = T;
 
     fn expecting(&self, f: &mut fmt::Formatter<'_>) -> fmt::Result {
@@ -257,6 +272,19 @@ impl<T: Length, const HOW: u8> Visitor<'_> for Text<T, HOW> {
         match str::from_utf8(bytes) {
             Ok(text) => self.visit_str(text),
             Err(_) => Err(E::invalid_value(Unexpected::Bytes(bytes), &self)),
+        }
+    }
+
+    fn visit_map<A: MapAccess<'de>>(self, map: A) -> Result<T, A::Error> {
+        let text = text_of_number(map).unwrap_or_default();
+        if let Ok(number) = text.parse() {
+            return self.visit_u64(number);
+        }
+        match text.parse::<f64>() {
+            Ok(number) if number.is_finite() => self.visit_f64(number),
+            // Without the feature these are serde_json's words.
+            Ok(_) => Err(de::Error::custom("number out of range")),
+            Err(_) => Err(de::Error::invalid_type(Unexpected::Map, &self)),
         }
     }
 }

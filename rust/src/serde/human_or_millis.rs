@@ -7,8 +7,7 @@
 //! whole too.
 //!
 //! Durations are written as text, with their units. The format must store the types of its values,
-//! which bincode and similar formats don't do. (If the feature `arbitrary_precision` of serde_json
-//! is on, it hands a float over as a map, so `1500.0` is refused.)
+//! which bincode and similar formats don't do.
 //!
 //! This module needs the feature `serde`.
 //!

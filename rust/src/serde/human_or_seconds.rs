@@ -6,8 +6,7 @@
 //! write a text such as `"1500ms"`.
 //!
 //! Durations are written as text. The format must store the types of its values, which bincode and
-//! similar formats don't do. (If the feature `arbitrary_precision` of serde_json is on, it hands a
-//! float over as a map, so `30.0` is refused.)
+//! similar formats don't do.
 //!
 //! This module needs the feature `serde`.
 //!

@@ -1,0 +1,131 @@
+//! Tests durations that are numbers in JSON. `tests/precision` runs the same rows with another
+//! feature of serde_json, under which it passes most of these numbers on as maps.
+use duration_str::{human_or_millis, human_or_seconds, parse_duration};
+use serde::Deserialize;
+use serde_json::{Deserializer, Error, json};
+use std::time::Duration;
+
+const EXPECTED: &str = "a duration such as '1min 30s', or whole seconds of at most 584 years";
+
+#[derive(Deserialize)]
+struct Settings {
+    #[serde(with = "human_or_seconds")]
+    timeout: Duration,
+}
+
+/// With `flatten`, serde keeps the values until the inner struct reads them.
+#[derive(Deserialize)]
+struct Outer {
+    #[serde(flatten)]
+    settings: Settings,
+}
+
+fn of_text(json: &str) -> Result<Duration, Error> {
+    human_or_seconds::deserialize(&mut Deserializer::from_str(json))
+}
+
+/// The same value, read by itself, and as a field of a flattened struct.
+fn both_ways(json: &str) -> [Result<Duration, Error>; 2] {
+    let outer = serde_json::from_str(&format!(r#"{{ "timeout": {json} }}"#));
+    let inner = outer.map(|outer: Outer| outer.settings.timeout);
+    [of_text(json), inner]
+}
+
+#[test]
+fn reads_whole_numbers() {
+    for (json, secs) in [
+        ("30", 30),
+        ("30.0", 30),
+        ("30.00", 30),
+        ("3e1", 30),
+        ("0.3E+2", 30),
+        ("3000e-2", 30),
+        ("-0.0", 0),
+        ("0e9", 0),
+        ("18446744073", 18_446_744_073),
+        ("18446744073.0", 18_446_744_073),
+        (r#""30""#, 30),
+    ] {
+        for read in both_ways(json) {
+            assert_eq!(read.unwrap(), Duration::from_secs(secs), "{json}");
+        }
+    }
+    let json = "[1500.0, 1.5e3, 1500, null]";
+    let several: Vec<Option<Duration>> =
+        human_or_millis::deserialize(&mut Deserializer::from_str(json)).unwrap();
+    let pause = Some(Duration::from_millis(1_500));
+    assert_eq!(several, [pause, pause, pause, None]);
+    // A library can hold the map in a value of its own, which doesn't lend its keys.
+    let held = json!({ "$serde_json::private::Number": "30.0" });
+    let read: Duration = human_or_seconds::deserialize(held).unwrap();
+    assert_eq!(read, Duration::from_secs(30));
+}
+
+#[test]
+fn refuses_other_numbers() {
+    // Some versions of serde write a whole float with a point.
+    for (json, found) in [
+        ("30.5", "floating point `30.5`"),
+        ("-1", "integer `-1`"),
+        ("-1.5", "floating point `-1.5`"),
+        ("18446744074", "integer `18446744074`"),
+        ("18446744074.0", "integer `18446744074`"),
+        ("18446744073709551615", "integer `18446744073709551615`"),
+        (
+            "18446744073709551616",
+            "floating point `18446744073709552000",
+        ),
+        (
+            "-9223372036854775809",
+            "floating point `-9223372036854776000",
+        ),
+        ("1e18", "floating point `1000000000000000000"),
+    ] {
+        for read in both_ways(json) {
+            let line = read.unwrap_err().to_string();
+            assert!(
+                line.starts_with(&format!("invalid value: {found}")),
+                "{json}: {line}"
+            );
+            assert!(
+                line.contains(&format!("`, expected {EXPECTED}")),
+                "{json}: {line}"
+            );
+        }
+    }
+    for (json, start) in [
+        ("1e400", "number out of range".to_string()),
+        (
+            r#""30.0""#,
+            format!("invalid duration: {}", parse_duration("30.0").unwrap_err()),
+        ),
+    ] {
+        for read in both_ways(json) {
+            let line = read.unwrap_err().to_string();
+            assert!(line.starts_with(&start), "{json}: {line}");
+        }
+    }
+}
+
+#[test]
+fn refuses_maps_that_are_no_numbers() {
+    let map = format!("invalid type: map, expected {EXPECTED} at line 1 column ");
+    for json in [
+        "{}",
+        r#"{ "secs": 30 }"#,
+        r#"{ "secs": "30.0" }"#,
+        r#"{ "$serde_json::private::Number": 30 }"#,
+        r#"{ "$serde_json::private::Number": "30s" }"#,
+        r#"{ "$serde_json::private::Number": "" }"#,
+        r#"{ "$serde_json::private::Number": "30.0", "secs": 30 }"#,
+        r#"{ "secs": 30, "$serde_json::private::Number": "30.0" }"#,
+    ] {
+        let line = of_text(json).unwrap_err().to_string();
+        assert!(line.starts_with(&map), "{json}: {line}");
+    }
+    // An integer of 64 bits doesn't come as such a map, but would keep its digits.
+    let json = r#"{ "$serde_json::private::Number": "18446744073709551615" }"#;
+    let line = of_text(json).unwrap_err().to_string();
+    let start = "invalid value: integer `18446744073709551615`, expected ";
+    assert!(line.starts_with(start), "{line}");
+}
