@@ -1,8 +1,8 @@
-/* tests/processors builds this for a processor without Rust's std, and tests/compare compares it.
- * For each line it writes what the program durstr writes, but for a refused line it writes the
- * report of duration_str_report. On the command line it also knows the words `require_unit` and a
- * default unit, such as `default_unit=ms`. The status is 0 if all lines are read, and 1 if some are
- * refused. */
+/* tests/processors builds this for this machine and for other processors, and compares what they
+ * write. For each line it writes what the program durstr writes, but for a refused line it writes
+ * the report of duration_str_report. On the command line it also knows the words `require_unit` and
+ * a default unit, such as `default_unit=ms`. The status is 0 if all lines are read, and 1 if some
+ * are refused. */
 #define _POSIX_C_SOURCE 200809L
 #include <inttypes.h>
 #include <stdio.h>

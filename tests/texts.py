@@ -1,9 +1,11 @@
 #!/usr/bin/env python3
 """The texts and durations with which compare and the fuzzer try the library, generated from a seed.
 
-texts.py FOLDER COUNT [SEED]  writes files for the fuzzer: COUNT texts into FOLDER/texts, each after
-                              its length in two bytes, a file in FOLDER/seeds for each of the first
-                              500 texts, and libFuzzer's FOLDER/dictionary
+texts.py FOLDER COUNT [SEED]  writes COUNT texts into FOLDER/lines, each on a line, or on several if
+                              it has line feeds. It also writes files for the fuzzer: the texts into
+                              FOLDER/texts, each after its length in two bytes, a file in
+                              FOLDER/seeds for each of the first 500 texts, and libFuzzer's
+                              FOLDER/dictionary
 """
 import pathlib
 import random
@@ -167,8 +169,9 @@ class Texts:
         return self.duration(), bits, self.random.randrange(len(UNITS) + 2)
 
 
-def write_for_fuzzer(folder, texts):
+def write_files(folder, texts):
     (folder / "seeds").mkdir(parents=True, exist_ok=True)
+    (folder / "lines").write_bytes(b"".join(text + b"\n" for text in texts))
     (folder / "texts").write_bytes(
         b"".join(len(text).to_bytes(2, "little") + text for text in texts)
     )
@@ -183,7 +186,7 @@ def main(words):
     if len(words) not in (2, 3):
         sys.exit(__doc__)
     texts = Texts(*words[2:] or "0")
-    write_for_fuzzer(pathlib.Path(words[0]), [texts.text() for _ in range(int(words[1]))])
+    write_files(pathlib.Path(words[0]), [texts.text() for _ in range(int(words[1]))])
 
 
 if __name__ == "__main__":
