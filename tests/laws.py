@@ -1,0 +1,64 @@
+"""The laws of the library for fewer rules. A caller in `uses` that needs a law in general must not
+be proved with such a law. While tests/edits judges wrong bodies of `uses`, they can call the laws
+of `crate::by_own_table` and `crate::by_second`. These hold for the rules of the library's own table
+of units, and for those of them whose default unit is the second.
+
+Each clause of a law is weakened that begins with its rules or its default unit. `never_more` stays,
+since it speaks of a default unit only within another record.
+"""
+import re
+
+# For each module: what is assumed of the rules `r`, and of the default unit.
+FEWER = {
+    "by_own_table": ("r ≡ rules_with (r.options) (r.default_unit)", "⊤"),
+    "by_second": ("r ≡ rules_of (r.options)", "default_unit ≡ Some Second"),
+}
+
+
+def weaken(crates):
+    """Adds these modules to `uses` in a copy of the crates."""
+    specs = (crates / "duration_str/specs/Laws.antt").read_text("utf-8")
+    laws = (crates / "duration_str/src/laws.rt").read_text("utf-8")
+    laws = re.findall(r"^pub fn (\w+)\(\)\n(.*?)^\{\}", laws, re.M | re.S)
+    imports, *definitions = specs.replace("{Year}", "{Year, Second}").split("\n\n")
+    for module, (of_rules, of_unit) in FEWER.items():
+        unchanged, weaker = [], {}
+        for definition in definitions:
+            name = re.search(r"^(?:pub record|abbrev pub) (\w+)", definition, re.M)[1]
+            text = definition.replace("(r : Rules)", f"(r : Rules) (fewer : {of_rules})")
+            unit = "(default_unit : Option TimeUnit)"
+            text = text.replace(unit, f"{unit} (fewer : {of_unit})")
+            if text == definition or name == "IsMostWithin":
+                unchanged.append(name)
+            else:
+                weaker[name] = text
+        use = f"use Rattle.duration_str.specs.Laws.{{{', '.join(unchanged)}}}"
+        text = "\n\n".join([f"{imports}\n{use}", *weaker.values()])
+        (crates / f"uses/specs/{module}.antt").write_text(text, "utf-8")
+        code = f"ghost {use};\nghost use Rattle.uses.specs.{module}.{{{', '.join(weaker)}}};\n"
+        for law, contract in laws:
+            code += f"pub fn {law}()\n{contract}{{\n    duration_str::laws::{law}();\n}}\n"
+            proof = crates / f"uses/proofs/{module}/{law}"
+            proof.mkdir(parents=True)
+            (proof / "Answers.antt").write_text(proof_of(module, law, contract, weaker), "utf-8")
+        (crates / f"uses/src/{module}.rt").write_text(code, "utf-8")
+        for file, end in ("specs/Lib.antt", ""), ("src/lib.rt", ";"):
+            with (crates / "uses" / file).open("a", encoding="utf-8") as lib:
+                lib.write(f"pub mod {module}{end}\n")
+
+
+def proof_of(module, law, contract, weaker):
+    """The proof of a weaker law: each of its clauses follows from the same clause of the law."""
+    proof = f"use Rattle.uses.proofs.{module}.{law}.Goals as goal\n"
+    for label, name in re.findall(r"ensures (\w*) ?\{ (\w+) \}", contract):
+        goal = f"returns-clause-{label}" if label else "returns"
+        whole = f"c.{law}.ensures.{label}".rstrip(".")
+        fields = re.findall(r"^  pub (\w+) : \(\w+ : .*?\)( \(fewer)?", weaker.get(name, ""), re.M)
+        clauses = [
+            f"{field} = λ r fewer. {whole}.{field} r" if is_weaker else f"{field} = {whole}.{field}"
+            for field, is_weaker in fields
+        ]
+        answer = f"λ r fewer. {whole} r" if name in weaker else whole
+        answer = f"record {{ {'; '.join(clauses)} }}" if clauses else answer
+        proof += f"\npub {goal} : goal.{goal}\n{goal} c = {answer}\n"
+    return proof
