@@ -110,6 +110,15 @@ path_without() {
     echo "${path%:}"
 }
 
+# later_pythons: the interpreters of CPython 3.12 and later, on the path and in pyenv's folders
+# (since pyenv's shims on the path run only the chosen ones)
+later_pythons() {
+    local python
+    for python in python3.1{2..9} "${PYENV_ROOT:-$HOME/.pyenv}"/versions/3.1[2-9].*/bin/python; do
+        ! "$python" -c 'import ensurepip, venv' 2>/dev/null || echo "$python"
+    done
+}
+
 # calls HEADER: the calls that a header declares. exports LIBRARY: the symbols that a shared library
 # has
 calls() (

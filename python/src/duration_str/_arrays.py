@@ -9,7 +9,7 @@ from functools import partial
 from typing import TYPE_CHECKING, Any, overload
 
 from . import _native
-from ._columns import Errors, keeps_types, raises_errors, typed_values, values_of, zeros
+from ._columns import LENGTHS, Errors, raises_errors, stand_in, type_name, values_of, zeros
 from ._lists import Style, Unit
 from ._texts import UNNAMED, UNSAID, nanos_a_step, nanos_of, type_error_of
 
@@ -32,20 +32,37 @@ def _is_missing(value: Any) -> bool:
     return value is None or (isinstance(value, kinds) and bool(value != value))
 
 
-def _flat(values: Any) -> list[Any]:
-    """A list of the values of a sequence, or of an array of any shape. A masked value is None."""
+def _missing_in(values: Any) -> Any:
+    """Which values of a column are missing, as an array of truth values."""
+    import numpy
+
+    for method in ("isna", "is_null"):  # of pandas and of Arrow
+        if hasattr(values, method):
+            return numpy.asarray(getattr(values, method)())
+    array = numpy.asarray(values)
+    return array != array if array.dtype.kind in "cfM" else numpy.zeros(array.shape, bool)
+
+
+def _flat(values: Any, name: str) -> list[Any]:
+    """A list of the values of a sequence, or of an array of any shape, whose type has this name. A
+    masked value is None."""
     import numpy
 
     pandas = sys.modules.get("pandas")
     if pandas is not None and isinstance(values, pandas.DataFrame):
         raise TypeError("a DataFrame is no column: take its columns one by one")
-    if not hasattr(values, "__array__"):
-        return values_of(values)
-    flat: Any = numpy.asarray(values, dtype=object)
-    if keeps_types(values):
-        flat = numpy.empty(flat.shape, dtype=object)
-        flat.flat = typed_values(values)
-    if isinstance(values, numpy.ma.MaskedArray):
+    has_dtype = hasattr(values, "dtype")
+    if not has_dtype and not hasattr(values, "to_pylist"):
+        return values_of(values, name)
+    if (refused := stand_in(name)) is not None:
+        missing = _missing_in(values)
+        flat: Any = numpy.full(missing.shape, refused, dtype=object)
+        flat[missing] = None
+    elif not has_dtype:  # Of Arrow's integers with gaps NumPy would make floats.
+        return list(values.to_pylist())
+    else:
+        flat = numpy.asarray(values, dtype=object)
+    if isinstance(values, numpy.ma.MaskedArray) and values.dtype.names is None:
         flat = flat.copy()
         flat[values.mask] = None
     texts: list[Any] = flat.ravel().tolist()
@@ -53,13 +70,9 @@ def _flat(values: Any) -> list[Any]:
 
 
 def _lengths(values: Any) -> Any:
-    """The values as an array of timedelta64, or None if they are not of that type. A masked value
-    is NaT.
-    """
+    """The values of a column of timedeltas as an array of timedelta64. A masked value is NaT."""
     import numpy
 
-    if getattr(getattr(values, "dtype", None), "kind", None) != "m":
-        return None
     is_masked = isinstance(values, numpy.ma.MaskedArray)
     return values.filled(numpy.timedelta64("NaT")) if is_masked else numpy.asarray(values)
 
@@ -203,11 +216,12 @@ def to_timedelta(
         return None
     import numpy
 
-    if (lengths := _lengths(values)) is not None and not isinstance(values, numpy.timedelta64):
-        return _nanos_of_lengths(values, lengths, raises)
     is_one = isinstance(values, (str, datetime.timedelta, numpy.timedelta64))
     is_one = is_one or not hasattr(values, "__iter__")
-    texts = [values] if is_one else _flat(values)
+    name = "object" if is_one else type_name(values)
+    if LENGTHS.fullmatch(name):
+        return _nanos_of_lengths(values, _lengths(values), raises)
+    texts = [values] if is_one else _flat(values, name)
     nanos = zeros(len(texts))
     other = partial(_nanos_of_value, raises=raises, takes_numbers=reading[1])
     _native.read_list(texts, nanos, reading, raises, -1 if is_one else 0, other)
@@ -267,9 +281,9 @@ def _durations(values: Any) -> list[Any]:
     """Returns the values of an array in a list. A timedelta64 becomes an int of nanoseconds, or
     None if it is missing.
     """
+    if not LENGTHS.fullmatch(name := type_name(values)):
+        return _flat(values, name)
     lengths = _lengths(values)
-    if lengths is None:
-        return _flat(values)
     step = nanos_a_step(lengths.dtype)
     numbers: list[int] = lengths.astype("int64").ravel().tolist()
     if step == 1 and _NAT not in numbers:

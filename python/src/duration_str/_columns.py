@@ -2,8 +2,11 @@
 
 from __future__ import annotations
 
+import re
+import sys
 from array import array
 from collections.abc import Iterable
+from functools import lru_cache
 from typing import Any, Literal, SupportsIndex, overload
 
 from . import _native
@@ -14,34 +17,60 @@ from ._texts import UNNAMED, UNSAID
 Errors = Literal["raise", "coerce"]
 
 
-def keeps_types(values: Any) -> bool:
-    """Whether the values of a column must keep NumPy's types. Converted to Python's types, dates
-    and lengths of time can become ints, and floats of 32 bits become floats of 64 bits. Both would
-    be read as numbers.
-    """
+#: The types whose values are read, as NumPy, pandas, Arrow and the formats of buffers name them:
+#: integers, floats of 64 bits and texts. In `object`, each value has a type of its own.
+_READ = re.compile(
+    "object|double|large_string|string_view|format '[@=<>!]?[bBhHiIlLqQnNduwOZ]'"
+    "|(?i:u?int(8|16|32|64)|float64|str(ing(dtype)?)?[0-9]*)"
+)
+#: The types of timedeltas
+LENGTHS = re.compile(r"(timedelta64|duration)(\[.*\])?")
+
+
+def _type_of_values(dtype: Any) -> Any:
+    """The type that the values have in a column of this type."""
+    if hasattr(dtype, "categories"):
+        return _type_of_values(dtype.categories.dtype)
+    if hasattr(dtype, "fill_value"):  # a sparse column
+        return dtype.subtype
+    dtype = getattr(dtype, "pyarrow_dtype", dtype)
+    # A dictionary is a category of Arrow.
+    return dtype.value_type if hasattr(dtype, "index_type") else dtype
+
+
+@lru_cache(maxsize=100)
+def _name_of(dtype: Any) -> str:
+    """The name of a type. NumPy takes some microseconds to make it."""
+    return str(getattr(dtype, "name", dtype))
+
+
+def type_name(values: Any) -> str:
+    """The name of the type that a column says that its values have. It is `object` for a sequence
+    that says nothing, such as a list."""
+    if type(values) is list:
+        return "object"
     dtype = getattr(values, "dtype", None)
-    # A column of categories has the values of these categories.
-    dtype = getattr(getattr(dtype, "categories", None), "dtype", dtype)
-    kind = getattr(dtype, "kind", "O")
-    return kind in "mM" or kind == "f" and getattr(dtype, "itemsize", 0) != 8
+    arrow: Any = sys.modules.get("pyarrow")
+    if arrow is not None and isinstance(values, (arrow.Array, arrow.ChunkedArray)):
+        dtype = values.type
+    if dtype is not None:
+        return _name_of(_type_of_values(dtype))
+    try:
+        with memoryview(values) as buffer:
+            return f"format {buffer.format!r}"
+    except TypeError:
+        return "object"
 
 
-def typed_values(values: Any) -> list[Any]:
-    """The values of a column, each with its type of NumPy."""
-    import numpy
-
-    if hasattr(values.dtype, "categories"):
-        values = values.astype(values.dtype.categories.dtype)
-    # By itself, NumPy makes floats of 64 bits of a sparse column with gaps.
-    array = numpy.asarray(values, getattr(values.dtype, "subtype", None))
-    # Iterating a column of pandas makes its floats of 32 bits floats of Python. Only in a nullable
-    # column they keep their type, and there it is the array that has floats of Python.
-    return list(values if array.dtype == object else array.flat)
+def stand_in(name: str) -> Any | None:
+    """None if values of the type of this name are read. Otherwise an object that takes the place of
+    each value. Errors say the name of its type, which is this name."""
+    return None if _READ.fullmatch(name) else type(name, (), {})()
 
 
-def values_of(texts: Any) -> list[Any]:
-    """The values of a sequence, in a list of their own. Raises TypeError for a single text and for
-    a table.
+def values_of(texts: Any, name: str) -> list[Any]:
+    """The values of a sequence, whose type has this name, in a list of their own. Raises TypeError
+    for a single text and for a table.
     """
     if isinstance(texts, (str, bytes, bytearray)):
         raise TypeError(f"the texts must be a sequence of str, not one {type(texts).__name__}")
@@ -49,9 +78,12 @@ def values_of(texts: Any) -> list[Any]:
         raise TypeError(
             f"the texts must be one column, not {texts.ndim} dimensions of {type(texts).__name__}"
         )
-    if keeps_types(texts):
-        return typed_values(texts)
-    return list(texts.tolist() if hasattr(texts, "tolist") else texts)
+    if (refused := stand_in(name)) is not None:
+        return [refused] * len(texts)
+    for listing in ("tolist", "to_pylist"):  # of NumPy and pandas, and of Arrow
+        if hasattr(texts, listing):
+            return list(getattr(texts, listing)())
+    return list(texts)
 
 
 def zeros(count: int) -> array[int]:
@@ -145,7 +177,7 @@ def parse_many(
         require_unit=require_unit,
         default_unit=default_unit,
     )
-    given = values_of(texts)
+    given = values_of(texts, type_name(texts))
     nanos = zeros(len(given))
     refused = _native.read_list(given, nanos, reading, raises, 0, None)
     return nanos if raises else (nanos, array("Q", refused))

@@ -1,0 +1,267 @@
+"""Tests a column of each type that Python, NumPy, pandas and Arrow list against one table. A column
+of a type that is not in the table must be refused by the type's name.
+"""
+
+import array
+import ctypes
+import re
+import unittest
+
+from duration_str import format_many, parse_many, to_timedelta
+
+try:
+    import numpy
+    import pandas
+except ImportError:
+    numpy = pandas = None
+try:
+    import pyarrow
+except ImportError:
+    pyarrow = None
+
+# The types whose values are read. In `object` each value is judged by itself.
+READ = {"object", "float64", "Float64", "double", "str", "str32", "string", "StringDType128"}
+READ |= {"large_string", "string_view"}
+READ |= {f"{kind}{bits}" for kind in ("int", "uint", "Int", "UInt") for bits in (8, 16, 32, 64)}
+READ |= {f"format '{order}{code}'" for order in ("", "<", ">") for code in "bBhHiIlLqQnNduwOZ"}
+# The types of timedeltas, which only to_timedelta reads, with the nanoseconds of a 1
+UNITS = {"W": 604_800 * 10**9, "D": 86_400 * 10**9, "h": 3_600 * 10**9, "m": 60 * 10**9}
+UNITS |= {"s": 10**9, "ms": 10**6, "us": 10**3, "ns": 1}
+LENGTHS = {f"timedelta64[{unit}]": nanos for unit, nanos in UNITS.items()}
+LENGTHS |= {f"duration[{unit}]": nanos for unit, nanos in UNITS.items()}
+# The units of timedelta64 that have no length in nanoseconds
+OTHER_UNITS = ("Y", "M", "ps", "fs", "as")
+UNREADABLE = {"timedelta64", *(f"timedelta64[{unit}]" for unit in OTHER_UNITS)}
+# What is raised if a column can't be made
+IMPOSSIBLE = (AttributeError, ImportError, KeyError, NotImplementedError, TypeError, ValueError)
+IMPOSSIBLE += (Warning,)
+
+
+def first(make, *choices):
+    """What is made of the first of the choices of which something can be made, or None."""
+    for choice in choices:
+        try:
+            return make(choice)
+        except IMPOSSIBLE:
+            pass
+    return None
+
+
+def of_python():
+    """A column of each type that an array, a view of memory and an array of C can have."""
+    columns = [first(lambda one: array.array(code, one), [1], "1") for code in array.typecodes]
+    columns += map(memoryview, filter(None, columns[:]))
+    columns += [first(lambda code: memoryview(bytes(8)).cast(chr(code))[:1], n) for n in range(128)]
+    for kind in ctypes._SimpleCData.__subclasses__():
+        for ordered in {kind, getattr(kind, "__ctype_be__", kind)}:
+            columns.append(first(lambda value: (ordered * 1)(value), "1", b"1", 1))
+    return [column for column in columns if column is not None]
+
+
+def of_numpy():
+    """An array of each of NumPy's types."""
+    types = [*map(numpy.dtype, [*numpy.typecodes["All"], *numpy.sctypeDict.values(), "i4,f4"])]
+    for unit in (*UNITS, *OTHER_UNITS):
+        types += [numpy.dtype(f"{kind}8[{unit}]") for kind in "mM"]
+    types += [dtype.newbyteorder() for dtype in types]
+    # NumPy has this list since version 1.25.
+    for kind in vars(getattr(numpy, "dtypes", array)).values():
+        types += filter(None, [first(lambda kind: numpy.dtype(kind()), kind)])
+    types = {(dtype.char, dtype.str): dtype for dtype in types}.values()
+    return [numpy.zeros(1, kind) if kind.kind in "MV" else numpy.ones(1, kind) for kind in types]
+
+
+def of_pandas():
+    """An array of each type of pandas that depends on no other type."""
+    words = {name: [] for name in ("ArrowDtype", "CategoricalDtype", "SparseDtype")}
+    words |= {"DatetimeTZDtype": [("ns", "UTC")], "IntervalDtype": [("float64", "right")]}
+    words |= {"PeriodDtype": ["D"]}
+    words["StringDtype"] = [["python"], ["pyarrow"], ["python", numpy.nan], ["pyarrow", numpy.nan]]
+    values = [1, "1", True, pandas.Timestamp(0, tz="UTC"), pandas.Period("2026", "D")]
+    values += [pandas.Interval(0, 1)]
+    for kind in pandas.core.dtypes.base._registry.dtypes:
+        for given in words.get(kind.__name__, [()]):
+            # Not each version of pandas has each StringDtype.
+            dtype = first(lambda given: kind(*given), given)
+            if dtype is not None or kind is not pandas.StringDtype:
+                yield first(lambda value: pandas.array([value], dtype=dtype), *values)
+
+
+def of_arrow():
+    """An array of each type for which Arrow has a number."""
+    int8, float32, field = pyarrow.int8(), pyarrow.float32(), pyarrow.field("a", pyarrow.int8())
+    # pyarrow makes no arrays with a value of these types.
+    types = {f"INTERVAL_{name}": [] for name in ("MONTHS", "DAY_TIME")}
+    types |= {name: [] for name in ("NA", "SPARSE_UNION", "DENSE_UNION")}
+
+    types |= {"HALF_FLOAT": [pyarrow.float16()], "FIXED_SIZE_BINARY": [pyarrow.binary(1)]}
+    types |= {"TIME32": [pyarrow.time32("s")], "TIME64": [pyarrow.time64("ns")]}
+    types |= {"LIST": [pyarrow.list_(int8)], "FIXED_SIZE_LIST": [pyarrow.list_(int8, 1)]}
+    types |= {"MAP": [pyarrow.map_(int8, int8)]}
+    types["DICTIONARY"] = [pyarrow.dictionary(int8, kind) for kind in (pyarrow.string(), float32)]
+    types["RUN_END_ENCODED"] = [pyarrow.run_end_encoded(pyarrow.int32(), float32)]
+    types["INTERVAL_MONTH_DAY_NANO"] = [pyarrow.month_day_nano_interval()]
+    for name, make in [("TIMESTAMP", pyarrow.timestamp), ("DURATION", pyarrow.duration)]:
+        types[name] = [make(unit) for unit in ("s", "ms", "us", "ns")]
+    values = [1, "1", b"1", True, [1], [(1, 1)], (1, 1, 1), {"a": 1}]
+    made = [pyarrow.type_for_alias, lambda alias: getattr(pyarrow, alias)(1)]
+    made += [lambda alias, kind=kind: getattr(pyarrow, alias)(kind) for kind in (int8, [field])]
+    for number in vars(pyarrow.lib):
+        name = number.removeprefix("Type_")
+        if name != number:
+            others = [] if name in types else [first(lambda make: make(name.lower()), *made)]
+            for dtype in types.get(name, others):
+                yield first(lambda value: pyarrow.array([value], type=dtype), *values)
+
+
+def of_memory(values):
+    """The name of the format of an array's memory, and the nanoseconds of its first value in
+    milliseconds. They are None if Python can't read that format."""
+    nanos = first(lambda values: 10**6 * int(values[0]), values)
+    return f"format {memoryview(values).format!r}", nanos
+
+
+def in_pandas(values):
+    """The columns of pandas that can be made of an array, each with the name of its type."""
+    for make in (pandas.Series, pandas.Index, pandas.Categorical, pandas.arrays.SparseArray):
+        column = first(make, values)
+        if column is None:
+            continue
+        dtype = column.dtype
+        if make is pandas.Categorical:
+            dtype = dtype.categories.dtype
+        elif make is pandas.arrays.SparseArray:
+            dtype = dtype.subtype
+        # pandas makes objects of what it has no type for.
+        if dtype != object:
+            yield dtype.name, column
+
+
+class Column(list):
+    """A column of a library that is not installed, with a type that has a name."""
+
+    def __init__(self, name):
+        super().__init__([1])
+        self.dtype = name
+
+
+class Kinds(unittest.TestCase):
+    def check(self, name, column, nanos=10**6, calls=(parse_many, to_timedelta)):
+        """Checks that a column of one value, whose type has this name, is read as these
+        nanoseconds, or refused."""
+        for call in calls if numpy else calls[:1]:
+            with self.subTest(call=call.__name__, name=name, type=type(column)):
+                if name in READ or (call is to_timedelta and name in LENGTHS):
+                    self.check_read(call, column, nanos)
+                else:
+                    self.check_refused(call, column, name)
+
+    def check_read(self, call, column, nanos):
+        if nanos is None:
+            self.assertRaises(NotImplementedError, call, column, default_unit="ms")
+            return
+        answer = call(column, default_unit="ms")
+        if call is to_timedelta:
+            answer = numpy.asarray(answer).view("int64")
+        self.assertEqual(list(answer), [nanos])
+
+    def check_refused(self, call, column, name):
+        for words in [{}, {"default_unit": "ms"}]:
+            line = f"^at index 0: a duration.* must be a str.* not {re.escape(name)}$"
+            with self.assertRaisesRegex(TypeError, line):
+                call(column, **words)
+        answer = call(column, default_unit="ms", errors="coerce")
+        if call is parse_many:
+            self.assertEqual(answer, (array.array("Q", [0]), array.array("Q", [0])))
+            return
+        self.assertEqual(numpy.isnat(numpy.asarray(answer)).tolist(), [True])
+        if hasattr(column, "__array__"):
+            with self.assertRaisesRegex(TypeError, f"^at index 0: .* not {re.escape(name)}$"):
+                format_many(column)
+
+    def check_missing(self, values):
+        """Checks that a column of one missing value is read, whatever its type is."""
+        with self.subTest(type=type(values), dtype=getattr(values, "dtype", None)):
+            answer = numpy.asarray(to_timedelta(values, default_unit="ms"))
+            self.assertEqual(numpy.isnat(answer).tolist(), [True])
+
+    def test_judges_types_by_their_whole_names(self):
+        for name in [
+            "double",
+            "Int64",
+            "float",
+            "halffloat",
+            "struct<a: int8>",
+            "list<item: double>",
+        ]:
+            self.check(name, Column(name))
+        for name in ["bfloat16", "int128", "uint4", "Float", "torch.float32", "decimal64", "sting"]:
+            self.check(name, Column(name))
+
+    def test_judges_arrays_of_python(self):
+        for column in of_python():
+            # An array of C can't be iterated, so to_timedelta takes it for one value.
+            is_of_c = isinstance(column, ctypes.Array)
+            calls = (parse_many,) if is_of_c else (parse_many, to_timedelta)
+            name, nanos = of_memory(column)
+            self.check(name, column, nanos, calls)
+
+    @unittest.skipUnless(numpy, "NumPy or pandas is missing")
+    def test_judges_arrays_of_numpy(self):
+        for values in of_numpy():
+            name = values.dtype.name
+            if name in UNREADABLE:
+                line = f"not of {re.escape(name)}"
+                self.assertRaisesRegex(TypeError, line, to_timedelta, values)
+                continue
+            nanos = LENGTHS.get(name, 10**6)
+            self.check(name, values, nanos)
+            self.check(name, numpy.ma.array(values), nanos)
+            # pandas takes records and the other order of bytes, but makes mistakes with them.
+            if values.dtype.isnative and values.dtype.kind != "V":
+                for name, column in in_pandas(values):
+                    self.check(name, column, nanos)
+            view = first(memoryview, values)
+            if view is not None:
+                name, nanos = of_memory(view)
+                self.check(name, view, nanos)
+
+    @unittest.skipUnless(numpy, "NumPy or pandas is missing")
+    def test_judges_arrays_of_pandas(self):
+        for values in of_pandas():
+            self.assertIsNotNone(values)
+            self.check(values.dtype.name, values)
+            for name, column in in_pandas(values):
+                self.check(name, column)
+
+    @unittest.skipUnless(numpy and pyarrow, "NumPy, pandas or pyarrow is missing")
+    def test_judges_arrays_of_arrow(self):
+        for values in of_arrow():
+            self.assertIsNotNone(values)
+            is_category = isinstance(values.type, pyarrow.DictionaryType)
+            name = str(values.type.value_type if is_category else values.type)
+            series = pandas.Series(values, dtype=pandas.ArrowDtype(values.type))
+            for column in (values, pyarrow.chunked_array(values), series):
+                self.check(name, column, LENGTHS.get(name, 10**6))
+            # Arrow doesn't know missing values in such an array.
+            if not pyarrow.types.is_run_end_encoded(values.type):
+                self.check_missing(pyarrow.nulls(1, values.type))
+        self.check_missing(pyarrow.nulls(1))
+
+    @unittest.skipUnless(numpy, "NumPy or pandas is missing")
+    def test_keeps_missing_values_of_each_type(self):
+        for values in of_pandas():
+            missing = pandas.array([None], dtype=values.dtype)
+            for column in (missing, pandas.Series(missing), pandas.Categorical(missing)):
+                self.check_missing(column)
+        for values in of_numpy():
+            dtype = values.dtype
+            if dtype.names or dtype.name in UNREADABLE:
+                continue
+            self.check_missing(numpy.ma.array(values, mask=True))
+            if dtype.kind == "f" or dtype.name.startswith("datetime64["):
+                missing = numpy.full(1, "nan" if dtype.kind == "f" else "NaT", dtype)
+                self.check_missing(missing)
+                series = first(pandas.Series, missing) if dtype.isnative else None
+                if series is not None:
+                    self.check_missing(series)
