@@ -7,7 +7,7 @@ use Rattle.duration_str.proofs.printing.put_within.Goals as goal
 pub returns-then-eq-clause-text : goal.returns-then-eq-clause-text
 returns-then-eq-clause-text c =
     let whole : c.args.format ≡ whole_format = search rules in
-    rw (whole, chosen_whole) (rw (all_counts unit_lengths 11 (as_nanos c.args.d) (omega arith)) c.put_below_day.ensures.text)
+    rw (whole, chosen_whole) (rw (all_counts unit_lengths 11 (as_nanos c.args.d) (omega arith)) c.put_whole.ensures.text)
 
 pub put_parts-requires-clause-room : goal.put_parts-requires-clause-room
 put_parts-requires-clause-room c =
