@@ -300,11 +300,11 @@ fn put_first(buffer: &mut [u8], count: u128, row: &Printed, style: Style) -> usi
     put_name_in(buffer, end, row, count == 1, style)
 }
 
-/// Writes a duration of 2^64 nanoseconds or more in the units of a set. The first part leaves less
-/// than 2^64 nanoseconds.
+/// Writes a duration of 2^60 nanoseconds or more in the units of a set. The first part leaves less
+/// than that.
 #[inline(never)]
-fn put_long(buffer: &mut [u8], set: Units, most: usize, nanos: u128, style: Style) -> usize {
-    let mut parts = Breakdown::of(nanos, set, most);
+fn put_long(buffer: &mut [u8], set: Units, most: usize, d: Duration, style: Style) -> usize {
+    let mut parts = Breakdown::of(d.as_nanos(), set, most);
     let Some((row, count)) = parts.next_part() else {
         return 0;
     };
@@ -321,11 +321,12 @@ fn put_within(buffer: &mut [u8], format: Format, d: Duration) -> usize {
     if d.as_secs() < 1_000 * 365 * 24 * 3_600 && format == Format::whole() {
         return put_whole(buffer, d);
     }
-    let nanos = d.as_nanos();
-    match u64::try_from(nanos) {
-        Ok(small) => put_parts(buffer, 0, format.units, format.parts, small, format.style),
-        Err(_) => put_long(buffer, format.units, format.parts, nanos, format.style),
+    // Less than 2^34 seconds are less than 2^64 nanoseconds.
+    if d.as_secs() < 1 << 34 {
+        let nanos = d.as_secs() * 1_000_000_000 + u64::from(d.subsec_nanos());
+        return put_parts(buffer, 0, format.units, format.parts, nanos, format.style);
     }
+    put_long(buffer, format.units, format.parts, d, format.style)
 }
 
 #[inline(always)]
