@@ -21,7 +21,7 @@ SIZES = {
     "prints by `format_duration`": (
         'println!("{}", duration_str::format_duration(length));',
         NANOS,
-        3_900,
+        4_300,
     ),
     "does both": (READ_AND_PRINT, ARGUMENT, 21_200),
     "reads by `parse_with`, `parse` and `parse_duration`": (

@@ -7,13 +7,13 @@
 //!
 //! Each function that writes keeps the first `at` bytes of the buffer, writes its part after them,
 //! and returns where that part ends.
-ghost use Rattle.std.specs.Prelude.{ℕ, List, ◌≡◌, ◌+◌, ◌-◌, ◌<◌, ◌≤◌, ◌++◌, ◌^◌, ◌∷◌, [], take, length, decimal, encode_utf8_all, chars, IsUtf8};
+ghost use Rattle.std.specs.Prelude.{ℕ, All, List, ◌≡◌, ◌+◌, ◌-◌, ◌*◌, ◌/◌, ◌%◌, ◌<◌, ◌≤◌, ◌++◌, ◌^◌, ◌∷◌, [], take, drop, length, decimal, encode_utf8_all, chars, IsUtf8};
 ghost use Rattle.std.specs.Duration.{as_nanos};
 ghost use Rattle.duration_str.specs.declared.format.Style.{Style};
 ghost use Rattle.duration_str.specs.declared.format.Units.{Units};
 ghost use Rattle.duration_str.specs.declared.format.Style.TheVariants.{Long, Short};
 ghost use Rattle.duration_str.specs.declared.unit.TimeUnit.{TimeUnit};
-ghost use Rattle.duration_str.specs.declared.unit.TimeUnit.TheVariants.{Day};
+ghost use Rattle.duration_str.specs.declared.unit.TimeUnit.TheVariants.{Year};
 ghost use Rattle.duration_str.specs.declared.printing.TheConstants.{MAX_PRINTED_LEN};
 ghost use Rattle.duration_str.specs.Units.{nanos_of, row_of, unit_lengths, units};
 ghost use Rattle.duration_str.specs.Printing.{IsPrinted};
@@ -338,31 +338,85 @@ fn put_parts(
 #[inline(always)]
 fn put_spaced(buffer: &mut [u8], at: usize, count: u32, unit: TimeUnit) -> usize
     requires short { count < 1000 }
-    requires room { at + 8 ≤ length buffer.old }
+    requires room { at + 7 ≤ length buffer.old }
     requires spaced { take at buffer.old ≡ with_gap Short (take (at - 1) buffer.old) }
     ensures text { take (result - 1) buffer.new
         ≡ with_part Short (take (at - 1) buffer.old) unit count }
     ensures spaced { take result buffer.new ≡ with_gap Short (take (result - 1) buffer.new) }
-    ensures end { result ≤ at + 8 }
+    ensures end { result ≤ at + 7 }
 {
-    let part = &mut buffer[at..at + 8];
+    let part = &mut buffer[at..at + 7];
     let end = put_hundreds(part, 0, u64::from(count));
     let next = put_name(part, end, unit.printed());
     if count == 0 { at } else { at + next + 1 }
 }
 
-/// Writes all parts of a duration below a day. Each count is computed from the seconds or from the
-/// nanoseconds, so that none has to wait for the count before it.
+/// Writes the parts with these counts, and a space after each. The first count is that of the unit
+/// `UNITS[first]`.
+#[inline(always)]
+fn put_counts(buffer: &mut [u8], at: usize, first: usize, counts: &[u32]) -> usize
+    requires short { All (λ n. n < 1000) counts.now }
+    requires known { first + length counts.now ≤ length units }
+    requires room { at + 7 * length counts.now ≤ length buffer.old }
+    requires spaced { take at buffer.old ≡ with_gap Short (take (at - 1) buffer.old) }
+    ensures text { take (result - 1) buffer.new
+        ≡ with_counts Short (take (at - 1) buffer.old) (drop first units) counts.now }
+    ensures spaced { take result buffer.new ≡ with_gap Short (take (result - 1) buffer.new) }
+    ensures end { result ≤ at + 7 * length counts.now }
+{
+    let mut end = at;
+    for (i, count) in counts.iter().enumerate() {
+        end = put_spaced(buffer, end, *count, UNITS[first + i]);
+    }
+    end
+}
+
+/// Writes the parts of the days in these seconds, and a space after each. Returns where they end,
+/// and the seconds that are left.
+#[inline(always)]
+fn put_days(buffer: &mut [u8], secs: u64) -> (usize, u32)
+    requires short { secs < 1000 * 365 * 86400 }
+    requires room { 35 ≤ length buffer.old }
+    ensures text { take (result.0 - 1) buffer.new
+        ≡ with_counts Short [] units (counts_of (365 ∷ 91 ∷ 30 ∷ 7 ∷ 1 ∷ []) (secs / 86400)) }
+    ensures spaced { take result.0 buffer.new ≡ with_gap Short (take (result.0 - 1) buffer.new) }
+    ensures end { result.0 ≤ 19 }
+    ensures rest { result.1 ≡ secs % 86400 }
+{
+    if secs < 24 * 3_600 {
+        return (0, secs as u32);
+    }
+    let days = (secs / (24 * 3_600)) as u32;
+    let after_years = days % 365;
+    let after_quarters = after_years % 91;
+    let after_months = after_quarters % 30;
+    let counts = [
+        days / 365,
+        after_years / 91,
+        after_quarters / 30,
+        after_months / 7,
+        after_months % 7,
+    ];
+    let end = put_counts(buffer, 0, 0, &counts);
+    (end, (secs % (24 * 3_600)) as u32)
+}
+
+/// Writes all parts of a duration below 1,000 years. From the hour on, each count is computed from
+/// the seconds after the days or from the nanoseconds after the seconds, so that none has to wait
+/// for the count before it.
 #[inline(never)]
-fn put_below_day(buffer: &mut [u8], d: Duration) -> usize
-    requires short { as_nanos d < nanos_of Day }
-    requires room { 48 ≤ length buffer.old }
+fn put_whole(buffer: &mut [u8], d: Duration) -> usize
+    requires short { as_nanos d < 1000 * nanos_of Year }
+    requires room { 64 ≤ length buffer.old }
     ensures text { take result buffer.new
         ≡ with_counts Short [] units (counts_of unit_lengths (as_nanos d)) }
     ensures end { result ≤ length buffer.old }
 {
-    let secs = d.as_secs() as u32;
     let nanos = d.subsec_nanos();
+    let (at, secs) = put_days(buffer, d.as_secs());
+    if at > 0 && secs == 0 && nanos == 0 {
+        return at.saturating_sub(1);
+    }
     let counts = [
         secs / 3_600,
         secs / 60 % 60,
@@ -371,10 +425,7 @@ fn put_below_day(buffer: &mut [u8], d: Duration) -> usize
         nanos / 1_000 % 1_000,
         nanos % 1_000,
     ];
-    let mut end = 0;
-    for (i, count) in counts.iter().enumerate() {
-        end = put_spaced(buffer, end, *count, UNITS[TimeUnit::Hour.rank() + i]);
-    }
+    let end = put_counts(buffer, at, TimeUnit::Hour.rank(), &counts);
     end.saturating_sub(1)
 }
 
@@ -391,17 +442,18 @@ fn put_first(buffer: &mut [u8], count: u128, row: &Printed, style: Style) -> usi
     put_name_in(buffer, end, row, count == 1, style)
 }
 
-/// Writes a duration of 2^64 nanoseconds or more in the units of a set. The first part leaves less
-/// than 2^64 nanoseconds.
+/// Writes a duration of 2^60 nanoseconds or more in the units of a set. The first part leaves less
+/// than that.
 #[inline(never)]
-fn put_long(buffer: &mut [u8], set: Units, most: usize, nanos: u128, style: Style) -> usize
-    requires long { 2 ^ 64 ≤ nanos }
-    requires room { length (with_parts style [] (chosen set units) most nanos) + 4
+fn put_long(buffer: &mut [u8], set: Units, most: usize, d: Duration, style: Style) -> usize
+    requires long { 2 ^ 60 ≤ as_nanos d }
+    requires room { length (with_parts style [] (chosen set units) most (as_nanos d)) + 4
         ≤ length buffer.old }
-    ensures text { take result buffer.new ≡ with_parts style [] (chosen set units) most nanos }
+    ensures text { take result buffer.new
+        ≡ with_parts style [] (chosen set units) most (as_nanos d) }
     ensures end { result ≤ length buffer.old }
 {
-    let mut parts = Breakdown::of(nanos, set, most);
+    let mut parts = Breakdown::of(d.as_nanos(), set, most);
     let Some((row, count)) = parts.next_part() else {
         return 0;
     };
@@ -421,14 +473,15 @@ fn put_within(buffer: &mut [u8], format: Format, d: Duration) -> usize
     if d.is_zero() {
         return 0;
     }
-    if d.as_secs() < 24 * 3_600 && format == Format::whole() {
-        return put_below_day(buffer, d);
+    if d.as_secs() < 1_000 * 365 * 24 * 3_600 && format == Format::whole() {
+        return put_whole(buffer, d);
     }
-    let nanos = d.as_nanos();
-    match u64::try_from(nanos) {
-        Ok(small) => put_parts(buffer, 0, format.units, format.parts, small, format.style),
-        Err(_) => put_long(buffer, format.units, format.parts, nanos, format.style),
+    // Less than 2^34 seconds are less than 2^64 nanoseconds.
+    if d.as_secs() < 1 << 34 {
+        let nanos = d.as_secs() * 1_000_000_000 + u64::from(d.subsec_nanos());
+        return put_parts(buffer, 0, format.units, format.parts, nanos, format.style);
     }
+    put_long(buffer, format.units, format.parts, d, format.style)
 }
 
 #[inline(always)]

@@ -232,18 +232,55 @@ fn put_parts(
 /// branch that skips it.
 #[inline(always)]
 fn put_spaced(buffer: &mut [u8], at: usize, count: u32, unit: TimeUnit) -> usize {
-    let part = &mut buffer[at..at + 8];
+    let part = &mut buffer[at..at + 7];
     let end = put_hundreds(part, 0, u64::from(count));
     let next = put_name(part, end, unit.printed());
     if count == 0 { at } else { at + next + 1 }
 }
 
-/// Writes all parts of a duration below a day. Each count is computed from the seconds or from the
-/// nanoseconds, so that none has to wait for the count before it.
+/// Writes the parts with these counts, and a space after each. The first count is that of the unit
+/// `UNITS[first]`.
+#[inline(always)]
+fn put_counts(buffer: &mut [u8], at: usize, first: usize, counts: &[u32]) -> usize {
+    let mut end = at;
+    for (i, count) in counts.iter().enumerate() {
+        end = put_spaced(buffer, end, *count, UNITS[first + i]);
+    }
+    end
+}
+
+/// Writes the parts of the days in these seconds, and a space after each. Returns where they end,
+/// and the seconds that are left.
+#[inline(always)]
+fn put_days(buffer: &mut [u8], secs: u64) -> (usize, u32) {
+    if secs < 24 * 3_600 {
+        return (0, secs as u32);
+    }
+    let days = (secs / (24 * 3_600)) as u32;
+    let after_years = days % 365;
+    let after_quarters = after_years % 91;
+    let after_months = after_quarters % 30;
+    let counts = [
+        days / 365,
+        after_years / 91,
+        after_quarters / 30,
+        after_months / 7,
+        after_months % 7,
+    ];
+    let end = put_counts(buffer, 0, 0, &counts);
+    (end, (secs % (24 * 3_600)) as u32)
+}
+
+/// Writes all parts of a duration below 1,000 years. From the hour on, each count is computed from
+/// the seconds after the days or from the nanoseconds after the seconds, so that none has to wait
+/// for the count before it.
 #[inline(never)]
-fn put_below_day(buffer: &mut [u8], d: Duration) -> usize {
-    let secs = d.as_secs() as u32;
+fn put_whole(buffer: &mut [u8], d: Duration) -> usize {
     let nanos = d.subsec_nanos();
+    let (at, secs) = put_days(buffer, d.as_secs());
+    if at > 0 && secs == 0 && nanos == 0 {
+        return at.saturating_sub(1);
+    }
     let counts = [
         secs / 3_600,
         secs / 60 % 60,
@@ -252,10 +289,7 @@ fn put_below_day(buffer: &mut [u8], d: Duration) -> usize {
         nanos / 1_000 % 1_000,
         nanos % 1_000,
     ];
-    let mut end = 0;
-    for (i, count) in counts.iter().enumerate() {
-        end = put_spaced(buffer, end, *count, UNITS[TimeUnit::Hour.rank() + i]);
-    }
+    let end = put_counts(buffer, at, TimeUnit::Hour.rank(), &counts);
     end.saturating_sub(1)
 }
 
@@ -266,11 +300,11 @@ fn put_first(buffer: &mut [u8], count: u128, row: &Printed, style: Style) -> usi
     put_name_in(buffer, end, row, count == 1, style)
 }
 
-/// Writes a duration of 2^64 nanoseconds or more in the units of a set. The first part leaves less
-/// than 2^64 nanoseconds.
+/// Writes a duration of 2^60 nanoseconds or more in the units of a set. The first part leaves less
+/// than that.
 #[inline(never)]
-fn put_long(buffer: &mut [u8], set: Units, most: usize, nanos: u128, style: Style) -> usize {
-    let mut parts = Breakdown::of(nanos, set, most);
+fn put_long(buffer: &mut [u8], set: Units, most: usize, d: Duration, style: Style) -> usize {
+    let mut parts = Breakdown::of(d.as_nanos(), set, most);
     let Some((row, count)) = parts.next_part() else {
         return 0;
     };
@@ -284,14 +318,15 @@ fn put_within(buffer: &mut [u8], format: Format, d: Duration) -> usize {
     if d.is_zero() {
         return 0;
     }
-    if d.as_secs() < 24 * 3_600 && format == Format::whole() {
-        return put_below_day(buffer, d);
+    if d.as_secs() < 1_000 * 365 * 24 * 3_600 && format == Format::whole() {
+        return put_whole(buffer, d);
     }
-    let nanos = d.as_nanos();
-    match u64::try_from(nanos) {
-        Ok(small) => put_parts(buffer, 0, format.units, format.parts, small, format.style),
-        Err(_) => put_long(buffer, format.units, format.parts, nanos, format.style),
+    // Less than 2^34 seconds are less than 2^64 nanoseconds.
+    if d.as_secs() < 1 << 34 {
+        let nanos = d.as_secs() * 1_000_000_000 + u64::from(d.subsec_nanos());
+        return put_parts(buffer, 0, format.units, format.parts, nanos, format.style);
     }
+    put_long(buffer, format.units, format.parts, d, format.style)
 }
 
 #[inline(always)]

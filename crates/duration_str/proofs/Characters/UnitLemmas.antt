@@ -24,8 +24,8 @@ all_units test h = each_unit (λ u. test u ≡ true) (each_passes test units h)
 pub some_length : (u : TimeUnit) → 1 ≤ nanos_of u
 some_length u = leb-true 1 (nanos_of u) (all_units (λ v. leb 1 (nanos_of v)) refl u)
 
-pub each_short : (u : TimeUnit) → nanos_of u < 2 ^ 64
-each_short u = ltb-true (nanos_of u) (2 ^ 64) (all_units (λ v. ltb (nanos_of v) (2 ^ 64)) refl u)
+pub each_short : (u : TimeUnit) → nanos_of u < 2 ^ 60
+each_short u = ltb-true (nanos_of u) (2 ^ 60) (all_units (λ v. ltb (nanos_of v) (2 ^ 60)) refl u)
 
 -- ---- ASCII capitals in UTF-8
 

@@ -49,10 +49,10 @@ pub each_grows : (style : Style) (bytes : List ℕ) (parts : List (TimeUnit × �
 each_grows style bytes [] = omega arith
 each_grows style bytes ((u, n) ∷ parts) = search (rules, each_grows style (with_part style bytes u n) parts, length-append)
 
--- After the first part of a duration of 2^64 nanoseconds or more, the parts of the rest are left.
+-- After the first part of a duration of 2^60 nanoseconds or more, the parts of the rest are left.
 pub long_rest : (us : List TimeUnit) (most nanos : ℕ) (u : TimeUnit) (n rest : ℕ) (parts : List (TimeUnit × ℕ))
-    → 2 ^ 64 ≤ nanos → parts_in us most nanos ≡ (u, n) ∷ parts → nanos ≡ n * nanos_of u + rest → rest < nanos_of u
-    → (1 ≤ most) × (rest < 2 ^ 64) × (parts ≡ parts_in us (most - 1) rest)
+    → 2 ^ 60 ≤ nanos → parts_in us most nanos ≡ (u, n) ∷ parts → nanos ≡ n * nanos_of u + rest → rest < nanos_of u
+    → (1 ≤ most) × (rest < 2 ^ 60) × (parts ≡ parts_in us (most - 1) rest)
 long_rest [] most nanos u n rest parts long first whole less = grind (arith, common_steps)
 long_rest (v ∷ us) most nanos u n rest parts long first whole less =
     grind (arith, parts_none, part_taken, part_skipped, some_length, each_short, div-add-mod')
@@ -64,11 +64,11 @@ pub parts_printed : (style : Style) (us : List TimeUnit) (bytes : List ℕ) (mos
 parts_printed style us bytes most nanos parts same =
     sym (each_printed style us bytes (counts_within (map nanos_of us) most nanos) ∙ ap (with_each style bytes) same)
 
--- After the first part of a duration of 2^64 nanoseconds or more, printing the rest in the same
+-- After the first part of a duration of 2^60 nanoseconds or more, printing the rest in the same
 -- units prints the other parts.
 pub long_printed : (style : Style) (us : List TimeUnit) (bytes : List ℕ) (most nanos : ℕ) (u : TimeUnit) (n rest : ℕ)
     (parts : List (TimeUnit × ℕ))
-    → 2 ^ 64 ≤ nanos → parts_in us most nanos ≡ (u, n) ∷ parts → nanos ≡ n * nanos_of u + rest → rest < nanos_of u
+    → 2 ^ 60 ≤ nanos → parts_in us most nanos ≡ (u, n) ∷ parts → nanos ≡ n * nanos_of u + rest → rest < nanos_of u
     → with_parts style (with_part style bytes u n) us (most - 1) rest ≡ with_parts style bytes us most nanos
 long_printed style us bytes most nanos u n rest parts long first whole less =
     let left = long_rest us most nanos u n rest parts long first whole less in

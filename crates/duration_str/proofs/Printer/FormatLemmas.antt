@@ -1,5 +1,5 @@
 -- Lemmas about the steps of printing in a format, and about the most bytes that a text has.
-use Rattle.duration_str.proofs.Common.{append_assoc, ap, arith, between, byte_len, cases_Bool, chars, chars_from_encodes, counts_within, decimal, div-le_self, drop, encode_utf8_all, Format, inl, inr, IsPrintedWithin, IsUtf8, le-div_iff_mul-le, leb, leb-true, length, length-append, lengths_within, List, map, most_len, nanos_of, nat_tests, part_bytes, Printed, printed_row, rank_of, refl, row_of, rules, slice_index_or, Style, sym, take, take-append-add, text_within, TimeUnit, units, units_within, with_counts, with_gap, with_part, Year, zero-div, zero_unit, [], ℕ, ◌%◌, ◌*◌, ◌++◌, ◌+◌, ◌-◌, ◌∙◌, ◌/◌, ◌<◌, ◌==◌, ◌^◌, ◌∷◌, ◌≡◌, ◌≤◌, Bool, Day, Hour, list_all, true, and_parts, with_parts, Units, common_steps, cases_lt}
+use Rattle.duration_str.proofs.Common.{append_assoc, ap, arith, between, byte_len, cases_Bool, chars, chars_from_encodes, counts_within, decimal, div-le_self, drop, encode_utf8_all, Format, inl, inr, IsPrintedWithin, IsUtf8, le-div_iff_mul-le, leb, leb-true, length, length-append, lengths_within, List, map, most_len, nanos_of, nat_tests, part_bytes, Printed, printed_row, rank_of, refl, row_of, rules, slice_index_or, Style, sym, take, take-append-add, text_within, TimeUnit, units, units_within, with_counts, with_gap, with_part, Year, zero-div, zero_unit, [], ℕ, ◌%◌, ◌*◌, ◌++◌, ◌+◌, ◌-◌, ◌∙◌, ◌/◌, ◌<◌, ◌==◌, ◌^◌, ◌∷◌, ◌≡◌, ◌≤◌, Bool, Day, Hour, Month, Quarter, Short, Week, list_all, true, and_parts, with_parts, Units, common_steps, cases_lt}
 use Rattle.duration_str.proofs.Printer.SetLemmas.{chosen_in, chosen_none, chosen_out, hours_chosen}
 use Rattle.duration_str.specs.Format.{chosen, is_in, up_to}
 use Rattle.std.specs.Prelude.{max}
@@ -114,6 +114,25 @@ parts_fit style (u ∷ us) limit bytes most nanos h small = elim (cases_Bool (mo
             ))
       ]
 ]
+
+-- The parts of a day or longer, of less than 1,000 years, take no more than 19 bytes, with a space
+-- after each.
+pub days_fit : (y q m w d : ℕ) → y ≤ 999 → q ≤ 9 → m ≤ 9 → w ≤ 9 → d ≤ 9
+    → length (with_gap Short (with_counts Short [] units (y ∷ q ∷ m ∷ w ∷ d ∷ []))) ≤ 19
+unfolding digits
+days_fit y q m w d y_fits q_fits m_fits w_fits d_fits =
+    let years = with_part Short [] Year y in
+    let quarters = with_part Short years Quarter q in
+    let months = with_part Short quarters Month m in
+    let weeks = with_part Short months Week w in
+    omega (
+      arith,
+      part_more Short [] Year y 999 y_fits (omega arith),
+      part_more Short years Quarter q 9 q_fits (omega arith),
+      part_more Short quarters Month m 9 m_fits (omega arith),
+      part_more Short months Week w 9 w_fits (omega arith),
+      part_more Short weeks Day d 9 d_fits (omega arith),
+    )
 
 -- the most bytes of parts that begin with any of these units
 abbrev worst : Style → ℕ → List TimeUnit → ℕ

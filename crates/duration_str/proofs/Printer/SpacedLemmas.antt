@@ -1,6 +1,5 @@
--- Lemmas about a text with a space after each of its parts, and about the counts of a duration
--- below a day.
-use Rattle.duration_str.proofs.Common.{append_assoc, arith, counts_of, decimal, encode_utf8_all, length, length-append, length-decimal-le_wide, length-take-le, List, take-append_seam, row_of, rules, Short, sym, take, TimeUnit, unit_lengths, with_gap, with_part, [], ℕ, ◌%◌, ◌*◌, ◌++◌, ◌+◌, ◌-◌, ◌/◌, ◌<◌, ◌^◌, ◌∙◌, ◌∷◌, ◌≡◌, ◌≤◌, ap, drop, drop_more, get_or, with_counts, Year}
+-- Lemmas about a text with a space after each of its parts, and about the counts of a duration.
+use Rattle.duration_str.proofs.Common.{add_assoc, append_assoc, arith, counts_of, decimal, encode_utf8_all, length, length-append, length-decimal-le_wide, length-take-le, List, take-append_seam, refl, row_of, rules, Short, sym, take, TimeUnit, unit_lengths, with_gap, with_part, [], ℕ, ◌%◌, ◌*◌, ◌++◌, ◌+◌, ◌-◌, ◌/◌, ◌<◌, ◌^◌, ◌∙◌, ◌∷◌, ◌≡◌, ◌≤◌, ap, drop, drop_more, get_or, with_counts, Year}
 use Rattle.duration_str.proofs.Printer.DigitLemmas.{some_decimal}
 use Rattle.std.proofs.lemmas.List.{take-take}
 
@@ -27,22 +26,24 @@ last_space end buffer (b ∷ bytes) inside same =
     omega (arith, ap length same, length-take-le end buffer inside, length-append whole (32 ∷ [])) in
     sym (take-take (end - 1) end buffer (omega arith)) ∙ rw (same, before) (take-append_seam whole (32 ∷ []))
 
--- The counts of a duration below a day are these quotients.
-pub counts_below_day : (secs nanos : ℕ) → secs < 24 * 3600 → nanos < 10 ^ 9
-    → counts_of unit_lengths (secs * 10 ^ 9 + nanos)
-    ≡ 0 ∷ 0 ∷ 0 ∷ 0 ∷ 0 ∷ secs / 3600 ∷ secs / 60 % 60 ∷ secs % 60
-    ∷ nanos / 1000000 ∷ nanos / 1000 % 1000 ∷ nanos % 1000 ∷ []
-counts_below_day secs nanos day second =
-    let year : (secs * 10 ^ 9 + nanos) / 31536000000000000 ≡ 0 = omega arith in
-    let after_year : (secs * 10 ^ 9 + nanos) % 31536000000000000 ≡ secs * 10 ^ 9 + nanos = omega arith in
-    let quarter : (secs * 10 ^ 9 + nanos) / 7862400000000000 ≡ 0 = omega arith in
-    let after_quarter : (secs * 10 ^ 9 + nanos) % 7862400000000000 ≡ secs * 10 ^ 9 + nanos = omega arith in
-    let month : (secs * 10 ^ 9 + nanos) / 2592000000000000 ≡ 0 = omega arith in
-    let after_month : (secs * 10 ^ 9 + nanos) % 2592000000000000 ≡ secs * 10 ^ 9 + nanos = omega arith in
-    let week : (secs * 10 ^ 9 + nanos) / 604800000000000 ≡ 0 = omega arith in
-    let after_week : (secs * 10 ^ 9 + nanos) % 604800000000000 ≡ secs * 10 ^ 9 + nanos = omega arith in
-    let days : (secs * 10 ^ 9 + nanos) / 86400000000000 ≡ 0 = omega arith in
-    let after_days : (secs * 10 ^ 9 + nanos) % 86400000000000 ≡ secs * 10 ^ 9 + nanos = omega arith in
+-- The counts of a duration are quotients of its days, its other seconds and its other nanoseconds.
+pub counts_by_days : (days secs nanos : ℕ) → secs < 86400 → nanos < 10 ^ 9
+    → counts_of unit_lengths ((days * 86400 + secs) * 10 ^ 9 + nanos)
+    ≡ counts_of (365 ∷ 91 ∷ 30 ∷ 7 ∷ 1 ∷ []) days
+    ++ (secs / 3600 ∷ secs / 60 % 60 ∷ secs % 60 ∷ nanos / 1000000 ∷ nanos / 1000 % 1000 ∷ nanos % 1000 ∷ [])
+counts_by_days days secs nanos day second =
+    let part : ℕ → ℕ = λ n. (n * 86400 + secs) * 10 ^ 9 + nanos in
+    let years : part days / 31536000000000000 ≡ days / 365 = omega arith in
+    let after_years : part days % 31536000000000000 ≡ part (days % 365) = omega arith in
+    let n : ℕ = days % 365 in
+    let quarters : part n / 7862400000000000 ≡ n / 91 = omega arith in
+    let after_quarters : part n % 7862400000000000 ≡ part (n % 91) = omega arith in
+    let months : part (n % 91) / 2592000000000000 ≡ n % 91 / 30 = omega arith in
+    let after_months : part (n % 91) % 2592000000000000 ≡ part (n % 91 % 30) = omega arith in
+    let weeks : part (n % 91 % 30) / 604800000000000 ≡ n % 91 % 30 / 7 = omega arith in
+    let after_weeks : part (n % 91 % 30) % 604800000000000 ≡ part (n % 91 % 30 % 7) = omega arith in
+    let all_days : part (n % 91 % 30 % 7) / 86400000000000 ≡ n % 91 % 30 % 7 / 1 = omega arith in
+    let after_days : part (n % 91 % 30 % 7) % 86400000000000 ≡ secs * 10 ^ 9 + nanos = omega arith in
     let hours : (secs * 10 ^ 9 + nanos) / 3600000000000 ≡ secs / 3600 = omega arith in
     let after_hours : (secs * 10 ^ 9 + nanos) % 3600000000000 ≡ secs % 3600 * 10 ^ 9 + nanos = omega arith in
     let minutes : (secs % 3600 * 10 ^ 9 + nanos) / 60000000000 ≡ secs / 60 % 60 = omega arith in
@@ -53,9 +54,13 @@ counts_below_day secs nanos day second =
     let rest : nanos % 1000000 % 1000 / 1 ≡ nanos % 1000 = omega arith in
     cc
 
+pub no_counts : (bytes : List ℕ) (us : List TimeUnit) → with_counts Short bytes us [] ≡ bytes
+no_counts bytes [] = refl
+no_counts bytes (u ∷ us) = refl
+
 -- After the next part, the parts that are left give the same text.
-pub next_part : (bytes : List ℕ) (us : List TimeUnit) (counts : List ℕ) (i j : ℕ) → j ≡ 5 + i → i < length counts
-    → 5 + i < length us
-    → with_counts Short (with_part Short bytes (get_or us j Year) (get_or counts i 0)) (drop (5 + (i + 1)) us)
-    (drop (i + 1) counts) ≡ with_counts Short bytes (drop (5 + i) us) (drop i counts)
-next_part bytes us counts i j same in_counts in_units = search (rules, drop_more)
+pub next_part : (bytes : List ℕ) (us : List TimeUnit) (counts : List ℕ) (first i j : ℕ) → j ≡ first + i
+    → i < length counts → first + i < length us
+    → with_counts Short (with_part Short bytes (get_or us j Year) (get_or counts i 0)) (drop (first + (i + 1)) us)
+    (drop (i + 1) counts) ≡ with_counts Short bytes (drop (first + i) us) (drop i counts)
+next_part bytes us counts first i j same in_counts in_units = rw (← add_assoc first i 1) (search (rules, drop_more))

@@ -14,7 +14,7 @@ pub returns-else-count-eq0 : goal.returns-else-count-eq0
 returns-else-count-eq0 c =
     let bytes = take (c.args.at - 1) c.args.buffer.now in
     let end = c.args.at + c.put_name-next.result + 1 in
-    let buffer = put_mid c.args.at (c.args.at + 8 - c.args.at) c.args.buffer.now c.put_name-next.new.buffer in
+    let buffer = put_mid c.args.at (c.args.at + 7 - c.args.at) c.args.buffer.now c.put_name-next.new.buffer in
     let part : take (c.put_name-next.result + 1) c.put_name-next.new.buffer
     ≡ decimal c.args.count ++ encode_utf8_all (row_of c.args.unit).printed ++ 32 ∷ [] =
     rw (c.put_hundreds-end.ensures.text, c.from.ensures, c.printed.ensures) at c.put_name-next.ensures.space in
@@ -23,6 +23,6 @@ returns-else-count-eq0 c =
     (take_part c.args.at _ (c.put_name-next.result + 1) c.args.buffer.now c.put_name-next.new.buffer
     (omega arith) (grind (arith, common_steps, three_digits, name_short))
     ∙ rw (c.requires.spaced, part) (spaced_part bytes c.args.unit c.args.count (omega arith) (omega arith))) in
-    let width : c.put_name-next.result + 1 ≤ 8 = grind (arith, common_steps, three_digits, name_short) in
+    let width : c.put_name-next.result + 1 ≤ 7 = grind (arith, common_steps, three_digits, name_short) in
     let text = last_space end buffer _ (grind (arith, common_steps)) whole in
     record { text = text; spaced = whole ∙ ap (with_gap Short) (sym text); end = omega arith }

@@ -1,4 +1,4 @@
-use Rattle.duration_str.proofs.Common.{arith, as_nanos, rules, unit_lengths, whole_format, ◌≡◌}
+use Rattle.duration_str.proofs.Common.{arith, as_nanos, rules, unit_lengths, whole_format, ◌*◌, ◌+◌, ◌^◌, ◌≡◌}
 use Rattle.duration_str.proofs.LawProofs.AllParts.{all_counts}
 use Rattle.duration_str.proofs.Printer.FormatLemmas.{within_fits}
 use Rattle.duration_str.proofs.Printer.SetLemmas.{chosen_whole}
@@ -7,14 +7,13 @@ use Rattle.duration_str.proofs.printing.put_within.Goals as goal
 pub returns-then-eq-clause-text : goal.returns-then-eq-clause-text
 returns-then-eq-clause-text c =
     let whole : c.args.format ≡ whole_format = search rules in
-    rw (whole, chosen_whole) (rw (all_counts unit_lengths 11 (as_nanos c.args.d) (omega arith)) c.put_below_day.ensures.text)
+    rw (whole, chosen_whole) (rw (all_counts unit_lengths 11 (as_nanos c.args.d) (omega arith)) c.put_whole.ensures.text)
 
 pub put_parts-requires-clause-room : goal.put_parts-requires-clause-room
 put_parts-requires-clause-room c =
-    let small : c.in-Ok.small ≡ as_nanos c.args.d = search rules in
-    rw small (omega (arith, within_fits c.args.format (as_nanos c.args.d) (omega arith), c.requires.room))
+    let same : c.as_secs-then-as_secs-2.result * 10 ^ 9 + c.from.result ≡ as_nanos c.args.d = omega arith in
+    rw same (omega (arith, within_fits c.args.format (as_nanos c.args.d) (omega arith), c.requires.room))
 
 pub put_long-requires-clause-room : goal.put_long-requires-clause-room
 put_long-requires-clause-room c =
-    rw c.as_nanos-nanos.ensures
-    (omega (arith, within_fits c.args.format (as_nanos c.args.d) (omega arith), c.requires.room))
+    omega (arith, within_fits c.args.format (as_nanos c.args.d) (omega arith), c.requires.room)
