@@ -87,24 +87,12 @@ where
             format!("invalid type: null, {required}"),
         ),
         (
-            json!({ "timeout": ["1s"] }),
-            format!("invalid type: sequence, {required}"),
-        ),
-        (
-            json!({ "timeout": "1m", "keep_alive": "600y" }),
-            "600y\n^\noverflow error".to_string(),
-        ),
-        (
             json!({ "timeout": "1m", "keep_alive": " " }),
             duration_str::parse(" ").unwrap_err(),
         ),
         (
             json!({ "timeout": "1m", "keep_alive": 30 }),
             format!("invalid type: integer `30`, {optional}"),
-        ),
-        (
-            json!({ "timeout": "1m", "keep_alive": [] }),
-            format!("invalid type: sequence, {optional}"),
         ),
     ];
     for (value, message) in rows {
