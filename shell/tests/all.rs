@@ -62,11 +62,6 @@ fn answers_each_argument() {
         run(&["1h", "5 mins", "2h"], b"3h\n"),
         (1, "1h\n2h\n".into(), errors)
     );
-    assert!(
-        run(&["--json", "1h\r"], b"")
-            .1
-            .starts_with("{\"text\":\"1h\\r\",")
-    );
 }
 
 #[test]
