@@ -1,6 +1,6 @@
-"""duration_model.py PROGRAM [SECONDS [SEED]]: runs the command `duration` with random options,
-arguments and lines, and compares its output and its status with a model that was made only from
-shell/README.md and `duration --help`.
+"""duration_model.py PROGRAM [SECONDS [SEED]]: runs the command `duration` with the rows of
+rust/vectors.json, and then with random options, arguments and lines. It compares the output and the
+status with a model that was made only from shell/README.md and `duration --help`.
 """
 import collections
 import fractions
@@ -18,6 +18,7 @@ sys.dont_write_bytecode = True
 sys.path.append(str(pathlib.Path(__file__).resolve().parent.parent / "tools"))
 import patterns  # noqa: E402
 import reference_parser as reference  # noqa: E402
+import vectors  # noqa: E402
 from texts import Texts  # noqa: E402
 
 LONGEST_LINE = 1_048_576
@@ -88,7 +89,8 @@ def units_of(options):
     smallest, largest = (
         LENGTHS[options.get(*each)] for each in (("smallest", "ns"), ("largest", "y"))
     )
-    chosen = {LENGTHS[name] for name in options.get("units", ",".join(LENGTHS)).split(",")}
+    names = options.get("units", ",".join(LENGTHS)).lower().split(",")
+    chosen = {LENGTHS.get(name) for name in names}
     return [
         unit
         for unit in reference.UNITS
@@ -368,25 +370,55 @@ def untried(program):
     return names - {*VALUES, "units", "completions", "help", "version"}
 
 
+def vector_commands():
+    """The options and the input of commands that read and print the rows of rust/vectors.json."""
+    items = collections.defaultdict(list)
+    for text, (on, unit), _ in vectors.texts():
+        is_other = unit not in (None, reference.Choice().default_unit)
+        # The command has no word for `no_calc`, which another unit than the second turns on.
+        if on.no_calc == is_other:
+            rows = (on.lowercase, "lowercase"), (on.cn_unit, "cn-unit"), (not unit, "require-unit")
+            given = [(name, "") for is_on, name in rows if is_on]
+            given += [("from", unit.printed)] if is_other else []
+            items[tuple(given)].append(text)
+    for (unit, text, *_), way in itertools.product(vectors.tables()["from"], VALUES["round"]):
+        items[("from", unit), ("to", "ns"), ("round", way)].append(text)
+    for (row, nanos, *_), style in itertools.product(vectors.durations(), reference.STYLES):
+        limits = row[1] | {name: ",".join(row[1][name]) for name in row[1].keys() & {"units"}}
+        items[*limits.items(), ("style", style)].append(f"{nanos}ns")
+    for given, texts in items.items():
+        data = "".join(f"{text}\0" for text in texts if "\0" not in text)
+        yield {**dict(given), "json": "", "zero-terminated": ""}, data.encode()
+
+
+def compare(words, must, options, data, cuts=()):
+    """Runs a command. If it does not what it must, shows both, and ends this program."""
+    got = run(words, options, data, [0, *cuts])
+    if must.status == 2:
+        got = got._replace(errors=got.errors[:7])
+    if got != must:
+        sys.exit(f"command: {words}\ninput: {data[:9999]}\nwanted: {must}\ngot:    {got}")
+
+
 def main(program, seconds="20", seed=str(time.time_ns())):
     print(f"duration_model: seed {seed}")
     if names := untried(program):
         sys.exit(f"duration_model: not tried: {' '.join(sorted(names))}")
-    commands, ends, count = Commands(seed), time.monotonic() + float(seconds), 0
+    commands, usage, count = Commands(seed), Said(b"", b"error: ", 2), 0
+    for options, data in vector_commands():
+        is_usage = is_wrong(options, []) or options.get("parts") == 0
+        must = usage if is_usage else wanted(options, [], data)
+        compare([program, *commands.words(options)], must, options, data)
+        count += data.count(b"\0")
+    ends = time.monotonic() + float(seconds)
     while time.monotonic() < ends:
         options, texts, data = commands.command()
         wrong = [commands.choice(WRONG_WORDS)] if commands.chance(3) else []
         words = [program, *commands.words(options), *wrong, *(["--"] * bool(texts) + texts)]
-        usage = bool(wrong) or is_wrong(options, texts)
-        must = Said(b"", b"error: ", 2) if usage else wanted(options, texts, data)
-        cuts = (
-            []
-            if usage or texts or "pattern" in options or len(data) > 9999
-            else sorted(commands.random.choices(range(len(data) + 1), k=3))
-        )
-        got = run(words, options, data, [0, *cuts])
-        if (got._replace(errors=got.errors[:7]) if usage else got) != must:
-            sys.exit(f"command: {words}\ninput: {data[:9999]}\nwanted: {must}\ngot:    {got}")
+        is_usage = bool(wrong) or is_wrong(options, texts)
+        is_whole = is_usage or texts or "pattern" in options or len(data) > 9999
+        cuts = [] if is_whole else sorted(commands.random.choices(range(len(data) + 1), k=3))
+        compare(words, usage if is_usage else wanted(options, texts, data), options, data, cuts)
         count += len(texts or data.split(end_of(options)))
     print(f"duration_model: {count} texts, each as it must be")
 

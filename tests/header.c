@@ -1,6 +1,7 @@
 /* Calls each function that the header declares, and prints each answer that is not the expected
  * one. It compiles as C and as C++, and shows that the header and the library agree on each struct
- * and each number. */
+ * and each number, and that the header's macros make these numbers. tests/compare tries the answers
+ * to many more arguments. */
 #include <stdio.h>
 #include <string.h>
 
@@ -15,25 +16,14 @@ static void expect(bool holds, const char *what) {
     }
 }
 
-/* Reads a text by each call that takes options, checks that they agree, and returns the answer.
- * Each byte of the answer is set before the call, so that a field that the call does not write
- * shows. */
+/* Reads a text. Each byte of the answer is set before the call, so that a field that the call does
+ * not write shows. */
 static struct duration_str_answer read_with(const char *text, uint32_t options) {
-    struct duration_str_answer answer, of_line, of_report;
-    char line[DURATION_STR_ONE_LINE_BUFFER_SIZE], report[DURATION_STR_REPORT_BUFFER_SIZE];
-    const size_t length = strlen(text);
+    struct duration_str_answer answer;
     memset(&answer, 0xff, sizeof answer);
-    bool read = duration_str_parse_with(text, length, options, &answer);
+    bool read = duration_str_parse_with(text, strlen(text), options, &answer);
     expect(read == (answer.cause == DURATION_STR_CAUSE_READ),
         "a text is read exactly if there is no cause");
-    expect((duration_str_one_line(text, length, options, &of_line, line) == 0) == read,
-        "a line of what is refused");
-    expect((duration_str_report(text, length, options, &of_report, report) == 0) == read,
-        "a report of what is refused");
-    expect(of_line.cause == answer.cause && of_report.cause == answer.cause,
-        "the same answer by three calls");
-    expect(of_line.place == answer.place && of_report.place == answer.place,
-        "the same place by three calls");
     return answer;
 }
 
@@ -47,18 +37,9 @@ static bool is_syntax(
            answer.later_operator == 0;
 }
 
-/* Whether texts are refused for an unknown option under these options, and the answer says nothing
- * else. */
+/* Whether a text is refused for an unknown option under these options. */
 static bool is_unknown(uint32_t options) {
-    struct duration_str_answer answer = read_with("1m", options), not_text;
-    char line[DURATION_STR_ONE_LINE_BUFFER_SIZE], report[DURATION_STR_REPORT_BUFFER_SIZE];
-    bool is_said = duration_str_one_line("1\xff", 2, options, &not_text, line) == 14 &&
-                   duration_str_report("1m", 2, options, &answer, report) == 14 &&
-                   strcmp(line, "unknown option") == 0 && strcmp(report, line) == 0;
-    return is_said && not_text.cause == answer.cause &&
-           answer.cause == DURATION_STR_CAUSE_UNKNOWN_OPTION && answer.nanos == 0 &&
-           answer.place == 0 && answer.found_length == 0 && answer.expected == 0 &&
-           answer.has_place == 0 && answer.first_operator == 0 && answer.later_operator == 0;
+    return read_with("1m", options).cause == DURATION_STR_CAUSE_UNKNOWN_OPTION;
 }
 
 static void check_options(void) {
@@ -66,29 +47,18 @@ static void check_options(void) {
     const uint32_t unit = DURATION_STR_EXPECTED_UNIT,
                    unit_or_end = unit | DURATION_STR_EXPECTED_END;
     const uint32_t after_number = unit_or_end | DURATION_STR_EXPECTED_OPERATOR;
-    const uint32_t options = DURATION_STR_OPTION_NO_CALC | DURATION_STR_OPTION_LOWERCASE |
-                             DURATION_STR_OPTION_CN_UNIT | DURATION_STR_OPTION_REQUIRE_UNIT;
-    expect(is_unknown(16) && is_unknown(1u << 31) && is_unknown(~options) && is_unknown(~0u),
-        "an unknown option");
-    expect(read_with("1m", options).nanos == 60000000000u, "all options");
+    expect(is_unknown(16) && is_unknown(1u << 31), "an unknown option");
     struct duration_str_answer read = read_with(minute, DURATION_STR_OPTION_CN_UNIT);
     expect(
         read.nanos == 60000000000u && read.has_place == 0 && read.place == 0 && read.expected == 0,
         "a Chinese unit");
-    expect(is_syntax(read_with(minute, DURATION_STR_OPTION_LOWERCASE), 1, after_number, 3),
-        "a Chinese unit, unasked for");
+    expect(is_syntax(read_with(minute, 0), 1, after_number, 3), "a Chinese unit, unasked for");
     expect(is_syntax(read_with("1M", DURATION_STR_OPTION_LOWERCASE), 1, after_number, 1),
         "a capital under lowercase");
-    expect(read_with("1M", DURATION_STR_OPTION_NO_CALC).nanos == 60000000000u,
-        "a capital without lowercase");
     expect(
         is_syntax(read_with("1+2", DURATION_STR_OPTION_NO_CALC), 1, unit_or_end, 1), "an operator");
-    expect(read_with("1+2", DURATION_STR_OPTION_LOWERCASE).nanos == 3000000000u,
-        "an operator without no_calc");
     expect(is_syntax(read_with("1h 30", DURATION_STR_OPTION_REQUIRE_UNIT), 5, unit, 0),
         "a unit that is missing");
-    expect(read_with("1h 30m", DURATION_STR_OPTION_REQUIRE_UNIT).nanos == 5400000000000u,
-        "no unit that is missing");
 }
 
 static void check_default_units(void) {
@@ -136,44 +106,18 @@ static void check_refusals(void) {
     struct duration_str_answer first = read_with("10000000000000000y+60", 0);
     expect(first.cause == DURATION_STR_CAUSE_OVERFLOW && first.has_place == 1 && first.place == 0,
         "a first term too large");
-    struct duration_str_answer all = read_with("580y*2", 0);
-    expect(all.cause == DURATION_STR_CAUSE_OVERFLOW && all.has_place == 0 && all.expected == 0,
-        "a value too large");
     struct duration_str_answer mixed = read_with("1m 2s*3", 0);
-    expect(mixed.cause == DURATION_STR_CAUSE_MIXED && mixed.first_operator == '+' &&
-               mixed.later_operator == '*',
+    expect(mixed.cause == DURATION_STR_CAUSE_MIXED && mixed.has_place == 0 &&
+               mixed.first_operator == '+' && mixed.later_operator == '*',
         "operators");
     expect(read_with("", 0).cause == DURATION_STR_CAUSE_EMPTY, "the empty text");
     expect(read_with("1s 99999999999999999999", 0).cause == DURATION_STR_CAUSE_NUMBER_TOO_LARGE,
         "a number");
     expect(read_with("1\xff", 0).cause == DURATION_STR_CAUSE_NOT_TEXT, "bytes that are no UTF-8");
-    expect(strcmp(duration_str_cause_name(DURATION_STR_CAUSE_NOT_TEXT), "NOT_TEXT") == 0,
-        "the name of a cause");
     expect(
         strcmp(duration_str_cause_name(DURATION_STR_CAUSE_UNKNOWN_OPTION), "UNKNOWN_OPTION") == 0,
         "the last name");
     expect(strcmp(duration_str_cause_name(9), "") == 0, "no name");
-}
-
-/* Whether the buffer has this text, of `length` bytes, and a zero byte, and the byte after these is
- * as it was before. */
-static bool is_written(const char *buffer, size_t length, const char *wanted) {
-    return length == strlen(wanted) && memcmp(buffer, wanted, length + 1) == 0 &&
-           buffer[length + 1] == '#';
-}
-
-static void check_plain_calls(void) {
-    char printed[DURATION_STR_FORMAT_BUFFER_SIZE];
-    memset(printed, '#', sizeof printed);
-    expect(is_written(printed, duration_str_format(193029000000, printed), "3min 13s 29ms"),
-        "a duration");
-    expect(duration_str_format(60000000000, printed) == 4 && strcmp(printed, "1min") == 0,
-        "a short text over a long one");
-    expect(strcmp(printed + 5, "13s 29ms") == 0, "what is left of it");
-    const char *text = "3ms-2ms";
-    uint64_t nanos = 7;
-    expect(!duration_str_parse(text, 7, &nanos) && nanos == 7, "a refused text");
-    expect(duration_str_parse(text, 3, &nanos) && nanos == 3000000, "a text that is read");
 }
 
 /* Checks how each call that takes a text reads a null text of length 0. */
@@ -212,52 +156,32 @@ static void check_null_results(void) {
         "no counts without the rest");
 }
 
-/* Whether a duration is printed as `wanted`, in these units, parts and style, to a buffer of marks.
- * */
+/* Whether a duration is printed as `wanted`, in these units, parts and style. */
 static bool is_printed(uint64_t secs, uint32_t nanos, uint32_t units, uint32_t parts,
     uint32_t style, const char *wanted) {
     char printed[DURATION_STR_FORMAT_WITH_BUFFER_SIZE];
-    memset(printed, '#', sizeof printed);
-    return is_written(
-        printed, duration_str_format_with(secs, nanos, units, parts, style, printed), wanted);
+    return duration_str_format_with(secs, nanos, units, parts, style, printed) == strlen(wanted) &&
+           strcmp(printed, wanted) == 0;
 }
 
-static void check_styles(void) {
+static void check_printing(void) {
     const uint32_t all = DURATION_STR_UNITS_ALL, style = DURATION_STR_STYLE_SHORT;
+    const uint32_t year = DURATION_STR_UNIT_YEAR, day = DURATION_STR_UNIT_DAY,
+                   second = DURATION_STR_UNIT_SECOND, nanosecond = DURATION_STR_UNIT_NANOSECOND;
+    char printed[DURATION_STR_FORMAT_BUFFER_SIZE];
+    expect(duration_str_format(60000000000, printed) == 4 && strcmp(printed, "1min") == 0,
+        "a duration");
     expect(
         is_printed(5401, 0, all, 2, DURATION_STR_STYLE_LONG, "1 hour 30 minutes"), "a long style");
     expect(
         is_printed(5401, 0, all, 256, DURATION_STR_STYLE_COMPACT, "1h30min1s"), "a compact style");
     expect(is_printed(193, 29000000, all, 256, style, "3min 13s 29ms"), "more parts than units");
-    expect(is_printed(193, 1000000000, all, 2, style, ""), "nanoseconds that are a second");
-    expect(is_printed(5401, 0, all, 2, 3, "") && is_printed(5401, 0, all, 2, 256, ""),
-        "styles above 2");
-}
-
-static void check_units(void) {
-    const uint32_t all = DURATION_STR_UNITS_ALL, style = DURATION_STR_STYLE_SHORT;
-    const uint32_t year = DURATION_STR_UNIT_YEAR, day = DURATION_STR_UNIT_DAY,
-                   second = DURATION_STR_UNIT_SECOND, nanosecond = DURATION_STR_UNIT_NANOSECOND;
-    const uint32_t years_and_days =
-        DURATION_STR_UNITS(DURATION_STR_UNIT_DAY) | DURATION_STR_UNITS(DURATION_STR_UNIT_YEAR);
-    const uint32_t usual = all & ~DURATION_STR_UNITS(DURATION_STR_UNIT_QUARTER) &
-                           ~DURATION_STR_UNITS(DURATION_STR_UNIT_WEEK);
+    const uint32_t years_and_days = DURATION_STR_UNITS(day) | DURATION_STR_UNITS(year);
     expect(is_printed(400 * 86400, 0, years_and_days, 2, style, "1y 35d"), "years and days");
-    expect(is_printed(180 * 86400, 0, usual, 11, style, "6mon"), "no quarters and weeks");
     expect(is_printed(4295057357, 5, DURATION_STR_UNITS(second), 9, style, "4295057357s"),
         "seconds of 33 bits");
-    expect(is_printed(193, 0, DURATION_STR_UNITS_BETWEEN(year, day), 2, style, "0d"), "no days");
-    expect(is_printed(0, 5, DURATION_STR_UNITS(DURATION_STR_UNIT_MILLISECOND), 2, style, "0s"),
-        "no milliseconds");
-    const uint32_t none = DURATION_STR_UNITS_BETWEEN(second, day);
-    expect(is_printed(193, 0, none, 2, style, "") && is_printed(0, 0, none, 0, style, "") &&
-               is_printed(193, 0, none, 2, DURATION_STR_STYLE_COMPACT, "") &&
-               is_printed(193, 0, none, 2, DURATION_STR_STYLE_LONG, ""),
-        "no units");
-    expect(is_printed(193, 0, all + 1, 2, style, "") &&
-               is_printed(193, 0, DURATION_STR_UNITS(nanosecond + 1), 2, style, "") &&
-               is_printed(193, 0, all | 1u << 16, 2, style, "") &&
-               is_printed(193, 0, 1u << 31, 2, style, ""),
+    expect(is_printed(193, 0, DURATION_STR_UNITS_BETWEEN(second, day), 2, style, ""), "no units");
+    expect(is_printed(193, 0, DURATION_STR_UNITS(nanosecond + 1), 2, style, ""),
         "a unit above the last one");
     for (uint32_t largest = year; largest <= nanosecond; largest++)
         for (uint32_t smallest = year; smallest <= nanosecond; smallest++) {
@@ -286,32 +210,13 @@ static bool is_broken_down(const struct breakdown *wanted) {
            memcmp(counts, wanted->counts, sizeof counts) == 0 && rest == wanted->rest;
 }
 
-/* Whether the call refuses these arguments, and changes neither the counts nor the rest. */
-static bool is_no_breakdown(uint64_t secs, uint32_t nanos, uint32_t units, uint32_t parts) {
-    uint64_t counts[DURATION_STR_UNIT_COUNT], before[DURATION_STR_UNIT_COUNT], rest = 77;
-    memset(counts, '#', sizeof counts);
-    memset(before, '#', sizeof before);
-    return !duration_str_breakdown(secs, nanos, units, parts, counts, &rest) &&
-           memcmp(counts, before, sizeof counts) == 0 && rest == 77;
-}
-
 static void check_breakdowns(void) {
-    const uint32_t all = DURATION_STR_UNITS_ALL, hour = DURATION_STR_UNITS(DURATION_STR_UNIT_HOUR),
+    const uint32_t all = DURATION_STR_UNITS_ALL,
                    second = DURATION_STR_UNITS(DURATION_STR_UNIT_SECOND),
-                   millisecond = DURATION_STR_UNITS(DURATION_STR_UNIT_MILLISECOND),
-                   nanosecond = DURATION_STR_UNITS(DURATION_STR_UNIT_NANOSECOND);
-    const uint32_t days_and_hours = DURATION_STR_UNITS(DURATION_STR_UNIT_DAY) | hour;
+                   millisecond = DURATION_STR_UNITS(DURATION_STR_UNIT_MILLISECOND);
     const struct breakdown rows[] = {
-        {193, 29000000, all, 2, {0, 0, 0, 0, 0, 0, 3, 13, 0, 0, 0}, 29000000},
-        {193, 29000000, all, UINT32_MAX, {0, 0, 0, 0, 0, 0, 3, 13, 29, 0, 0}, 0},
-        {193, 29000000, all, 0, {0, 0, 0, 0, 0, 0, 0, 0, 0, 0, 0}, 193029000000},
         {39689999, 123456789, all, 11, {1, 1, 0, 0, 3, 8, 59, 59, 123, 456, 789}, 0},
-        {90060, 5, days_and_hours, 11, {0, 0, 0, 0, 1, 1, 0, 0, 0, 0, 0}, 60000000005},
-        {1, 1, hour, 11, {0, 0, 0, 0, 0, 0, 0, 0, 0, 0, 0}, 1000000001},
-        {0, 0, all, 11, {0, 0, 0, 0, 0, 0, 0, 0, 0, 0, 0}, 0},
-        {0, 0, 1, 0, {0, 0, 0, 0, 0, 0, 0, 0, 0, 0, 0}, 0},
         /* 2^64 - 1 nanoseconds, milliseconds and seconds, and what is left out of them */
-        {18446744073, 709551615, nanosecond, 1, {0, 0, 0, 0, 0, 0, 0, 0, 0, 0, UINT64_MAX}, 0},
         {18446744073, 709551615, all, 0, {0, 0, 0, 0, 0, 0, 0, 0, 0, 0, 0}, UINT64_MAX},
         {18446744073709551, 615999999, millisecond, 1, {0, 0, 0, 0, 0, 0, 0, 0, UINT64_MAX, 0, 0},
             999999},
@@ -321,58 +226,36 @@ static void check_breakdowns(void) {
     };
     for (size_t at = 0; at < sizeof rows / sizeof *rows; at++)
         expect(is_broken_down(&rows[at]), "a breakdown");
-    expect(is_no_breakdown(18446744073, 709551616, nanosecond, 1) &&
-               is_no_breakdown(18446744073709551, 616000000, millisecond, 1) &&
-               is_no_breakdown(UINT64_MAX, 0, nanosecond, 1),
-        "a count of 2^64");
-    expect(is_no_breakdown(18446744073, 709551616, all, 0) && is_no_breakdown(UINT64_MAX, 0, 1, 0),
-        "a rest of 2^64");
-    expect(is_no_breakdown(193, 1000000000, all, 2) && is_no_breakdown(0, UINT32_MAX, all, 2),
-        "nanoseconds that are a second, broken down");
-    expect(is_no_breakdown(193, 0, 0, 2) && is_no_breakdown(0, 0, 0, 0), "no units, broken down");
-    expect(is_no_breakdown(193, 0, all + 1, 2) && is_no_breakdown(193, 0, all | 1u << 16, 2) &&
-               is_no_breakdown(193, 0, 1u << 31, 2),
-        "a unit above the last one, broken down");
+    uint64_t counts[DURATION_STR_UNIT_COUNT], rest = 77;
+    expect(!duration_str_breakdown(18446744073709551, 616000000, millisecond, 1, counts, &rest) &&
+               !duration_str_breakdown(18446744073, 709551616, all, 0, counts, &rest) && rest == 77,
+        "a count or a rest of 2^64");
 }
 
 static void check_unit_names(void) {
     expect(duration_str_unit("y", 1) == DURATION_STR_UNIT_YEAR, "the first unit");
     expect(duration_str_unit("NANOSECONDS", 11) == DURATION_STR_UNIT_NANOSECOND, "the last unit");
-    expect(duration_str_unit("\xc2\xb5s", 3) == DURATION_STR_UNIT_MICROSECOND, "the micro sign");
-    expect(duration_str_unit("\xe5\xb9\xb4", 3) == -1, "a Chinese name");
-    expect(duration_str_unit("", 0) == -1 && duration_str_unit("mins", 4) == -1, "no name");
-    expect(duration_str_unit("hours", 1) == DURATION_STR_UNIT_HOUR, "a name that doesn't end");
-    expect(duration_str_unit("h\0", 2) == -1, "a name with a zero byte");
-    expect(duration_str_unit("h\xff", 2) == -1 && duration_str_unit("\xc2", 1) == -1 &&
-               duration_str_unit("\xb5s", 2) == -1,
-        "bytes that are no UTF-8, as a name");
+    expect(duration_str_unit("mins", 4) == -1, "no name");
 }
 
-static void check_one_line(void) {
-    const char *text = "3h 2 mins";
-    char line[DURATION_STR_ONE_LINE_BUFFER_SIZE];
+static void check_lines(void) {
+    const char *text = "3h 2 mins",
+               *told =
+                   "3h 2 mins\n     ^\nunknown unit \"mins\" at column 6 (did you mean \"min\"?)";
+    char line[DURATION_STR_ONE_LINE_BUFFER_SIZE], report[DURATION_STR_REPORT_BUFFER_SIZE];
     struct duration_str_answer answer;
-    memset(line, '#', sizeof line);
-    expect(is_written(line, duration_str_one_line(text, 9, 0, &answer, line),
-               "unknown unit \"mins\" at column 6 (did you mean \"min\"?)"),
+    memset(&answer, '#', sizeof answer);
+    expect(duration_str_one_line(text, 9, 0, &answer, line) == strlen(told) - 17 &&
+               strcmp(line, told + 17) == 0,
         "one line");
     expect(answer.cause == DURATION_STR_CAUSE_SYNTAX && answer.place == 5,
         "the answer beside the line");
-    char report[DURATION_STR_REPORT_BUFFER_SIZE];
-    memset(report, '#', sizeof report);
     memset(&answer, '#', sizeof answer);
-    expect(is_written(report, duration_str_report(text, 9, 0, &answer, report),
-               "3h 2 mins\n     ^\nunknown unit \"mins\" at column 6 (did you mean \"min\"?)"),
+    expect(duration_str_report(text, 9, 0, &answer, report) == strlen(told) &&
+               strcmp(report, told) == 0,
         "a report");
     expect(answer.cause == DURATION_STR_CAUSE_SYNTAX && answer.place == 5,
         "the answer beside the report");
-    expect(duration_str_one_line(text, 2, 0, &answer, line) == 0 && line[0] == 0,
-        "no line of a text that is read");
-    expect(answer.nanos == 10800000000000 && line[1] == 'n', "the answer that is read");
-    expect(
-        duration_str_one_line("1\xff", 2, 0, &answer, line) == 9 && strcmp(line, "not UTF-8") == 0,
-        "what is no UTF-8");
-    expect(answer.cause == DURATION_STR_CAUSE_NOT_TEXT, "its answer");
 }
 
 int main(void) {
@@ -380,12 +263,10 @@ int main(void) {
     check_options();
     check_default_units();
     check_refusals();
-    check_plain_calls();
-    check_styles();
-    check_units();
+    check_printing();
     check_breakdowns();
     check_unit_names();
-    check_one_line();
+    check_lines();
     check_null_texts();
     check_null_results();
     return wrong;

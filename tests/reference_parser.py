@@ -559,21 +559,6 @@ def quotients(nanos, lengths, chosen):
     return counts
 
 
-def print_whole(nanos):
-    """Prints the breakdown with the greatest first count, then the greatest second count, and so
-    on. Counts of 0 are left out.
-    """
-    lengths = [unit.length for unit in UNITS]
-    return (
-        " ".join(
-            f"{count}{unit.printed}"
-            for count, unit in zip(quotients(nanos, lengths, lengths), UNITS)
-            if count
-        )
-        or "0s"
-    )
-
-
 @functools.lru_cache(1 << 16)
 def counts_within(nanos, lengths, parts):
     """The lexicographically greatest counts for these lengths that have at most `parts` counts
@@ -630,6 +615,10 @@ def print_within(nanos, units, parts, style="short"):
     if units and units[-1].length > SECOND:
         zero = units[-1]
     return ("" if style == "compact" else " ").join(printed_parts) or print_part(0, zero, style)
+
+
+def print_whole(nanos):
+    return print_within(nanos, UNITS, len(UNITS))
 
 
 def line_of(answer):

@@ -63,7 +63,6 @@ test("lets nothing unsafe into the message, and keeps it short", () => {
 
 test("refuses lone surrogates, wherever they stand", () => {
     const rows = [
-        ["\ud800", 0],
         ["1s\udfff", 2],
         ["\udc801s", 0],
         ["1\ud83ds", 1],

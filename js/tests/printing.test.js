@@ -112,14 +112,6 @@ test("refuses formats that there are not", () => {
             new RangeError("the option parts must be a whole number from 1 on, not 1.5"),
         ],
         [
-            { parts: NaN },
-            new RangeError("the option parts must be a whole number from 1 on, not NaN"),
-        ],
-        [
-            { parts: -Infinity },
-            new RangeError("the option parts must be a whole number from 1 on, not -Infinity"),
-        ],
-        [
             { largest: "h", smallest: "d" },
             new RangeError("the largest unit, h, is shorter than the smallest, d"),
         ],
@@ -132,10 +124,6 @@ test("refuses formats that there are not", () => {
         ),
         [{ units: "yd" }, new TypeError("the option units must be an array, not string")],
         [{ units: null }, new TypeError("the option units must be an array, not null")],
-        [
-            { units: new Set(["d"]) },
-            new TypeError("the option units must be an array, not object"),
-        ],
         [{ units: [5] }, new TypeError("a unit of the option units must be a string, not number")],
         [
             { units: ["d", , "h"] },
@@ -199,9 +187,7 @@ test("counts the parts", () => {
         [400n * DAY, { largest: "y" }, { years: 1, months: 1, days: 5 }],
         [400n * DAY, { largest: "mon" }, { months: 13, weeks: 1, days: 3 }],
         [400n * DAY, { largest: "mon", parts: 2 }, { months: 13, weeks: 1 }],
-        [400n * DAY, { largest: "mon", parts: Infinity }, { months: 13, weeks: 1, days: 3 }],
         [400n * DAY, { units: ["y", "d"] }, { years: 1, days: 35 }],
-        [400n * DAY, { units: ["days", "years"], largest: "d" }, { days: 400 }],
         [400n * DAY, { units: ["y", "mon", "d"], parts: 1 }, { years: 1 }],
         [400n * DAY, { units: undefined }, { days: 400 }],
         [5n, { units: ["d", "mon"] }, { days: 0 }],

@@ -147,14 +147,9 @@ test("refuses a default unit that there is not, or beside a required one", () =>
             new RangeError(`the option defaultUnit must be one of ${names}, not ${name}`),
         ]),
         [{ requireUnit: true, defaultUnit: "ms" }, new RangeError(message)],
-        [{ defaultUnit: "y", requireUnit: true }, new RangeError(message)],
         [{ requireUnit: true, defaultUnit: "s" }, new RangeError(message)],
         [{ defaultUnit: 5 }, new TypeError("the option defaultUnit must be a string, not number")],
         [{ defaultUnit: null }, new TypeError("the option defaultUnit must be a string, not null")],
-        [
-            { defaultUnit: ["ms"] },
-            new TypeError("the option defaultUnit must be a string, not array"),
-        ],
     ];
     for (const [options, error] of rows) {
         for (const call of [parse, parseNs, tryParse, tryParseNs]) {
@@ -201,7 +196,6 @@ test("refuses what is no option", () => {
             new Map(),
             "the options must be a plain object, not one that inherits: write (text) => parse(text)",
         ],
-        [0, "the options must be a plain object, not number: write (text) => parse(text)"],
         ["noCalc", "the options must be a plain object, not string: write (text) => parse(text)"],
     ];
     for (const [options, message] of rows) {
@@ -240,8 +234,6 @@ test("reads the nearest number of milliseconds", () => {
         [`${LARGEST}ns`, 18_446_744_073_709.551615],
     ];
     for (const [text, value] of rows) assert.equal(parse(text), value, text);
-    assert.equal(parse("1分", { cnUnit: true }), 60_000);
-    assert.equal(parse("1h 30m", { requireUnit: true }), 5_400_000);
 });
 
 test("reads the nearest number of milliseconds of a long duration", () => {

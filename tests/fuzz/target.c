@@ -238,19 +238,10 @@ static struct text first_word(struct text text) {
     return text_at(prints, text.bytes + start, end - start);
 }
 
-/* If a unit has this name, `1` and the name are read as one of this unit. */
+/* The number of a name is that of a unit, or -1. */
 static void check_unit_name(struct text name) {
     const int32_t unit = duration_str_unit((const char *)name.bytes, name.length);
     HOLDS(unit >= -1 && unit <= DURATION_STR_UNIT_NANOSECOND);
-    if (unit == -1)
-        return;
-    uint8_t term[1 + 12] = "1";
-    HOLDS(name.length > 0 && name.length < sizeof term);
-    memcpy(term + 1, name.bytes, name.length);
-    struct duration_str_answer one =
-        read_with(text_at(prints, (const uint8_t *)"1", 1), DURATION_STR_OPTION_DEFAULT_UNIT(unit));
-    HOLDS(one.cause == DURATION_STR_CAUSE_READ &&
-          are_equal(one, read_with(text_at(prints, term, 1 + name.length), 0)));
 }
 
 static void check(struct text text) {

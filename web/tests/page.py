@@ -380,79 +380,55 @@ def try_units(page):
         page.same(f"min added to {text}", becomes, page.text())
 
 
+def shows(page, what, code):
+    """Checks that the page shows this code, by the name of its language, or none."""
+    for name, part in code.items():
+        text = page.text_of(name)
+        is_so = text is None if part is None else part in (text or "")
+        page.same(f"{part} in {name}, of {what}", True, is_so)
+
+
 def try_code(page):
     """The code has the options, and its literals are the text."""
-    page.open("#text=1m%092%C2%B5s%0A&no_calc&cn_unit")
-    taken = {
-        "rust": r'parse_with("1m\t2µs\n", Options { no_calc: true, cn_unit: true, ..Options::off() })?;',
-        "python": r'duration_str.parse("1m\t2µs\n", no_calc=True, cn_unit=True)',
-        "javascript": r'parse("1m\t2µs\n", { noCalc: true, cnUnit: true });',
-        "c": "sizeof text - 1, DURATION_STR_OPTION_NO_CALC | DURATION_STR_OPTION_CN_UNIT, &answer);",
-    }
-    for name, end in taken.items():
-        page.same(
-            f"the code in {name}",
-            True,
-            any(line.endswith(end) for line in page.text_of(name).splitlines()),
-        )
-    page.same("no shell's line of two lines", None, page.text_of("shell"))
-    page.choose("require_unit")
-    page.put("1h 30m")
-    taken = {
-        "rust": (
-            "use duration_str::{format_duration, parse_require_unit};",
-            'parse_require_unit("1h 30m")?;',
-        ),
-        "python": ('duration_str.parse("1h 30m", require_unit=True)',),
-        "javascript": ('parse("1h 30m", { requireUnit: true });',),
-        "c": ("sizeof text - 1, DURATION_STR_OPTION_REQUIRE_UNIT, &answer);",),
-        "shell": ("duration --require-unit -- '1h 30m'",),
-    }
-    for name, ends in taken.items():
-        for end in ends:
-            page.same(
-                f"{end} in {name}",
-                True,
-                any(line.endswith(end) for line in page.text_of(name).splitlines()),
-            )
-    page.choose("no_calc", "require_unit")
-    page.same("no program has both options", None, page.text_of("shell"))
-    page.choose("cn_unit", "require_unit")
-    page.same(
-        "the shell's line with both options",
-        "duration --cn-unit --require-unit -- '1h 30m'",
-        page.text_of("shell"),
-    )
-    call = 'parse_with_default_unit("1h 30m", Options { cn_unit: true, ..Options::off() }, None)?;'
-    page.same("Rust's call with both options", True, call in page.text_of("rust"))
-    page.choose("default_unit=ms")
-    page.put("1500")
-    taken = {
-        "rust": (
-            "use duration_str::{format_duration, parse_in, TimeUnit};",
-            'parse_in("1500", TimeUnit::MilliSecond)?;',
-        ),
-        "python": ('duration_str.parse("1500", default_unit="ms")',),
-        "javascript": ('parse("1500", { defaultUnit: "ms" });',),
-        "c": ("1, DURATION_STR_OPTION_DEFAULT_UNIT(DURATION_STR_UNIT_MILLISECOND), &answer);",),
-        "shell": ("duration --from ms -- '1500'",),
-    }
-    for name, ends in taken.items():
-        for end in ends:
-            page.same(
-                f"{end} in {name}",
-                True,
-                any(line.endswith(end) for line in page.text_of(name).splitlines()),
-            )
-    page.put("1s 500")
-    page.same("a sum in a unit", "duration --from ms -- '1s 500'", page.text_of("shell"))
-    page.put("1s 500ms")
-    page.choose("lowercase", "default_unit=µs")
-    call = (
-        'parse_with_default_unit("1s 500ms", Options { no_calc: true, lowercase: true, '
-        "..Options::off() }, Some(TimeUnit::MicroSecond))?;"
-    )
-    page.same("Rust's call with another option", True, call in page.text_of("rust"))
+    for link, code in {
+        "1m%092%C2%B5s%0A&no_calc&cn_unit": {
+            "rust": r'parse_with("1m\t2µs\n", Options { no_calc: true, cn_unit: true, ..Options::off() })?;',
+            "python": r'duration_str.parse("1m\t2µs\n", no_calc=True, cn_unit=True)',
+            "javascript": r'parse("1m\t2µs\n", { noCalc: true, cnUnit: true });',
+            "c": "sizeof text - 1, DURATION_STR_OPTION_NO_CALC | DURATION_STR_OPTION_CN_UNIT, &answer);",
+            "shell": None,
+        },
+        "1h%2030m&require_unit": {
+            "rust": 'parse_require_unit("1h 30m")?;',
+            "python": 'duration_str.parse("1h 30m", require_unit=True)',
+            "javascript": 'parse("1h 30m", { requireUnit: true });',
+            "c": "sizeof text - 1, DURATION_STR_OPTION_REQUIRE_UNIT, &answer);",
+            "shell": "duration --require-unit -- '1h 30m'",
+        },
+        # No program has both options.
+        "1h%2030m&no_calc&require_unit": {"shell": None},
+        "1h%2030m&cn_unit&require_unit": {
+            "rust": 'parse_with_default_unit("1h 30m", Options { cn_unit: true, ..Options::off() }, None)?;',
+            "shell": "duration --cn-unit --require-unit -- '1h 30m'",
+        },
+        "1500&default_unit=ms": {
+            "rust": 'parse_in("1500", TimeUnit::MilliSecond)?;',
+            "python": 'duration_str.parse("1500", default_unit="ms")',
+            "javascript": 'parse("1500", { defaultUnit: "ms" });',
+            "c": "1, DURATION_STR_OPTION_DEFAULT_UNIT(DURATION_STR_UNIT_MILLISECOND), &answer);",
+            "shell": "duration --from ms -- '1500'",
+        },
+        "1s%20500&default_unit=ms": {
+            "rust": "use duration_str::{format_duration, parse_in, TimeUnit};",
+            "shell": "duration --from ms -- '1s 500'",
+        },
+        "1s%20500ms&lowercase&default_unit=%C2%B5s": {
+            "rust": 'parse_with_default_unit("1s 500ms", Options { no_calc: true, lowercase: true, '
+            "..Options::off() }, Some(TimeUnit::MicroSecond))?;"
+        },
+    }.items():
+        page.open(f"#text={link}")
+        shows(page, link, code)
     page.same("no_calc is turned on", [True, False], no_calc_box(page))
     page.choose()
     page.same("no_calc is not turned on", [False, True], no_calc_box(page))
@@ -555,8 +531,7 @@ def try_printing(page):
         )
         page.open("#text=90061s%201ns" + words)
         page.same(f"printed by {chosen}", printed, page.text_of("printed"))
-        for name, part in code.items():
-            page.same(f"{part} in {name}", True, part in page.text_of(name))
+        shows(page, chosen, code)
         page.type("90061s 1ns")
         time.sleep(PAUSE)
         page.same(

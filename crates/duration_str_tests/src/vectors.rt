@@ -1,20 +1,8 @@
-//! `rust/vectors.json`, with escapes for characters beyond ASCII.
+//! Tables of `rust/vectors.json`, with escapes for characters beyond ASCII.
 // Made by tests/repository --write.
 
-/// The file's text.
+/// The tables, as JSON.
 pub static VECTORS: &str = r##"{
-  "about": {
-    "options": "the options that are on or off; a row may also name `require_unit`, or a default unit such as `default_unit=ms`",
-    "values": "seconds, nanoseconds, and texts that are read as this duration if the options in `on` are on and those in `off` are off, and are refused otherwise",
-    "numbers": "a default unit, a number that is not a text, and the seconds and nanoseconds that it is read as",
-    "refused_numbers": "a default unit, such a number that is refused, and the line for its digits",
-    "from": "a unit, a bare number as the command `duration` reads it with `--from`, its nanoseconds rounded down, and those rounded up; or the line, if it is refused",
-    "printed": "a duration, as a text or as seconds and nanoseconds, how it is printed (all units and parts, except as named), its text in the short style and in the long style, and the seconds and nanoseconds of the rest",
-    "printed_as_zero": "the same, if no unit or no part is left, which is an error in Python, JavaScript and the shell",
-    "refused": "a text, what is on, and the cause, the byte of the place, the token found there, what could stand there, the line, and the blanks before the report's caret"
-  },
-  "options": ["no_calc", "lowercase", "cn_unit"],
-  "styles": ["short", "compact", "long"],
   "values": [
     {"on": [], "off": [], "rows": [
       [0, 0, ["0", "0    ", "     0    ", "0m"]],
@@ -132,64 +120,6 @@ pub static VECTORS: &str = r##"{
     {"on": ["default_unit=\u00b5s"], "off": [], "rows": [[1, 500000, ["1s 500"]]]},
     {"on": ["default_unit=us"], "off": [], "rows": [[1, 500000, ["1s 500"]]]},
     {"on": ["default_unit=ns"], "off": [], "rows": [[18446744073, 709551615, ["18446744073709551615"]]]}
-  ],
-  "numbers": [
-    ["ms", 1500, 1, 500000000],
-    ["ms", 0, 0, 0],
-    ["ms", 18446744073709, 18446744073, 709000000],
-    ["s", 90, 90, 0],
-    ["s", 18446744073, 18446744073, 0],
-    ["min", 90, 5400, 0],
-    ["y", 1, 31536000, 0],
-    ["us", 9007199254740991, 9007199254, 740991000],
-    ["s", 1500, 1500, 0],
-    ["y", 0, 0, 0],
-    ["ns", 9007199254740991, 9007199, 254740991],
-    ["h", 2, 7200, 0]
-  ],
-  "refused_numbers": [
-    ["ms", -1, "expected a number at column 1, found \"-\" (negative durations are not read)"],
-    ["ms", 1.5, "expected a unit or the end at column 2, found \".\" (numbers have digits only: write 1500ms for 1.5s)"],
-    ["ms", 18446744073710, "duration of over 584 years in \"18446744073710\" (write the number's unit, such as ns)"],
-    ["s", -1, "expected a number at column 1, found \"-\" (negative durations are not read)"],
-    ["s", 0.5, "expected a unit, '+', '*' or the end at column 2, found \".\" (numbers have digits only: write 1500ms for 1.5s)"],
-    ["s", 18446744074, "duration of over 584 years in \"18446744074\" (write the number's unit, such as ns)"],
-    ["y", 585, "duration of over 584 years in \"585\" (write the number's unit, such as ns)"]
-  ],
-  "from": [
-    ["h", ".50000000000000000000", 1800000000000, 1800000000000],
-    ["s", "1e-05", 10000, 10000],
-    ["s", "1.2e+06", 1200000000000000, 1200000000000000],
-    ["s", "12.5E1", 125000000000, 125000000000],
-    ["s", "0.00015e4", 1500000000, 1500000000],
-    ["s", "0e999", 0, 0],
-    ["ns", "18446744073709551.615e3", 18446744073709551615, 18446744073709551615],
-    ["ns", "1e-99999", 0, 1],
-    ["ns", "0e99999", 0, 0],
-    ["min", " 1.5\t", 90000000000, 90000000000],
-    ["ms", "0.5", 500000, 500000],
-    ["ms", "0.0000009", 0, 1],
-    ["us", "1.9990", 1999, 1999],
-    ["us", "1.9991", 1999, 2000],
-    ["h", "0.333333333333333333", 1199999999999, 1200000000000],
-    ["y", "1.5", 47304000000000000, 47304000000000000],
-    ["y", "0.000000000000000032", 1, 2],
-    ["ns", "007.99", 7, 8],
-    ["s", "1.250000000999999999999999999999999999999999", 1250000000, 1250000001],
-    ["s", "18446744073.709551615", 18446744073709551615, 18446744073709551615],
-    ["s", "1e-10", 0, 1],
-    ["y", "1e-40", 0, 1],
-    ["s", "0e-40", 0, 0],
-    ["ms", "1.5", 1500000, 1500000],
-    ["s", "0.000000001000000000000000000", 1, 1],
-    ["s", "0.000000001000000000000000001", 1, 2],
-    ["s", "18446744073.709551616", "duration of over 584 years in \"18446744073.709551616\""],
-    ["s", "99999999999999999999.0", "duration of over 584 years in \"99999999999999999999.0\""],
-    ["s", " 1e12", "duration of over 584 years in \"1e12\""],
-    ["s", "1e99999", "duration of over 584 years in \"1e99999\""],
-    ["s", "664613997892457936451903530140172288.0", "duration of over 584 years in \"664613997892457936451903530140172288.0\""],
-    ["s", "99999999999999999999999999999999999999.9", "duration of over 584 years in \"99999999999999999999999999999999999999.9\""],
-    ["s", "999999999999999999999999999999999999999.9", "duration of over 584 years in \"999999999999999999999999999999999999999.\"..."]
   ],
   "printed": [
     ["0s", {}, "0s", "0 seconds", 0, 0],
@@ -514,11 +444,8 @@ pub static VECTORS: &str = r##"{
     ["+5m", [], "SYNTAX", 0, "+", ["number"], "expected a number at column 1, found \"+\" (a leading \"+\" is not read)", 0],
     ["+1s", ["require_unit"], "SYNTAX", 0, "+", ["number"], "expected a number at column 1, found \"+\" (a leading \"+\" is not read)", 0],
     ["1s -", ["require_unit"], "SYNTAX", 3, "-", ["number", "operator", "end"], "expected a number, '+', '*' or the end at column 4, found \"-\"", 3],
-    ["1h \"", [], "SYNTAX", 3, "\"", ["number", "operator", "end"], "expected a number, '+', '*' or the end at column 4, found \"\\\"\"", null],
     ["600y x", [], "OVERFLOW", 0, null, [], "duration of over 584 years in \"600y x\"", null],
     ["1s 2s*3s", ["require_unit"], "MIXED", null, null, [], "sum and product mixed in \"1s 2s*3s\"", null],
-    ["1m\n+\nx", [], "SYNTAX", 5, "x", ["number"], "expected a number at column 6, found \"x\"", null],
-    ["1\n2", [], "SYNTAX", 2, "2", ["unit", "operator", "end"], "expected a unit, '+', '*' or the end at column 3, found \"2\"", null],
     ["5 + 1h 30", ["require_unit"], "SYNTAX", 2, "+", ["unit"], "expected a unit at column 3, found \"+\" (write the number's unit: y, q, mon, w, d, h, min, s, ms, us or ns)", 2],
     ["2s*3 ", ["require_unit"], "SYNTAX", 5, null, ["unit"], "expected a unit at column 6, found the end (write the number's unit: y, q, mon, w, d, h, min, s, ms, us or ns)", 5],
     ["1m*60*20s", ["require_unit"], "SYNTAX", 5, "*", ["unit"], "expected a unit at column 6, found \"*\" (write the number's unit: y, q, mon, w, d, h, min, s, ms, us or ns)", 5],

@@ -57,16 +57,6 @@ where
             60,
             Some(30),
         ),
-        (
-            json!({ "timeout": "0", "keep_alive": "1y30" }),
-            0,
-            Some(31_536_030),
-        ),
-        (
-            json!({ "keep_alive": " 2h 37m ", "timeout": "3m31" }),
-            211,
-            Some(9_420),
-        ),
     ];
     for (value, timeout, keep_alive) in rows {
         let wanted = Settings {
@@ -74,18 +64,6 @@ where
             keep_alive: keep_alive.map(&length),
         };
         assert_eq!(settings(value), Ok(wanted));
-    }
-    if cfg!(not(feature = "no_calc")) {
-        for text in ["1y+30", "1 y + 30"] {
-            let wanted = Settings {
-                timeout: length(31_536_030),
-                keep_alive: Some(length(90)),
-            };
-            assert_eq!(
-                settings(json!({ "timeout": text, "keep_alive": "1min+30" })),
-                Ok(wanted)
-            );
-        }
     }
     let required = "expected expect duration string, e.g: '1min+30'";
     let optional = "expected expect duration string, null, or missing field";
@@ -109,24 +87,12 @@ where
             format!("invalid type: null, {required}"),
         ),
         (
-            json!({ "timeout": ["1s"] }),
-            format!("invalid type: sequence, {required}"),
-        ),
-        (
-            json!({ "timeout": "1m", "keep_alive": "600y" }),
-            "600y\n^\noverflow error".to_string(),
-        ),
-        (
             json!({ "timeout": "1m", "keep_alive": " " }),
             duration_str::parse(" ").unwrap_err(),
         ),
         (
             json!({ "timeout": "1m", "keep_alive": 30 }),
             format!("invalid type: integer `30`, {optional}"),
-        ),
-        (
-            json!({ "timeout": "1m", "keep_alive": [] }),
-            format!("invalid type: sequence, {optional}"),
         ),
     ];
     for (value, message) in rows {

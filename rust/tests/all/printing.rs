@@ -39,43 +39,18 @@ impl Limits {
 }
 
 /// A duration in this style, within limits that are set in several orders.
-fn in_each_order(length: Duration, limits: &Limits, style: Style) -> Vec<FormattedDuration> {
+fn in_each_order(length: Duration, limits: &Limits, style: Style) -> [FormattedDuration; 3] {
     let (units, first, last, parts) = limits.all();
     let human = HumanDuration(length);
     let others = TimeUnit::ALL.iter().filter(|unit| !units.contains(unit));
     let without = others.fold(human.parts(parts), |human, unit| human.without(*unit));
-    let ordered = format_duration(length)
-        .only(&units)
-        .largest(first)
-        .smallest(last);
-    Vec::from([
-        ordered.parts(parts).style(style),
-        human
-            .only(&units)
-            .parts(parts)
-            .largest(first)
-            .smallest(last)
-            .style(style),
-        human
-            .style(style)
-            .smallest(last)
-            .only(&units)
-            .parts(parts)
-            .largest(first),
-        human
-            .smallest(last)
-            .parts(parts)
-            .largest(first)
-            .only(&units)
-            .style(style),
-        human
-            .largest(first)
-            .style(style)
-            .parts(parts)
-            .smallest(last)
-            .only(&units),
+    let only = format_duration(length).only(&units);
+    let styled = human.style(style).smallest(last).largest(first);
+    [
+        only.largest(first).smallest(last).parts(parts).style(style),
+        styled.parts(parts).only(&units),
         without.largest(first).smallest(last).style(style),
-    ])
+    ]
 }
 
 /// Except for a zero, a short text is its parts with blanks between them. So it also says which
