@@ -118,7 +118,7 @@ def read(data, options):
         text if len(text) < 10_000 else text.strip(BLANKS)
     )  # The blanks around a long text would take long.
     unit = LENGTHS[options.get("from", "s")]
-    # Naming the second is the same as naming nothing.
+    # For any other text, naming the second is the same as naming nothing.
     no_calc = unit != reference.SECOND
     answer = reference.answer_of(
         text,

@@ -7,10 +7,10 @@
   or test that shows it, and has a hardest case: a text with its answer, or a test. The section of
   README.md has only sentences of that page. The documents of the packages, and those about texts,
   other programs and speed, have one sentence that leads there, and no other about proofs.
-- The helps in docs/GRAMMAR.md are those of lines in the vectors. In tables of README.md, GRAMMAR.md
-  and MIGRATING.md each text is answered as the reference parser answers it, and each duration
-  printed as it prints it. The same holds of the hardest cases. (tests/peers asks other libraries,
-  and the module `humantime`, which has other units.)
+- Each help in docs/GRAMMAR.md ends a line of the vectors. In tables of README.md, GRAMMAR.md and
+  MIGRATING.md each text is answered as the reference parser answers it, and each duration printed
+  as it prints it. The same holds of the hardest cases. (tests/peers asks other libraries, and the
+  module `humantime`, which has other units.)
 - The contracts that CALLING.md quotes are those of the sources, and the oldest versions of Rust,
   Python and Node are those that the packages name.
 - docs/MIGRATING.md has no code in its prose, since people paste code, and tests/documents only runs

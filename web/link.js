@@ -49,8 +49,8 @@ function isChoice(id, value) {
     return Array.from(lists[id].options, (one) => one.value).includes(value);
 }
 
-/** Takes a word about the units to print. Returns whether all its units exist, and one of them is
- * left. */
+/** Takes a word about the units to print. Returns whether all its units exist, and any unit is then
+ * left to print. */
 function takeUnits(id, names) {
     const places = names.map((name) => printedNames.indexOf(name));
     if (places.includes(-1)) return false;

@@ -20,8 +20,8 @@
 //!   each value below a day.
 //! - `calls SIDE refuse NAME COUNT`: reads a refused text, and writes its line into a buffer.
 //!   `texts.rs` has the names.
-//! - `calls SIDE error NAME COUNT`, `calls SIDE printed-error NAME COUNT`: reads a refused text by
-//!   `parse_duration`. The second call also prints the error into a `String`.
+//! - `calls crate error NAME COUNT`, `calls crate printed-error NAME COUNT`: reads a refused text
+//!   by `parse_duration`. The second call also prints the error into a `String`.
 #[allow(dead_code)] // for the other program
 mod ours;
 mod texts;

@@ -3,8 +3,8 @@ use std::time::Duration;
 
 pub const EXPRESSION: &str = "3m 13s 29ms";
 
-/// The units, by names that both libraries read, the longest first. The number is the limit of each
-/// unit's counts.
+/// The units, by names that this library and humantime read, the longest first. The number is the
+/// limit of each unit's counts.
 const UNITS: [(&str, u64); 10] = [
     ("y year years", 24),
     ("month months", 11),

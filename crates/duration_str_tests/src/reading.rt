@@ -117,7 +117,8 @@ fn reads_and_prints<T: Copy + HumanFormat>(
     }
 }
 
-/// Whether each call reads the text as a duration that prints as `printed` into a string.
+/// Whether `parse`, `parse_chrono` and `parse_time` read the text as a duration that prints as
+/// `printed` into a string.
 fn prints_into_strings(alloc: Global, text: &str, printed: &str) -> Result<bool, AllocError> {
     Ok(
         reads_and_prints(alloc, parse(text), printed)?

@@ -79,7 +79,7 @@ pub fn is_caused(
     }
 }
 
-/// The message's last line for a syntax fault at which this could stand.
+/// The message's last line for a syntax fault at whose place `expected` could stand.
 fn syntax_line(expected: Expected) -> &'static str {
     if expected.unit_word {
         UNITS

@@ -246,9 +246,10 @@ def format_many(
 
     For a list or any other iterable it returns a list of str. For a Series, an
     Index or a NumPy array it returns the same kind of column, with the dtype
-    `object` and the same shape, index and name. Such a column may also have
-    the type timedelta64, in units from weeks to nanoseconds. Missing values,
-    such as None, NaN and NaT, become None.
+    `object` and the same shape, index and name. (An array of pandas becomes
+    one of NumPy.) Such a column may also have the type timedelta64, in units
+    from weeks to nanoseconds. Missing values, such as None, NaN and NaT,
+    become None.
 
     It raises the errors of `format`, with the value's position in the message.
 

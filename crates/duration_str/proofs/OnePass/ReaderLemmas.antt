@@ -55,8 +55,8 @@ pub no_number : (r : Rules) (rest : Rest) (cause : Cause) → number_fault rest 
     → Err cause ≡ answer_left r rest
 no_number r rest cause h = search (rules, cases_Bool)
 
--- What is read before an operator, with and without `no_calc`: the unit after a number, and the
--- operator.
+-- If an operator comes next: what is read in place of the unit after a number, and as the operator
+-- after a unit, with and without `no_calc`.
 module _ (r : Rules) (rest after : Rest) (at : ℕ) (op : CondUnit) (is : rest ≡ terminal_at at (operator op) after) where
   pub unit_omitted : r.options.no_calc ≡ false
       → unit_read r rest ≡ leaving rest (ok_or r.default_unit (Syntax at (expected_after_number r)))

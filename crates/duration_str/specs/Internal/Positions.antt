@@ -65,7 +65,8 @@ packed_number_after o n (c ∷ letters) = packed_number_after o (n * 40 + letter
 abbrev pub packed_number : Options → Characters → ℕ
 packed_number o letters = packed_number_after o 0 letters
 
--- The characters from `place` to `next` are digits, and `value` is their number modulo 2^64.
+-- The characters from `place` to `next` are digits, and `value` is the number that they write,
+-- modulo 2^64.
 pub record TakesDigits (text : Bytes) (place next value : ℕ) : Type 0 where
   pub run : Passes is_digit text place next
   pub number : value ≡ number_of run.characters % 2 ^ 64
