@@ -19,6 +19,10 @@ GROUPS = {
     "python": ("c/src python/src bench/c*.py", "bench/run --write"),
     "javascript": ("c/src js/src bench/*.mjs", "bench/run --write"),
     "lines": ("shell/src", "bench/run --write"),
+    "growth": (
+        "rust/src c/src python/src bench/src bench/growth.py",
+        "bench/run --growth --write",
+    ),
     "shell": ("shell/src program/src", "bench/run --shell --write"),
 }
 COMMENT = r"^\s*(//|# |/?\*+ )"

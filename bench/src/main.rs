@@ -10,6 +10,8 @@
 //!   figure for values below a day, and the figure for all values.
 //! - `bench peer human_format` or `to_string`: prints the figures that `bench/peers` needs, for the
 //!   texts of the standard input.
+//! - `bench column FILE THREADS`: reads each line of a file, in threads that share the lines, and
+//!   prints the sum of the nanoseconds modulo 2^64.
 //! - `bench calls WORDS COUNT`: makes humantime's calls. The words are those of `calls.rs` after
 //!   SIDE.
 mod ours;
@@ -190,6 +192,34 @@ fn peer(printing: &str) {
     );
 }
 
+/// Reads the lines of a file in threads, and prints the sum of their nanoseconds.
+fn column(file: &str, threads: usize) {
+    let lines = std::fs::read_to_string(file).expect("a file of texts");
+    let mut rest = lines.as_str();
+    let sum = std::thread::scope(|scope| {
+        let mut sums = Vec::new();
+        for left in (1..=threads).rev() {
+            let near = rest.len() / left;
+            let end = rest[near..].find('\n').map_or(rest.len(), |at| near + at);
+            let (part, after) = rest.split_at(end);
+            rest = after;
+            let nanos = |text| {
+                parse_duration(text)
+                    .expect("a text that is read")
+                    .as_nanos() as u64
+            };
+            let texts = part
+                .split_terminator('\n')
+                .skip_while(|text| text.is_empty());
+            sums.push(scope.spawn(move || texts.map(nanos).fold(0, u64::wrapping_add)));
+        }
+        sums.into_iter()
+            .map(|sum| sum.join().expect("a sum"))
+            .fold(0, u64::wrapping_add)
+    });
+    println!("{sum}");
+}
+
 fn main() {
     let words: Vec<String> = std::env::args().skip(1).collect();
     let words: Vec<&str> = words.iter().map(String::as_str).collect();
@@ -198,6 +228,7 @@ fn main() {
         ["times"] => times(),
         ["styles"] => styles(),
         ["peer", printing] => peer(printing),
+        ["column", file, threads] => column(file, threads.parse().expect("a number")),
         ["calls", words @ .., count] => calls::<Humantime>(words, count.parse().expect("a count")),
         _ => panic!("see the first lines of src/main.rs"),
     }
