@@ -1,4 +1,4 @@
-"""Reads a text on each line of a file, and prints the sum of the lengths in nanoseconds, modulo 2^64.
+"""Reads a text on each line of a file, and prints the sum of their nanoseconds modulo 2^64.
 
 growth.py list FILE  reads a list of all lines in this process
 growth.py dask FILE  reads parts of 32 MB by Dask, in four processes

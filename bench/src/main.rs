@@ -200,7 +200,9 @@ fn column(file: &str, threads: usize) {
         let mut sums = Vec::new();
         for left in (1..=threads).rev() {
             let near = rest.len() / left;
-            let end = rest[near..].find('\n').map_or(rest.len(), |at| near + at);
+            let end = rest[near..]
+                .find('\n')
+                .map_or(rest.len(), |at| near + at + 1);
             let (part, after) = rest.split_at(end);
             rest = after;
             let nanos = |text| {
@@ -208,10 +210,7 @@ fn column(file: &str, threads: usize) {
                     .expect("a text that is read")
                     .as_nanos() as u64
             };
-            let texts = part
-                .split_terminator('\n')
-                .skip_while(|text| text.is_empty());
-            sums.push(scope.spawn(move || texts.map(nanos).fold(0, u64::wrapping_add)));
+            sums.push(scope.spawn(move || part.lines().map(nanos).fold(0, u64::wrapping_add)));
         }
         sums.into_iter()
             .map(|sum| sum.join().expect("a sum"))
