@@ -41,6 +41,13 @@ fn shows_tokens_to_programmers() {
 }
 
 #[test]
+fn finds_no_token_inside_a_token() {
+    let at_1 = parse_with("1x", Options::off()).unwrap_err().cause();
+    let inside = proved::Fault::new("12", at_1).unwrap();
+    assert_eq!(inside.found(Options::off()), None);
+}
+
+#[test]
 fn keeps_faults_in_sets() {
     let causes = [
         "",
