@@ -1,10 +1,14 @@
 // The names and lengths of units, operators, and tokens.
+ghost use Rattle.std.specs.Prelude.{◌≡◌, ◌<◌, chars, length, IsTrue};
+ghost use Rattle.std.specs.Char.{is_ascii_digit};
+ghost use Rattle.std.specs.List.{list_all};
+
 use crate::assertions::{holds, holds_in_memory, prints};
 use crate::shared::OFF;
 use duration_str::TimeUnit::{
     Day, Hour, MicroSecond, MilliSecond, Minute, Month, NanoSecond, Quarter, Second, Week, Year,
 };
-use duration_str::{CondUnit, TimeUnit, Token, Tokens, What, parse_looked};
+use duration_str::{Cause, CondUnit, TimeUnit, Token, Tokens, What, parse_looked};
 use std::alloc::{AllocError, Global};
 
 /// Each unit with its length in nanoseconds and its printed name.
@@ -29,6 +33,36 @@ fn measures_and_prints_units(rt: HostRuntime) {
         holds_in_memory(&rt, name, prints(rt.alloc(), &unit, name));
     }
     assert!(rt; TimeUnit::default() == TimeUnit::Second);
+}
+
+/// Whether each character is a digit.
+#[tactic(auto)]
+fn are_digits(text: &str) -> bool
+    ensures { result ≡ list_all is_ascii_digit (chars text.now) }
+{
+    text.chars().all(|c| c.is_ascii_digit())
+}
+
+/// Whether there is a character.
+#[tactic(auto)]
+fn has_characters(text: &str) -> bool
+    ensures { IsTrue result → 0 < length (chars text.now) }
+{
+    text.chars().next().is_some()
+}
+
+#[test]
+fn refuses_terms_without_a_place(rt: HostRuntime) {
+    for (number, cause) in [
+        (
+            "99999999999999999999",
+            Cause::NumberTooLarge { place: None },
+        ),
+        ("600", Cause::Overflow { place: None }),
+    ] {
+        assert!(rt; has_characters(number) && are_digits(number));
+        holds(&rt, number, TimeUnit::Year.value(number) == Err(cause));
+    }
 }
 
 /// Whether a unit and an operator are padded as their formats say.
