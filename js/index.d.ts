@@ -283,8 +283,9 @@ export declare const version: string;
  * @throws RangeError if `defaultUnit` names no unit, stands beside `requireUnit`, or is not the
  * second while `noCalc` is `false`. It is also thrown if a number is NaN, or if it is 2^53 or more,
  * since it can have lost digits then.
- * @throws Error if WebAssembly is missing or refused. The other functions throw it too. The message
- * says what to do, and the `cause` is the engine's error. The next call tries again.
+ * @throws Error if WebAssembly is missing or refused. The other functions that read, print or count
+ * throw it too. The message says what to do, and the `cause` is the engine's error. The next call
+ * tries again.
  */
 export function parse(text: string, options?: Options): number;
 export function parse(value: string | number | bigint, options: NumberOptions): number;

@@ -33,8 +33,8 @@ use duration_str_core::{Breakdown, FORMAT_BUFFER_SIZE, Format, Style, TimeUnit, 
 ///
 /// Each call that chooses units only takes units away, so you can make these calls in any order. If
 /// the largest unit that you ask for is shorter than the smallest, no unit is left, and each
-/// duration prints as `0s`. The same is true if you ask for no unit. These calls can't fail, so if
-/// a user chooses the units, compare them first:
+/// duration prints as zero seconds. The same is true if you ask for no unit. These calls can't
+/// fail, so if a user chooses the units, compare them first:
 ///
 /// ```
 /// use duration_str::{Style, TimeUnit, format_duration};
@@ -207,7 +207,7 @@ chooses! {
     without: TimeUnit,
 
     /// Leaves out the units that are longer than this one. If it is shorter than the smallest unit,
-    /// no unit is left, and each duration prints as `0s`.
+    /// no unit is left, and each duration prints as zero seconds.
     ///
     /// ```
     /// use duration_str::{TimeUnit, format_duration};
@@ -219,7 +219,7 @@ chooses! {
     largest: TimeUnit,
 
     /// Leaves out the units that are shorter than this one. If it is longer than the largest unit,
-    /// no unit is left, and each duration prints as `0s`.
+    /// no unit is left, and each duration prints as zero seconds.
     ///
     /// ```
     /// use duration_str::{TimeUnit, format_duration};

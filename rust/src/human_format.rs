@@ -43,7 +43,7 @@ pub trait HumanFormat: Sealed {
     fn formatted(&self) -> FormattedDuration;
 
     /// Returns the text of the duration: the counts of the units from the years to the nanoseconds,
-    /// without the counts that are 0.
+    /// without the counts that are 0. If all are 0, the text is `0s`.
     #[must_use]
     fn human_format(&self) -> String {
         self.formatted().to_string()

@@ -20,9 +20,8 @@
 //! - a blank within a number, as in `1 000ms`, and any blank except a space, a tab, a carriage
 //!   return or a line feed, such as a form feed
 //!
-//! As in humantime, a number without a unit is refused. Unlike humantime, this module reads `+`,
-//! `*`, `mon` and the quarter of 91 days. `docs/MIGRATING.md` in the repository lists the
-//! differences.
+//! A number without a unit is refused. Unlike humantime, this module reads `+`, `*`, `mon` and the
+//! quarter of 91 days. `docs/MIGRATING.md` in the repository lists the differences.
 //!
 //! All items and traits of humantime 2.4 that are about durations are here, except the variants of
 //! its error. Use [`DurationError::cause`] to find out why a text is refused. humantime's

@@ -1,6 +1,6 @@
 //! This crate reads durations as people write them, such as `1h 30m`, from a command line, a
 //! configuration file or any other text. It also prints them, such as `1h 30min`. If a text can't
-//! be read, the error says in one line what is wrong.
+//! be read, the error says what is wrong.
 //!
 //! ```
 //! use duration_str::{format_duration, parse_duration};

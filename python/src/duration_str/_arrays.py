@@ -196,13 +196,13 @@ def to_timedelta(
     pandas has made of integers with gaps.
 
     With `errors="raise"` the first text that is refused raises a
-    DurationError, whose `index` is the text's position. So does a text of
-    2**63 nanoseconds or more, which is some 292 years, since timedelta64 can't
-    hold it. A number is refused as the text of its digits would be. Any other
-    value, such as bytes, or a number without a default unit, raises
-    DurationTypeError, even if a text before it is refused. A timedelta of
-    2**63 nanoseconds or more raises OverflowError. With `errors="coerce"` all
-    of these become NaT.
+    DurationError, whose `index` is the text's position in a column. So does a
+    text of 2**63 nanoseconds or more, which is some 292 years, since
+    timedelta64 can't hold it. A number is refused as the text of its digits
+    would be. Any other value, such as bytes, or a number without a default
+    unit, raises DurationTypeError, even if a text before it is refused. A
+    timedelta of 2**63 nanoseconds or more raises OverflowError. With
+    `errors="coerce"` all of these become NaT.
     """
     raises = raises_errors(errors)
     reading = _native.reading(

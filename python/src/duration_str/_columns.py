@@ -149,9 +149,9 @@ def parse_many(
     require_unit: bool = False,
     default_unit: Unit = UNNAMED,
 ) -> array[int] | tuple[array[int], array[int]]:
-    """Reads texts, any iterable of str, and returns their values in
-    nanoseconds as an `array('Q')`. The options are those of `parse_ns`. If you
-    name a default unit, whole numbers are read too, as by `parse_ns`.
+    """Reads the texts of an iterable, such as a list, and returns their values
+    in nanoseconds as an `array('Q')`. The options are those of `parse_ns`. If
+    you name a default unit, whole numbers are read too, as by `parse_ns`.
 
     With `errors="raise"` the first text that is refused raises a
     DurationError, whose `index` is the text's position. With a default unit, a

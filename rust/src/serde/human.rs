@@ -10,9 +10,9 @@
 //!   [`human_or_seconds`](crate::human_or_seconds) and
 //!   [`human_or_millis`](crate::human_or_millis) also read numbers.
 //! - The empty text is refused.
-//! - `None` is written as null, and read from null. With `#[serde(default)]` a missing field is
-//!   `None` too.
-//! - The error's message is `invalid duration: ` and the line of the fault.
+//! - `None` is the format's null. With `#[serde(default)]` a missing field is `None` too.
+//! - If a text is refused, the error's message is `invalid duration: ` and the line of the fault, to
+//!   which a format may add its own line and column.
 //!
 //! Everything that is written can be read back. So writing fails for a negative duration, and for
 //! one of 2^64 nanoseconds or more, which is some 584 years.
