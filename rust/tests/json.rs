@@ -32,6 +32,13 @@ fn both_ways(json: &str) -> [Result<Duration, Error>; 2] {
 }
 
 #[test]
+fn only_the_crate_precision_has_the_feature() {
+    // Without the feature, serde_json refuses a number that no float can hold.
+    let has_feature = serde_json::from_str::<serde_json::Value>("1e400").is_ok();
+    assert_eq!(has_feature, env!("CARGO_PKG_NAME") == "precision");
+}
+
+#[test]
 fn reads_whole_numbers() {
     for (json, secs) in [
         ("30", 30),
