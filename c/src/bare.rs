@@ -1,8 +1,8 @@
 //! The items that a library without Rust's `std` has to define.
 use core::panic::PanicInfo;
 
-// It is proved that no call panics, but the compiler does not always know this, and asks for a
-// handler.
+// For 64-bit processors it is proved that no call panics, but the compiler does not always know
+// this, and asks for a handler.
 #[panic_handler]
 fn panic(_: &PanicInfo<'_>) -> ! {
     abort()

@@ -180,8 +180,8 @@ impl Run<'_> {
         }
     }
 
-    /// Writes the JSON object of a text that is read. Nanoseconds are strings, since other
-    /// programs drop digits of a number.
+    /// Writes the JSON object of a text that is read. Nanoseconds are strings, since some programs
+    /// drop digits of long numbers.
     fn object(&mut self, text: &str, nanos: u64) -> io::Result<()> {
         self.output.write_all(b"{\"text\":")?;
         serde_json::to_writer(&mut self.output, text)?;

@@ -720,8 +720,8 @@ static PyObject *limits(
     return Py_BuildValue("(III)", limits.units, limits.parts, limits.style);
 }
 
-/* After this many values of a column, other threads may run, and a signal may end the call. Reading
- * or printing this many values takes less than a millisecond. */
+/* After this many values of a column, other threads may run, and a signal may end the call. For
+ * values such as `3m 13s 29ms` that is after half a millisecond. */
 static const Py_ssize_t A_TURN = 4096;
 
 /* Lets other threads run. Returns -1 with an error if a signal has raised one. */
