@@ -1,4 +1,4 @@
--- The date in UTC to which the value of a text moves a moment.
+-- The date in UTC, after or before a moment by as much as a text says.
 use Rattle.std.specs.Prelude.{◌≡◌, ℕ, ◌<◌, ℤ, pos, ◌+ℤ◌, ◌*ℤ◌, ◌<ℤ◌, ◌≤ℤ◌, neg_ℤ, ◌⊎◌, Result, chars}
 use Rattle.jiff.specs.Types.{Date, DateTime}
 use Rattle.jiff.specs.Words.{epoch_day, time_nanos}

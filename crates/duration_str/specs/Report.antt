@@ -1,4 +1,4 @@
--- A fault for a terminal: the text, a caret below its place, and the line.
+-- A fault for a terminal: its line, or the text, a caret and its line.
 use Rattle.std.specs.Prelude.{ℕ, ◌+◌, Bool, ◌&&◌, if◌then◌else◌, nat_le, length, take, chars}
 use Rattle.std.specs.List.{list_all, count_by}
 use Rattle.duration_str.specs.declared.cause.Cause.{Cause}
@@ -11,7 +11,7 @@ use Rattle.duration_str.specs.OneLine.{is_clear, one_line_of}
 abbrev pub is_clear_text : Characters → Bool
 is_clear_text text = nat_le (length text) 80 && list_all is_clear text
 
--- whether a character counts as two columns of a terminal. Only digits, operators, spaces and the
+-- whether a character counts as two columns of a terminal. Only digits, operators, blanks and the
 -- letters of units stand before a syntax fault, and of these only the Chinese letters are from
 -- U+2E80 on
 abbrev pub is_wide : ℕ → Bool
