@@ -17,8 +17,8 @@ use std::alloc::{AllocError, Global};
 use std::process::Abort;
 use std::time::Duration;
 
-/// Whether each call that reads under these options, and counts seconds, reads the text as this
-/// many nanoseconds.
+/// Whether the text is read as this many nanoseconds by calls that read under these options and
+/// count seconds.
 fn is_read_in_seconds(text: &str, o: Options, nanos: u64) -> bool {
     let plain = Duration::from_nanos(nanos);
     let signed = SignedDuration::from_nanos_i128(i128::from(nanos));
@@ -30,8 +30,8 @@ fn is_read_in_seconds(text: &str, o: Options, nanos: u64) -> bool {
             || is_value(parse_chrono(text), signed) && is_value(parse_time(text), signed))
 }
 
-/// Whether each call that reads with these options and this default unit reads the text as this
-/// many nanoseconds.
+/// Whether the text is read as this many nanoseconds by calls that read with these options and this
+/// default unit.
 fn is_read(text: &str, o: Options, default_unit: Option<TimeUnit>, nanos: u64) -> bool {
     let length = parse_with_default_unit(text, o, default_unit);
     is_value(length, Duration::from_nanos(nanos))
