@@ -19,7 +19,8 @@ pub part_skipped : (u : TimeUnit) (us : List TimeUnit) (most nanos : ℕ) → na
     → parts_in us most nanos ≡ parts_in (u ∷ us) most nanos
 part_skipped u us most nanos long = search rules
 
--- Otherwise its part comes first, and the other parts are those of the remainder.
+-- Otherwise, if a part is allowed, its part comes first, and the other parts are those of the
+-- remainder.
 pub part_taken : (u : TimeUnit) (us : List TimeUnit) (most nanos : ℕ) → 1 ≤ most → nanos_of u ≤ nanos
     → parts_in (u ∷ us) most nanos ≡ (u, nanos / nanos_of u) ∷ parts_in us (most - 1) (nanos % nanos_of u)
 part_taken u us most nanos left h = search rules
