@@ -131,7 +131,7 @@ unit_help (Some name) help = name_help (encode_utf8_all name)
 unit_help None help = help_or_units help
 
 -- the help for a piece that has only blanks before it, given the piece's bytes and the byte after
--- it. There is help for a sign before a digit or a point, and for `P` or `PT` before a digit
+-- it. There is help for `-` or `+` before a digit or a point, and for `P` or `PT` before a digit
 abbrev pub first_help : Bytes → ℕ → Bytes
 first_help piece next =
     let is_signed = is_digit next || next == 46 in

@@ -119,7 +119,7 @@ evaluation_fault (t ∷ u ∷ later) =
     (unless (fits (combination u.operator (value_of_term t) (later_total u.operator (u ∷ later)))) (Overflow None))
 evaluation_fault _ = None
 
--- There is a term, every number, term and step is below 2^64, and the operators are not mixed.
+-- There is a term. Every number, term and step is below 2^64, and the operators are not mixed.
 abbrev pub Evaluates : List Term → Type 0
 Evaluates [] = ⊥
 Evaluates (t ∷ later) = (term_fault None t ≡ None) × (evaluation_fault (t ∷ later) ≡ None)
