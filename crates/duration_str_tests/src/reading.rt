@@ -1,5 +1,4 @@
-// What texts are read as, by each call that reads under their options, and what the durations print
-// as.
+// What texts are read as, and what the durations print as.
 use crate::assertions::{holds, holds_in_memory, is_human_format, is_value};
 use crate::rows::{
     excludes, includes, list_at, listed, named_options, named_unit, number_at, options_of,
@@ -57,8 +56,8 @@ fn reads_row(rt: &impl Abort, row: &Value, o: Options, default_unit: Option<Time
     }
 }
 
-/// Fails unless the texts of a group are read under each choice that has its options on which are
-/// named after `on`, and off which are named after `off`.
+/// Fails unless the texts of a group are read under each choice of options in which those that the
+/// group lists as `on` are on, and those that it lists as `off` are off.
 fn reads_group(rt: &impl Abort, group: &Value) {
     let on = listed(group, "on");
     for bits in 0..8u8 {
@@ -143,7 +142,7 @@ fn prints_row(rt: &impl Abort, alloc: Global, row: &Value) {
     holds(rt, text, parse(printed) == parse(text));
 }
 
-/// The unit that limits name as `largest` or `smallest`, or the other one if they name none.
+/// The unit that limits name as `largest` or `smallest`, or `otherwise` if they name none.
 fn limit_at(limits: &Value, name: &str, otherwise: TimeUnit) -> Option<TimeUnit> {
     match limits.get(name) {
         Some(unit) => TimeUnit::from_word(unit.as_str()?, OFF),
@@ -190,7 +189,7 @@ fn leaves_rest(row: &Value, length: Duration, format: Format) -> bool {
 }
 
 /// Whether the text of a row is read as a duration that prints, in two styles, and breaks down as
-/// the row says. Texts of more than 584 years are not read.
+/// the row says. It is also true for a text that is refused, such as one of more than 584 years.
 fn prints_in_format(row: &Value, format: Format) -> bool {
     let Ok(length) = parse(text_at(row, 0)) else {
         return true;
@@ -201,7 +200,7 @@ fn prints_in_format(row: &Value, format: Format) -> bool {
         && leaves_rest(row, length, format)
 }
 
-/// Whether all of a duration is printed in this format.
+/// Whether this is the format in which `write_human` prints.
 fn is_whole(format: Format) -> bool {
     format == Format::whole()
 }
