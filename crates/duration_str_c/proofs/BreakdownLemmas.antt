@@ -129,7 +129,7 @@ with_counts_after f k ((u, n) ∷ parts) none (from, are) =
     ∙ same_values (λ v. with_value f u n v + count_of parts v) (λ v. f v + count_of ((u, n) ∷ parts) v) units
     (value_and_count f k u n parts none from are)
 
--- If the counts of the parts are written over zeros, these are the counts of all units.
+-- Written over zeros, the counts of the parts give the counts of all units.
 pub with_counts_all : (parts : List (TimeUnit × ℕ)) → PartsFrom 0 parts
     → with_counts (map (λ u. 0) units) parts ≡ counts_of parts
 with_counts_all parts are =

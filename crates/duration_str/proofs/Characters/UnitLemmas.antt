@@ -102,7 +102,7 @@ module _ (o : Options) where
   named_unit w u h =
       found_only w units u h (all_units (λ u. list_any (λ v. eqb (nanos_of v) (nanos_of u)) units) refl u)
 
--- ---- The printed names: their lengths in bytes, and that they are characters
+-- ---- The printed names: their lengths in bytes
 
 pub length_name : (u : TimeUnit) → length (encode_utf8_all (row_of u).printed) ≡ byte_len (row_of u).printed
 unfolding lib.Utf8.encode
