@@ -195,7 +195,8 @@ named_by_number table o w u letters =
 
 -- ---- words that name no unit
 
--- A word names no unit if all names pass a test that the word fails.
+-- A word names no unit if all names pass a test that the form in which it is compared with them
+-- fails.
 pub no_name : (r : Rules) (w : List ℕ) (test : List ℕ → Bool)
     → list_all (λ u. list_all test (all_names_in r.table u)) units ≡ true
     → test (comparison_form r.options w) ≡ false → None ≡ unit_of_word r w

@@ -25,7 +25,7 @@ pub part_taken : (u : TimeUnit) (us : List TimeUnit) (most nanos : ℕ) → 1 �
     → parts_in (u ∷ us) most nanos ≡ (u, nanos / nanos_of u) ∷ parts_in us (most - 1) (nanos % nanos_of u)
 part_taken u us most nanos left h = search rules
 
--- There are at most as many parts as are allowed, and at most one for each unit.
+-- There are at most as many parts as are allowed, and at most as many as units.
 pub parts_few : (us : List TimeUnit) (most nanos : ℕ)
     → (length (parts_in us most nanos) ≤ most) × (length (parts_in us most nanos) ≤ length us)
 parts_few [] most nanos = omega arith

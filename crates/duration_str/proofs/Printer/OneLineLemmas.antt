@@ -361,7 +361,7 @@ taken_first first text rest utf8 parts = record {
   whole = rw (chars_past_char text rest first utf8 parts) refl;
 }
 
--- If the next character is like the first one, it is taken too.
+-- If the next character is like the first one, and one more may follow, it is taken too.
 pub taken_more : (first : ℕ) (text rest after : List ℕ) (left c : ℕ) → IsUtf8 rest → rest ≡ encode_utf8 c ++ after
     → left ≢ 0 → is_like first c ≡ true → Taken first text rest left → Taken first text after (left - 1)
 taken_more first text rest after zero c utf8 parts some like before = absurd (some refl)
