@@ -16,8 +16,8 @@ use Rattle.duration_str.specs.Messages.{line_of, chars_before}
 
 -- ---- What is quoted
 
--- whether a character is the space, or one that can be seen. Those that can't are control
--- characters, other blanks, and others such as marks of direction, tags and the soft hyphen
+-- whether a character is plain. Not plain are control characters, blanks other than the space, and
+-- some others that can't be seen, such as marks of direction, tags and the soft hyphen
 abbrev pub is_plain : ℕ → Bool
 is_plain c =
     not (is_control c || c == 0xA0 || c == 0xAD || c == 0x34F || c == 0x61C || is_in_range 0x115F 0x1160 c

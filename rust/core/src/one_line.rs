@@ -240,7 +240,7 @@ pub(crate) fn is_clear(c: char) -> bool {
     is_plain(c) && c != '"' && c != '\\'
 }
 
-/// Whether a character is plain: the space, or one that can be seen.
+/// Whether a character is plain: no control character, and none that `is_hidden` lists.
 #[inline(always)]
 fn is_plain(c: char) -> bool {
     c >= ' ' && (c <= '~' || !is_hidden(c))
