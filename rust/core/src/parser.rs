@@ -86,8 +86,8 @@ pub fn parse_with(input: &str, o: Options) -> Result<Duration, Fault<'_>> {
 /// each number must have its unit, so only a unit can follow a number.
 ///
 /// A product multiplies its terms in seconds, and a factor without a unit counts the default unit
-/// too: in milliseconds `90s*2` is 180 ms. If the numbers in your texts are milliseconds, turn on
-/// `no_calc`, so that operators are refused. The call allocates nothing.
+/// too: with milliseconds, `90s*2` is 180 ms. If the numbers in your texts are milliseconds, turn
+/// on `no_calc`, so that operators are refused. The call allocates nothing.
 ///
 /// # Errors
 ///
