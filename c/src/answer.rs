@@ -1,5 +1,5 @@
 // Made by tools/erase of crates/duration_str_c/src/answer.rt.
-//! The answer to a text as a C struct: its value, or everything about its fault.
+//! The answer to a text as a C struct: its value, or why it is refused.
 
 use duration_str_core::{Cause, CondUnit, Expected, Fault, Options};
 

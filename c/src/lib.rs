@@ -1,7 +1,7 @@
 // Made by tools/erase of crates/duration_str_c/src/lib.rt.
-//! The library for C: `include/duration_str.h` declares these functions.
+//! The calls that `include/duration_str.h` declares for C, with slices in place of pointers.
 //!
-//! The functions allocate nothing. They refuse bytes that are not UTF-8.
+//! They allocate nothing. Those that read bytes refuse them if they are not UTF-8.
 #![no_std]
 
 mod abi; // Written by hand, as the next.
@@ -49,8 +49,8 @@ pub(crate) fn options_of_bits(bits: u32) -> Options {
     }
 }
 
-/// Whether each bit that is set belongs to an option. With a default unit among the bits, operators
-/// must be off, and units must not be required.
+/// Whether the bits are options. Each bit that is set must belong to an option. If the bits hold a
+/// default unit, it must be one of `UNITS`, operators must be off, and units must not be required.
 pub(crate) fn are_options(bits: u32) -> bool {
     let number = bits >> DEFAULT_UNIT;
     bits & OPTIONS == bits

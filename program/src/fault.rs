@@ -1,9 +1,9 @@
 // Made by tools/erase of crates/durstr_run/src/fault.rt.
-//! The reasons why a run ends early.
+//! The reasons why a run fails.
 
 use crate::outside::AllocError;
 
-/// Why a run ended before everything was written.
+/// Why a run failed.
 #[derive(Clone, Copy, Debug, PartialEq, Eq)]
 pub enum RunFault {
     /// A read failed.

@@ -19,9 +19,9 @@ use std::io::{Read, Write};
 /// `Vec<u8>`, the clauses say exactly which bytes were read and added. Standard input and output,
 /// files and sockets don't say which bytes they have, so the clauses say nothing about them.
 ///
-/// The result is `Ok(true)` if every line was accepted, and `Ok(false)` if some line was not. In
-/// both cases everything was written and flushed. The input may have at most 1,048,576 bytes. After
-/// the errors `Read`, `TooLong` and `Memory` nothing was written. After `Write` a beginning of the
+/// `Ok(true)` means that every line was accepted, and `Ok(false)` that some line was not. In both
+/// cases everything was written and flushed. The input may have at most 1,048,576 bytes. After the
+/// errors `Read`, `TooLong` and `Memory` nothing was written. After `Write` a beginning of the
 /// output was written.
 ///
 /// ```text

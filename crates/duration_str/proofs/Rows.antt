@@ -131,7 +131,7 @@ pub record Answers : Type 0 where
   pub capital_quarters-read : answer (rules_of off) (codes "2 Quarters") ≡ Ok 15_724_800_000_000_000
   pub capital_quarter-lowercase_refused : answer (rules_of with_lowercase) (codes "1Q") ≡ Err (Syntax 1 after_number)
   pub longer_word_than_quarter-refused : answer (rules_of off) (codes "1qs") ≡ Err (Syntax 1 after_number)
-  -- Before the quarter was added, its names named no unit, and units had 40 other names.
+  -- Before the quarter was added, its names named no unit.
   pub quarter_was_no_unit : map (unit_of_word (older_rules off)) (row_of Quarter).names ≡ None ∷ None ∷ None ∷ []
 
 pub answers : Answers
@@ -290,7 +290,7 @@ pub record HumantimeUnits : Type 0 where
       ≡ Ok 34_187_616_000_000_000
   -- if capitals are read as small letters, `M` is a minute
   pub folded : answer (humantime_rules off) (codes "1M 1MINS") ≡ Ok 120_000_000_000
-  -- humantime's names are no names elsewhere
+  -- names that only humantime has are no names elsewhere
   pub elsewhere-refused : map (answer (rules_of with_lowercase)) (codes "1mins" ∷ codes "1M" ∷ codes "1yr" ∷ [])
       ≡ Err (Syntax 1 after_number) ∷ Err (Syntax 1 after_number) ∷ Err (Syntax 1 after_number) ∷ []
 
@@ -539,7 +539,7 @@ lines = assumption
 -- ---- Characters
 
 pub record Classes : Type 0 where
-  -- the first and the last of each range of characters that are escaped
+  -- the first and the last of each range of characters that are not plain
   pub hidden : list_any is_plain (
       0 ∷ 0x1F ∷ 0x7F ∷ 0xA0 ∷ 0xAD ∷ 0x34F ∷ 0x61C ∷ 0x115F ∷ 0x1160 ∷ 0x1680 ∷ 0x17B4 ∷ 0x17B5 ∷ 0x180B ∷ 0x180F
       ∷ 0x2000 ∷ 0x200F ∷ 0x2028 ∷ 0x202F ∷ 0x205F ∷ 0x206F ∷ 0x2800 ∷ 0x3000 ∷ 0x3164 ∷ 0xFE00 ∷ 0xFE0F ∷ 0xFEFF ∷ 0xFFA0

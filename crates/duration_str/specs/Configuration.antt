@@ -31,13 +31,13 @@ ParsesAsSome nanos_of bytes result = ParsesBy (λ o nanos. IsSomeAnd o (λ v. na
 abbrev pub IsNotText : {T : Type 0} → Bool → Result T Fault → Type 0
 IsNotText optional result = IsValueOrFault (λ v. ⊥) (λ cause. cause ≡ NotText optional) [] result
 
--- A required value: if it is a text, it is read, and otherwise it is refused.
+-- A required value: a text is read, or refused for its cause. Any other value is refused.
 abbrev pub IsRequired : {T : Type 0} → (T → ℤ) → Data → Result T Fault → Type 0
 IsRequired nanos_of (string text) result = ParsesAs nanos_of text result
 IsRequired nanos_of _ result = IsNotText false result
 
 -- An optional value: if it is null or the empty text, the result is `None`. Any other text is read,
--- and any other value is refused.
+-- or refused for its cause. Any other value is refused.
 abbrev pub IsOptional : {T : Type 0} → (T → ℤ) → Data → Result (Option T) Fault → Type 0
 IsOptional nanos_of null result = result ≡ Ok None
 IsOptional nanos_of (string []) result = result ≡ Ok None

@@ -1,4 +1,4 @@
--- The date in UTC to which the value of a text moves a moment.
+-- The date in UTC, after or before a moment by as much as a text says.
 use Rattle.std.specs.Prelude.{◌≡◌, ℕ, ◌<◌, ℤ, pos, ◌+ℤ◌, ◌*ℤ◌, ◌<ℤ◌, ◌≤ℤ◌, neg_ℤ, ◌⊎◌, Result, chars}
 use Rattle.jiff.specs.Types.{Date, DateTime}
 use Rattle.jiff.specs.Words.{epoch_day, time_nanos}
@@ -51,9 +51,9 @@ IsDateFault reached bytes cause =
     IsRefused (rules_of off) (chars bytes) cause
     ⊎ ((nanos : ℕ) × IsRead (rules_of off) (chars bytes) nanos × IsOutOfRange (reached nanos) × (cause ≡ OutOfRange))
 
--- The text is read, the instant that its value reaches is in range, and `shows` holds for it and
--- the value in `Ok`. Otherwise the result is a fault with this text, and `IsDateFault` holds for
--- its cause.
+-- The text is read, the instant that its value reaches is in range, and `shows` holds for that
+-- instant and the value in `Ok`. Otherwise the result is a fault with this text, and `IsDateFault`
+-- holds for its cause.
 abbrev pub IsDated : {T : Type 0} → (ℤ → T → Type 0) → (ℕ → ℤ) → Bytes → Result T Fault → Type 0
 IsDated shows reached bytes result =
     IsValueOrFault (λ v. (nanos : ℕ)

@@ -90,7 +90,7 @@ abbrev pub last_unit : TimeUnit → List TimeUnit → TimeUnit
 last_unit u [] = u
 last_unit u (v ∷ us) = last_unit v us
 
--- the units that are shorter than the last of these, or shorter than the second if there are none
+-- the units that are shorter than the last of these, or shorter than a second if there are none
 abbrev pub shorter_units : List TimeUnit → List TimeUnit
 shorter_units us = filter (λ u. nat_lt (nanos_of u) (nanos_of (last_unit Second us))) units
 
@@ -111,7 +111,7 @@ IsPrintedWithin format nanos text =
     (counts : List ℕ)
     × IsGreatestWithin (lengths_within format) format.parts nanos counts × (text ≡ text_within format counts)
 
--- the most bytes of a printed text in this style
+-- a number of bytes that no printed text in this style exceeds
 abbrev pub most_len : Style → ℕ
 most_len Long = MAX_LONG_LEN
 most_len style = MAX_PRINTED_LEN

@@ -231,7 +231,7 @@ pub record ReadsBack : Type 0 where
       → FitsDuration nanos → IsPrintedIn style nanos text
       → IsRefused (rules_with o default_unit) text (Overflow (Some 0))
 
--- Neither the line of a cause nor the text of a fault ends with a line feed.
+-- Neither the line of a cause nor the message of a fault ends with a line feed.
 pub record LastLine : Type 0 where
   pub line : (cause : Cause) → EndsInsideLine (encode_utf8_all (line_of cause))
   pub text : (text : Bytes) (cause : Cause) → EndsInsideLine (message_of text cause)
@@ -266,8 +266,9 @@ abbrev pub AllParts : Type 0
 AllParts = (style : Style) (parts nanos : ℕ) (text : Characters) → length units ≤ parts
     → (IsPrintedWithin (record whole_format { parts = parts; style = style }) nanos text ↔ IsPrintedIn style nanos text)
 
--- The duration fits into the format: its greatest breakdown into the format's units and all shorter
--- ones has no more parts than the format allows, and each part is in one of the format's units.
+-- The duration fits into the format: its greatest breakdown into the format's units and those of
+-- `shorter_units` has no more parts than the format allows, and each part is in one of the format's
+-- units.
 pub record KeepsWithin (format : Format) (nanos : ℕ) (counts : List ℕ) : Type 0 where
   pub breakdown : IsGreatestBreakdown (map nanos_of (units_within format ++ shorter_units (units_within format))) nanos counts
   pub few : part_count counts ≤ format.parts

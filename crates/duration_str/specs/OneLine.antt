@@ -1,4 +1,5 @@
--- A fault in one line: what is wrong, at which column, and what stands there.
+-- A fault in one line: what is wrong, and for a syntax fault at which column, and what stands
+-- there.
 use Rattle.std.specs.Prelude.{ℕ, ◌+◌, ◌-◌, Bool, false, not, ◌&&◌, ◌||◌, List, [], ◌∷◌, ◌++◌, Option, Some, None, if◌then◌else◌, ◌==◌, nat_le, decimal, encode_utf8_all, map, take, drop, length, slice_index, option_map, chars, bytes_eq, codes}
 use Rattle.std.specs.Char.{is_ascii_alphabetic, is_control, to_ascii_lowercase}
 use Rattle.std.specs.Char.Escape.{escape_default}
@@ -15,9 +16,8 @@ use Rattle.duration_str.specs.Messages.{line_of, chars_before}
 
 -- ---- What is quoted
 
--- whether a character is safe in a line, and seen. It is not a control character, not a blank other
--- than the space, and not one that Unicode allows programs to ignore, such as marks of direction,
--- tags and the soft hyphen
+-- whether a character is plain. Not plain are control characters, blanks other than the space, and
+-- some others that can't be seen, such as marks of direction, tags and the soft hyphen
 abbrev pub is_plain : ℕ → Bool
 is_plain c =
     not (is_control c || c == 0xA0 || c == 0xAD || c == 0x34F || c == 0x61C || is_in_range 0x115F 0x1160 c
@@ -66,14 +66,14 @@ abbrev pub is_like : ℕ → ℕ → Bool
 is_like c d = (is_digit d && is_digit c) || (is_letter d && is_letter c)
 
 -- the run of digits or of letters that a text begins with, or its first character. It has at most
--- 41 characters, of which a quote shows 40
+-- 41 characters, one more than a quote shows
 abbrev pub first_piece : Characters → Characters
 first_piece [] = []
 first_piece (c ∷ text) = c ∷ take 40 (take_while (is_like c) text)
 
 -- ---- Help
 
--- the words near the month's names that mean a month only in small letters, since `Mo` is a
+-- the words near the month's names that mean a month only in small letters, since `Mo` can mean a
 -- megabyte
 abbrev pub small_words : List Characters
 small_words = codes "mo" ∷ codes "mos" ∷ []
@@ -85,7 +85,7 @@ us_words =
     codes "usecs" ∷ codes "useconds" ∷ codes "micros" ∷ codes "μs" ∷ codes "μsec" ∷ codes "μsecs" ∷ codes "μsecond"
     ∷ codes "μseconds" ∷ []
 
--- the words that people write for a unit and that aren't read, in small letters
+-- words that people write for a unit and that the library's own table lacks, in small letters
 abbrev pub near_words : TimeUnit → List Characters
 near_words Year = codes "yr" ∷ codes "yrs" ∷ []
 near_words Quarter = codes "qtr" ∷ codes "qtrs" ∷ []
@@ -131,7 +131,7 @@ unit_help (Some name) help = name_help (encode_utf8_all name)
 unit_help None help = help_or_units help
 
 -- the help for a piece that has only blanks before it, given the piece's bytes and the byte after
--- it. There is help for a sign before a digit or a point, and for `P` or `PT` before a digit
+-- it. There is help for `-` or `+` before a digit or a point, and for `P` or `PT` before a digit
 abbrev pub first_help : Bytes → ℕ → Bytes
 first_help piece next =
     let is_signed = is_digit next || next == 46 in
@@ -224,7 +224,7 @@ syntax_line text place expected piece =
     if expected.unit_word && begins_with_letter piece then unknown_line column piece (unit_help (near_name bytes) help)
     else found_line (expected_words expected) column piece (missing_unit_help expected text help)
 
--- the line that says what is wrong and quotes the whole text, with the help at the end
+-- the line that says what is wrong and quotes the text, with the help at the end
 abbrev pub text_line : Bytes → Bytes → Bytes → Bytes
 text_line problem text help = problem ++ (codes " in " ++ (quoted (chars text) ++ help))
 

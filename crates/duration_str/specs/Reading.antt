@@ -59,7 +59,7 @@ early_fault r front rest =
     if r.options.no_calc then running_fault [] (complete_terms r front rest) else first_fault (complete_terms r front rest)
 
 -- the fault that comes after a syntax fault. It is the fault of the evaluation. Under `no_calc`
--- there is none, since each fault comes early
+-- there is none, since all faults of the evaluation come early
 abbrev pub late_fault : Rules → List Terminal → Option Cause
 late_fault r terminals = if r.options.no_calc then None else evaluation_fault (terms_of r terminals)
 

@@ -1,4 +1,4 @@
--- A fault for a terminal: the text, a caret below its place, and the line.
+-- A fault for a terminal: its line, or the text, a caret and its line.
 use Rattle.std.specs.Prelude.{ℕ, ◌+◌, Bool, ◌&&◌, if◌then◌else◌, nat_le, length, take, chars}
 use Rattle.std.specs.List.{list_all, count_by}
 use Rattle.duration_str.specs.declared.cause.Cause.{Cause}
@@ -11,7 +11,7 @@ use Rattle.duration_str.specs.OneLine.{is_clear, one_line_of}
 abbrev pub is_clear_text : Characters → Bool
 is_clear_text text = nat_le (length text) 80 && list_all is_clear text
 
--- whether a character counts as two columns of a terminal. Only digits, operators, spaces and the
+-- whether a character counts as two columns of a terminal. Only digits, operators, blanks and the
 -- letters of units stand before a syntax fault, and of these only the Chinese letters are from
 -- U+2E80 on
 abbrev pub is_wide : ℕ → Bool
@@ -21,8 +21,8 @@ is_wide c = nat_le 0x2E80 c
 abbrev pub columns_of : Characters → ℕ
 columns_of text = length text + count_by is_wide text
 
--- the bytes of the report, given the bytes of the text that was read. It is the line. For a syntax
--- fault in a text that can stand above a caret, the text and the caret are above the line
+-- the bytes of the report, given the bytes of the text that was read. The report is the line. For a
+-- syntax fault in a text that can stand above a caret, the text and the caret are above the line
 abbrev pub report_of : Bytes → Cause → Bytes
 report_of text (Syntax place expected) =
     let line = one_line_of text (Syntax place expected) in

@@ -18,7 +18,7 @@ abbrev pub goes_on : Options → ℕ → Characters → Bool
 goes_on o c [] = false
 goes_on o c (d ∷ _) = are_of_one_run o c d
 
--- the tokens, with the character c, which is at byte `at`, added to the front of the first token
+-- the tokens, with c, which is at byte `at`, added to the front of the first, or as the only token
 abbrev pub with_first_character : ℕ → ℕ → List Token → List Token
 with_first_character at c [] = record { start = at; characters = c ∷ [] } ∷ []
 with_first_character at c (token ∷ tokens) = record { start = at; characters = c ∷ token.characters } ∷ tokens

@@ -4,16 +4,16 @@ use Rattle.duration_str.specs.declared.unit.TimeUnit.{TimeUnit}
 use Rattle.duration_str.specs.declared.unit.TimeUnit.TheVariants.{Year, Quarter, Month, Week, Day, Hour, Minute, Second, MilliSecond, MicroSecond, NanoSecond}
 use Rattle.duration_str.specs.Text.{Characters}
 
--- a unit's length in nanoseconds, the name that is printed, the names that are read, and the names
--- that are read only with `cn_unit`. Of the names that are read, the last two are the long name,
--- which is also printed, and its plural
+-- a unit's length in nanoseconds, the name that the short and the compact style print, the names
+-- that are read, and the names that are read only with `cn_unit`. Of the names that are read, the
+-- last two are the long name and its plural, which the long style prints
 pub record UnitRow : Type 0 where
   pub nanos : ℕ
   pub printed : Characters
   pub names : List Characters
   pub chinese : List Characters
 
--- The table of units, from which everything else about units follows.
+-- The library's own table of units: the row of each.
 abbrev pub row_of : TimeUnit → UnitRow
 row_of Year = record { nanos = 31_536_000_000_000_000; printed = codes "y"; names = codes "y" ∷ codes "year" ∷ codes "years" ∷ []; chinese = codes "年" ∷ [] }
 row_of Quarter = record { nanos = 7_862_400_000_000_000; printed = codes "q"; names = codes "q" ∷ codes "quarter" ∷ codes "quarters" ∷ []; chinese = [] }

@@ -27,7 +27,7 @@ one_second = nanos_of Second
 
 -- the terms that these terminals write after the operator `op`. If an operator is left out, it is
 -- plus. If a unit is left out, it is the default unit. Without a default unit no sentence leaves a
--- unit out, so the second is never used
+-- unit out, so none uses `Second`
 abbrev pub terms_after : Rules → CondUnit → List Terminal → List Term
 terms_after r op (number n ∷ word (Some u) ∷ more) =
     record { operator = op; number = n; length = (r.table u).nanos } ∷ terms_after r Plus more
@@ -56,8 +56,8 @@ abbrev pub sum_of : List Term → ℕ
 sum_of [] = 0
 sum_of (t ∷ terms) = value_of_term t + sum_of terms
 
--- the product of the terms' values in seconds, in nanoseconds. It is computed from left to right,
--- and each step is rounded down
+-- the nanoseconds of the product of the terms' values in seconds. It is computed from left to
+-- right, and each step is rounded down to nanoseconds
 abbrev pub product_of : List Term → ℕ
 product_of terms = fold (λ p t. p * value_of_term t / one_second) one_second terms
 
@@ -119,7 +119,7 @@ evaluation_fault (t ∷ u ∷ later) =
     (unless (fits (combination u.operator (value_of_term t) (later_total u.operator (u ∷ later)))) (Overflow None))
 evaluation_fault _ = None
 
--- Every number, term and step is below 2^64, and the operators are not mixed.
+-- There is a term. Every number, term and step is below 2^64, and the operators are not mixed.
 abbrev pub Evaluates : List Term → Type 0
 Evaluates [] = ⊥
 Evaluates (t ∷ later) = (term_fault None t ≡ None) × (evaluation_fault (t ∷ later) ≡ None)

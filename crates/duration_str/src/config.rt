@@ -28,7 +28,7 @@ use std::time::Duration;
 /// Option::<Duration>::deserialize_duration(&Value::Null) // Ok(None)
 /// ```
 pub trait DeserializeDuration<'de>: Sized {
-    /// The result of reading a value with this data.
+    /// Whether reading a value with this data can give this result.
     ghost gives: { Data → Result Self PlainFault → Type 0 };
 
     /// Reads the value. If its text is refused, the fault borrows that text. The text of a

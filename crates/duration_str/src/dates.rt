@@ -14,8 +14,8 @@ use std::time::Duration;
 
 /// Subtracts the value of the text from the moment, and returns the date and time in UTC.
 ///
-/// The text is read by `parse`. If it is refused, its fault is returned. Otherwise the cause is
-/// `OutOfRange` if the result would be before `Timestamp::MIN`.
+/// The text is read by `parse`. If it is refused, its fault is returned. If the result would be
+/// before `Timestamp::MIN`, the cause is `OutOfRange`.
 ///
 /// ```text
 /// before_naive_date_time(Timestamp::UNIX_EPOCH, "1ns") // Ok, 1969-12-31T23:59:59.999999999
@@ -29,8 +29,8 @@ pub fn before_naive_date_time(moment: Timestamp, input: &str) -> Result<DateTime
 
 /// Adds the value of the text to the moment, and returns the date and time in UTC.
 ///
-/// The text is read by `parse`. If it is refused, its fault is returned. Otherwise the cause is
-/// `OutOfRange` if the result would be after `Timestamp::MAX`.
+/// The text is read by `parse`. If it is refused, its fault is returned. If the result would be
+/// after `Timestamp::MAX`, the cause is `OutOfRange`.
 ///
 /// ```text
 /// after_naive_date_time(Timestamp::UNIX_EPOCH, "180d") // Ok, 1970-06-30T00:00:00

@@ -1,4 +1,4 @@
-//! Errors that own their line, made from faults.
+//! Errors that don't borrow the text, made from faults.
 ghost use Rattle.std.specs.Prelude.{IfOk, IsOk};
 ghost use Rattle.duration_str.specs.Messages.{IsErrorOf, IsOverflow};
 

@@ -44,7 +44,8 @@ impl<'a> Eye<'a> {
         self.looks
     }
 
-    /// Returns the character at the place, or `None` at the end of the text. The look is counted.
+    /// Returns the character at the place, and counts the look. At the end of the text it returns
+    /// `None`, and counts nothing.
     #[inline(always)]
     pub(crate) fn look(&mut self) -> Option<char>
         requires { self.old.looks + 1 < 2 ^ 64 }

@@ -121,10 +121,10 @@ pub fn all_parts()
 
 /// A text printed in a format stands for the greatest duration that fits into the format and is not
 /// above the given one. A duration fits into a format if its own greatest breakdown, into the
-/// format's units and all shorter ones, has no more parts than the format allows, and has parts
-/// only in the format's units. That greatest duration prints as the same text, and the text is read
-/// as that duration if the duration is below 2^64 nanoseconds. So a countdown never shows more than
-/// is left, and 366 days in one part are `1y`.
+/// format's units and the units shorter than all of them, has no more parts than the format allows,
+/// and has parts only in the format's units. That greatest duration prints as the same text, and
+/// the text is read as that duration if the duration is below 2^64 nanoseconds. So a countdown
+/// never shows more than is left, and 366 days in one part are `1y`.
 #[tactic(auto, using(crate::proofs::LawProofs::NeverMore::never_more_holds))]
 pub fn never_more()
     ensures { NeverMore }
@@ -139,8 +139,8 @@ pub fn parts_and_rest()
 {}
 
 /// Under all options, the name that a fault's line advises for a word names the unit that people
-/// mean by the word, and the word itself names no unit. So if an error advises `min` for `mins`, no
-/// choice of options reads `mins`.
+/// mean by the word, and the word itself names no unit. So if an error advises `min` for `mins`,
+/// `parse_with` reads `mins` under no choice of options.
 #[tactic(auto, using(crate::proofs::LawProofs::NearWords::near_words_hold))]
 pub fn near_words()
     ensures { NearWords }

@@ -1,8 +1,9 @@
-//! A fault in one line: what is wrong, at which column, and what stands there.
+//! A fault in one line: what is wrong, and for a syntax fault at which column, and what stands
+//! there.
 //!
-//! Each function that writes returns the index where its part ends, or `None` if there is no room.
-//! So no contract has to bound what is in the buffer before a part. One proof, for the whole line,
-//! shows that everything fits.
+//! Each private function that writes returns the index where its part ends, or `None` if there is
+//! no room. So no contract has to bound what is in the buffer before a part. One proof, for the
+//! whole line, shows that everything fits.
 ghost use Rattle.std.specs.Prelude.{◌≡◌, ◌≤◌, ◌++◌, ◌+◌, ◌-◌, ◌&&◌, ◌==◌, not, slice_index, length, take, map, encode_utf8_all, IsTrue, ◌||◌, None, if◌then◌else◌};
 ghost use Rattle.std.specs.Char.{to_ascii_lowercase};
 ghost use Rattle.std.specs.Char.Escape.{escape_default};
@@ -24,7 +25,7 @@ use crate::fault::Fault;
 use crate::message::{chars_before, put, put_decimal};
 use crate::token::is_blank;
 
-/// The most bytes that a line has.
+/// No line has more bytes than this.
 ///
 /// ```
 /// use duration_str::{MAX_ONE_LINE_LEN, ONE_LINE_BUFFER_SIZE, Options, parse_with};
@@ -43,9 +44,9 @@ const MOST_SHOWN: usize = 40;
 
 impl Fault<'_> {
     /// Writes the fault in one line to the start of a buffer, and returns the line. It says what is
-    /// wrong, at which column, and what stands there. It quotes the text in at most 40 characters,
-    /// and escapes characters that aren't safe in a line or can't be seen. The buffer's old
-    /// contents do not matter. The call allocates nothing and cannot fail.
+    /// wrong, and for a syntax fault at which column, and what stands there. A quote has at most 40
+    /// characters. In it, characters that aren't safe in a line or can't be seen are escaped. The
+    /// buffer's old contents do not matter. The call allocates nothing and cannot fail.
     ///
     /// ```
     /// use duration_str::{ONE_LINE_BUFFER_SIZE, Options, parse_with};
@@ -312,7 +313,7 @@ pub(crate) fn is_clear(c: char) -> bool
     is_plain(c) && c != '"' && c != '\\'
 }
 
-/// Whether a character is plain: safe in a line, and seen.
+/// Whether a character is plain: no control character, and none that `is_hidden` lists.
 #[inline(always)]
 fn is_plain(c: char) -> bool
     ensures { result ≡ is_plain c }
@@ -406,8 +407,8 @@ fn row_beside(word: &str) -> Option<([u8; 9], [u8; 3])>
     NEAR_WORDS.iter().copied().find(|row| is_near(&row.0, word))
 }
 
-/// Whether a word is `mo` or `mos` with a capital. No name is advised for these, since `Mo` is a
-/// megabyte.
+/// Whether a word is `mo` or `mos` with a capital. No name is advised for these, since `Mo` can
+/// mean a megabyte.
 fn is_megabyte(word: &str) -> bool
     ensures { result ≡ is_megabyte word.now }
 {
@@ -420,9 +421,9 @@ fn is_near(near: &[u8; 9], word: &str) -> bool
     word.as_bytes().eq_ignore_ascii_case(near.trim_ascii_end())
 }
 
-/// The words that people write for a unit but that aren't read, each with the name to write
-/// instead. Words and names are filled up with spaces to a fixed length, since the addresses in
-/// string slices would make a program larger. The words after `micros` have a Greek mu.
+/// Words that people write for a unit but that the library's own table lacks, each with the name to
+/// write instead. Words and names are filled up with spaces to a fixed length, since the addresses
+/// in string slices would make a program larger. The five words after `micros` have a Greek mu.
 static NEAR_WORDS: [([u8; 9], [u8; 3]); 28] = [
     (*b"usecs    ", *b"us "),
     (*b"useconds ", *b"us "),

@@ -1,6 +1,6 @@
 //! A word's letters packed into one number, and the unit that such a number names. The letters are
-//! digits to the base
-//! 40. A capital has the same digit as its small letter, unless the option `lowercase` is on.
+//! its digits, to the base 40. A capital has the same digit as its small letter, unless the option
+//! `lowercase` is on.
 ghost use Rattle.std.specs.Prelude.{◌≡◌, ◌+◌, ◌*◌, ◌%◌, ◌^◌, ◌&&◌, ◌||◌, ◌==◌, true, if◌then◌else◌, Some};
 ghost use Rattle.std.specs.Char.{is_ascii_alphabetic};
 ghost use Rattle.std.specs.Str.{chars};
@@ -150,7 +150,7 @@ const CAPITAL_M: u64 = 39;
 pub(crate) fn unit_of_packed(packed: u64) -> Option<TimeUnit>
     ensures { result ≡ unit_of_packed row_of packed }
 {
-    // The product is computed in 128 bits, which the compiler turns into one multiplication of 64
+    // The product is computed in 128 bits, which the compiler turns into a multiplication of 64
     // bits, since only its lower half is used.
     let slot = ((packed as u128 * SPREAD as u128) % MODULUS) as u64 >> 57;
     let name = SLOTS[slot as usize] as usize;

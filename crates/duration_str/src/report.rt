@@ -1,4 +1,4 @@
-//! A fault for a terminal: the text, a caret below its place, and the line.
+//! A fault for a terminal: its line, or the text, a caret and its line.
 ghost use Rattle.std.specs.Prelude.{◌≡◌, ◌*◌, ◌<◌, ◌≤◌, length};
 ghost use Rattle.std.specs.List.{list_all};
 ghost use Rattle.std.specs.Str.{chars};

@@ -47,7 +47,7 @@ impl UnitTable {
         match self {
             UnitTable::Own => {
                 let row = unit.printed();
-                // For processors of 32 bits, and in WebAssembly, `checked_mul` would be a call.
+                // In WebAssembly `checked_mul` would be a call.
                 if n > row.most {
                     return Err(Cause::Overflow { place });
                 }

@@ -357,7 +357,7 @@ impl<'a> Iterator for Tokens<'a> {
 /// Each number of up to 19 digits is below 2^64.
 const MOST_DIGITS: usize = 19;
 
-/// Whether each character up to the space is a blank. A table takes fewer instructions than
+/// For each character up to the space, whether it is a blank. A table takes fewer instructions than
 /// comparisons.
 static BLANKS: [bool; 33] = [
     false, false, false, false, false, false, false, false, false, true, true, false, false, true,

@@ -22,7 +22,7 @@ abbrev AreFrom : ℕ → List TimeUnit → Type 0
 AreFrom k [] = ⊤
 AreFrom k (u ∷ us) = (k ≤ rank_of u) × AreFrom (rank_of u + 1) us
 
--- The units of the parts are so.
+-- `AreFrom` holds for the units of the parts.
 abbrev pub PartsFrom : ℕ → List (TimeUnit × ℕ) → Type 0
 PartsFrom k [] = ⊤
 PartsFrom k ((u, n) ∷ parts) = (k ≤ rank_of u) × PartsFrom (rank_of u + 1) parts
@@ -83,7 +83,7 @@ large_at f MilliSecond h = (8, f MilliSecond, omega arith, refl, h)
 large_at f MicroSecond h = (9, f MicroSecond, omega arith, refl, h)
 large_at f NanoSecond h = (10, f NanoSecond, omega arith, refl, h)
 
--- If a part has a large count, so has its unit.
+-- If a part's count is 2^64 or more, so is one of the counts of all units.
 pub large_count : (before after parts : List (TimeUnit × ℕ)) (u : TimeUnit) (n : ℕ)
     → parts ≡ before ++ ((u, n) ∷ after) → PartsFrom 0 parts → 2 ^ 64 ≤ n → Any (λ n. 2 ^ 64 ≤ n) (counts_of parts)
 large_count before after parts u n same are large =
@@ -129,7 +129,7 @@ with_counts_after f k ((u, n) ∷ parts) none (from, are) =
     ∙ same_values (λ v. with_value f u n v + count_of parts v) (λ v. f v + count_of ((u, n) ∷ parts) v) units
     (value_and_count f k u n parts none from are)
 
--- If the counts of the parts are written over zeros, these are the counts of all units.
+-- Written over zeros, the counts of the parts give the counts of all units.
 pub with_counts_all : (parts : List (TimeUnit × ℕ)) → PartsFrom 0 parts
     → with_counts (map (λ u. 0) units) parts ≡ counts_of parts
 with_counts_all parts are =

@@ -1,4 +1,4 @@
--- The answer that a caller of C gets for a text.
+-- The answer that a caller in C gets for a text.
 use Rattle.std.specs.Prelude.{◌≡◌, ℕ, ◌+◌, ◌-◌, ◌/◌, ◌^◌, ◌==◌, Bool, ◌&&◌, ◌||◌, IsTrue, not, List, length, nat_le, slice_get, ◌⊎◌, Option, Some, None, if◌then◌else◌, is_some, unwrap_or, IsUtf8, false}
 use Rattle.std.specs.Int.Bits.{bit_and}
 use Rattle.std.specs.Option.{ForSome}

@@ -5,7 +5,7 @@ use Rattle.duration_str.specs.declared.format.Style.{Style}
 use Rattle.duration_str.specs.declared.format.Style.TheVariants.{Short, Compact, Long}
 use Rattle.duration_str.specs.declared.format.Units.{Units}
 
--- the style with this number: 0 short, 1 compact, 2 long
+-- the style with this number: 0 short, 1 compact, any other long
 abbrev pub style_numbered : ℕ → Style
 style_numbered number = if number == 0 then Short else if number == 1 then Compact else Long
 

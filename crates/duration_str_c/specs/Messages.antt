@@ -3,9 +3,9 @@ use Rattle.std.specs.Prelude.{◌≡◌, ℕ, ◌+◌, ◌^◌, ◌-◌, ◌<◌
 use Rattle.duration_str.specs.declared.cause.Cause.{Cause}
 use Rattle.duration_str_c.specs.Answers.{IsTold}
 
--- `len` is the number of the bytes, or the greatest possible number. If there is room for the bytes
--- and a zero, they are at the start of the buffer, and the rest of the buffer is unchanged.
--- Otherwise the whole buffer is unchanged.
+-- `len` is the number of the bytes, but at most 2^64 - 1. If there is room for the bytes and a
+-- zero, they are at the start of the buffer, and the rest of the buffer is unchanged. Otherwise the
+-- whole buffer is unchanged.
 abbrev pub IsShown : List ℕ → List ℕ → ℕ → List ℕ → Type 0
 IsShown bytes old len new =
     (len ≡ min (length bytes) (2 ^ 64 - 1))

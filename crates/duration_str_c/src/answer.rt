@@ -1,4 +1,4 @@
-//! The answer to a text as a C struct: its value, or everything about its fault.
+//! The answer to a text as a C struct: its value, or why it is refused.
 ghost use Rattle.std.specs.Prelude.{◌≡◌};
 ghost use Rattle.std.specs.Str.{chars};
 ghost use Rattle.duration_str.specs.Faults.{found_token};

@@ -135,7 +135,7 @@ fn hands_on_the_fault_of_a_text(rt: HostRuntime) {
     holds_in_memory(&rt, "580y*2", is_refused_text(alloc, "580y*2", overflow));
 }
 
-/// Whether the token at the place of the fault of the text, as a value, is this one.
+/// Whether the fault of the text, as a required value, has this token at its place.
 fn has_token_in_a_value(alloc: Global, text: &str, token: &str) -> Result<bool, AllocError> {
     let value = json!(in alloc; text)?;
     let answer = deserialize_duration::<Duration>(&value);

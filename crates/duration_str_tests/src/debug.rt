@@ -1,4 +1,4 @@
-// What `Debug` prints of each public type.
+// What `Debug` prints of public types.
 use crate::assertions::holds_in_memory;
 use crate::refusal::refusal;
 use crate::shared::{AFTER_NUMBER, OFF};

@@ -1,4 +1,4 @@
-// Faults as errors that own their line, with as much memory as they need and with none.
+// Faults as errors, with as much memory as they need, and with one request refused.
 use crate::assertions::{holds_in_memory, prints};
 use crate::refusal::refusal;
 use crate::shared::{OFF, TOO_LARGE};

@@ -8,7 +8,7 @@ use std::time::Duration;
 
 const LONGEST_TEXT: &str = "100000000000y 3q 2mon 3w 6d 23h 59min 59s 999ms 999µs 999ns";
 
-/// The duration that prints the longest text.
+/// A duration whose text has the greatest length.
 fn longest() -> Duration {
     Duration::new(3_153_600_000_031_190_399, 999_999_999)
 }

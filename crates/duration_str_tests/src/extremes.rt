@@ -232,7 +232,7 @@ fn runs_over_long_lines(rt: HostRuntime) {
     holds_in_memory(&rt, "lines", refuses_long_lines(rt.alloc()));
 }
 
-/// Gives three bytes in each read.
+/// Gives at most three bytes in each read.
 #[derive(Drop)]
 struct InThrees<'a>(&'a [u8]);
 

@@ -1,5 +1,4 @@
-// What texts are read as, by each call that reads under their options, and what the durations print
-// as.
+// What texts are read as, and what the durations print as.
 use crate::assertions::{holds, holds_in_memory, is_human_format, is_value};
 use crate::rows::{
     excludes, includes, list_at, listed, named_options, named_unit, number_at, options_of,
@@ -17,8 +16,8 @@ use std::alloc::{AllocError, Global};
 use std::process::Abort;
 use std::time::Duration;
 
-/// Whether each call that reads under these options, and counts seconds, reads the text as this
-/// many nanoseconds.
+/// Whether the text is read as this many nanoseconds by calls that read under these options and
+/// count seconds.
 fn is_read_in_seconds(text: &str, o: Options, nanos: u64) -> bool {
     let plain = Duration::from_nanos(nanos);
     let signed = SignedDuration::from_nanos_i128(i128::from(nanos));
@@ -30,8 +29,8 @@ fn is_read_in_seconds(text: &str, o: Options, nanos: u64) -> bool {
             || is_value(parse_chrono(text), signed) && is_value(parse_time(text), signed))
 }
 
-/// Whether each call that reads with these options and this default unit reads the text as this
-/// many nanoseconds.
+/// Whether the text is read as this many nanoseconds by calls that read with these options and this
+/// default unit.
 fn is_read(text: &str, o: Options, default_unit: Option<TimeUnit>, nanos: u64) -> bool {
     let length = parse_with_default_unit(text, o, default_unit);
     is_value(length, Duration::from_nanos(nanos))
@@ -57,8 +56,8 @@ fn reads_row(rt: &impl Abort, row: &Value, o: Options, default_unit: Option<Time
     }
 }
 
-/// Fails unless the texts of a group are read under each choice that has its options on which are
-/// named after `on`, and off which are named after `off`.
+/// Fails unless the texts of a group are read under each choice of options in which those that the
+/// group lists as `on` are on, and those that it lists as `off` are off.
 fn reads_group(rt: &impl Abort, group: &Value) {
     let on = listed(group, "on");
     for bits in 0..8u8 {
@@ -143,7 +142,7 @@ fn prints_row(rt: &impl Abort, alloc: Global, row: &Value) {
     holds(rt, text, parse(printed) == parse(text));
 }
 
-/// The unit that limits name as `largest` or `smallest`, or the other one if they name none.
+/// The unit that limits name as `largest` or `smallest`, or `otherwise` if they name none.
 fn limit_at(limits: &Value, name: &str, otherwise: TimeUnit) -> Option<TimeUnit> {
     match limits.get(name) {
         Some(unit) => TimeUnit::from_word(unit.as_str()?, OFF),
@@ -190,7 +189,7 @@ fn leaves_rest(row: &Value, length: Duration, format: Format) -> bool {
 }
 
 /// Whether the text of a row is read as a duration that prints, in two styles, and breaks down as
-/// the row says. Texts of more than 584 years are not read.
+/// the row says. It is also true for a text that is refused, such as one of more than 584 years.
 fn prints_in_format(row: &Value, format: Format) -> bool {
     let Ok(length) = parse(text_at(row, 0)) else {
         return true;
@@ -201,7 +200,7 @@ fn prints_in_format(row: &Value, format: Format) -> bool {
         && leaves_rest(row, length, format)
 }
 
-/// Whether all of a duration is printed in this format.
+/// Whether this is the format in which `write_human` prints.
 fn is_whole(format: Format) -> bool {
     format == Format::whole()
 }

@@ -16,7 +16,7 @@ use std::time::Duration;
 
 const OVERFLOW: Cause = Cause::Overflow { place: None };
 
-/// Whether each call that reads with all options off refuses the text with this fault.
+/// Whether each call that takes only a text refuses it with this fault.
 fn is_refused(text: &str, fault: Fault<'_>) -> bool {
     is_fault(parse(text), fault)
         && is_fault(parse_std(text), fault)
@@ -24,8 +24,8 @@ fn is_refused(text: &str, fault: Fault<'_>) -> bool {
         && is_fault(parse_time(text), fault)
 }
 
-/// The fault with which each call that reads under these options refuses the text. `None` if one of
-/// them reads the text, or refuses it for another cause.
+/// The fault with which calls that read under these options refuse the text. `None` if one of them
+/// reads the text, or refuses it for another cause.
 fn refusal(text: &str, o: Options, cause: Cause) -> Option<Fault<'_>> {
     let fault = parse_with(text, o).err()?;
     let is_caused = fault.text() == text && fault.cause() == cause;
@@ -159,8 +159,8 @@ fn has_cause(alloc: Global, fault: Fault<'_>, row: &Value) -> Result<bool, Alloc
     }
 }
 
-/// The fault with which each call that reads with these options and this default unit refuses the
-/// text. `None` if one of them reads the text, or refuses it for another cause.
+/// The fault with which calls that read with these options and this default unit refuse the text.
+/// `None` if one of them reads the text, or refuses it for another cause.
 fn refusal_with(text: &str, o: Options, default_unit: Option<TimeUnit>) -> Option<Fault<'_>> {
     let fault = parse_with_default_unit(text, o, default_unit).err()?;
     if default_unit == Some(TimeUnit::Second) {

@@ -1,5 +1,5 @@
-// The rows of `rust/vectors.json`, which the tests of all languages use: texts with what they are
-// read as, and texts with why they are refused.
+// The rows of `rust/vectors.json`, such as texts with what they are read as, and texts with why
+// they are refused.
 use crate::shared::syntax;
 use crate::vectors::VECTORS;
 use duration_str::{Cause, Expected, Options, TimeUnit};
@@ -28,7 +28,7 @@ fn items(list: Option<&Value>) -> &[Value] {
     }
 }
 
-/// The text at this index of a row. It is empty if there is null.
+/// The text at this index of a row. It is empty if no text is there.
 pub fn text_at(row: &Value, at: usize) -> &str {
     row.get(at).and_then(Value::as_str).unwrap_or("")
 }

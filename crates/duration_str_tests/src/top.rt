@@ -24,31 +24,31 @@ fn midnight((year, month, day): Day) -> Result<(Timestamp, DateTime), jiff::Erro
     Ok((Offset::UTC.to_timestamp(start)?, start))
 }
 
-/// The fault with which the text is refused.
+/// The fault with this text and this cause.
 fn fault<'a>(text: &'a str, cause: Cause) -> Fault<'a>
     requires { ForSome (place_of cause) (IsCharBoundary text.now) }
 {
     Fault { text, cause }
 }
 
-/// Whether the moment and the value of the text after it make this date and time.
+/// Whether the moment plus the value of the text is this date and time.
 pub fn leads_to(moment: Timestamp, text: &str, at: DateTime) -> bool {
     after_naive_date_time(moment, text) == Ok(at) && after_naive_date(moment, text) == Ok(at.date())
 }
 
-/// Whether the moment and the value of the text before it make this date and time.
+/// Whether the moment minus the value of the text is this date and time.
 pub fn comes_from(moment: Timestamp, text: &str, at: DateTime) -> bool {
     before_naive_date_time(moment, text) == Ok(at)
         && before_naive_date(moment, text) == Ok(at.date())
 }
 
-/// Whether no time comes after the moment, because of this fault.
+/// Whether the calls that add the fault's text to the moment return this fault.
 fn leads_nowhere(moment: Timestamp, fault: Fault<'_>) -> bool {
     after_naive_date_time(moment, fault.text) == Err(fault)
         && after_naive_date(moment, fault.text) == Err(fault)
 }
 
-/// Whether no time comes before the moment, because of this fault.
+/// Whether the calls that subtract the fault's text from the moment return this fault.
 fn comes_from_nowhere(moment: Timestamp, fault: Fault<'_>) -> bool {
     before_naive_date_time(moment, fault.text) == Err(fault)
         && before_naive_date(moment, fault.text) == Err(fault)

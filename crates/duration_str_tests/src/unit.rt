@@ -1,4 +1,4 @@
-// The names and lengths of units, operators, and tokens.
+// Units with their names and lengths, operators, and tokens.
 ghost use Rattle.std.specs.Prelude.{◌≡◌, ◌<◌, chars, length, IsTrue};
 ghost use Rattle.std.specs.Char.{is_ascii_digit};
 ghost use Rattle.std.specs.List.{list_all};

@@ -29,7 +29,8 @@ fn ended(rt: &HostRuntime) -> (u8, &'static str) {
 fn main(rt: HostRuntime) -> ExitCode {
     let (status, line) = ended(&rt);
     if !line.is_empty() {
-        // The exit status says the same, so it does not matter if this line can't be written.
+        // The exit status shows the failure too, so it does not matter if this line can't be
+        // written.
         let _ = eprintln!(rt; "{line}");
     }
     ExitCode::from(status)

@@ -38,7 +38,7 @@ lines_of-Some bytes i e =
     ∙ without_empty_last-cons (take i bytes) (slice_split is_line_feed (drop (i + 1) bytes))
     (omega (arith, length-slice_split is_line_feed (drop (i + 1) bytes)))
 
--- Without a line feed, all bytes are one line.
+-- Without a line feed, the bytes are one line, if there are any.
 pub lines_of-None : (bytes : List ℕ) → 0 < length bytes → All (λ b. is_line_feed b ≡ false) bytes
     → lines_of bytes ≡ bytes ∷ lines_of []
 unfolding lines_of

@@ -30,8 +30,7 @@ pub record PrintsFault (o : Options) (line text : List ℕ) : Type 0 where
 abbrev pub PrintsNotUtf8 : List ℕ → List ℕ → Type 0
 PrintsNotUtf8 line text = (IsUtf8 line → ⊥) × (text ≡ codes "not UTF-8")
 
--- The text is printed for this line, which has no line feed, and the flag says whether the line is
--- accepted.
+-- The text is printed for this line, and the flag says whether the line is accepted.
 unfoldable pub IsLineOutput : Options → List ℕ → List ℕ → Bool → Type 0
 IsLineOutput o line text true = PrintsValue o line text
 IsLineOutput o line text false = PrintsFault o line text ⊎ PrintsNotUtf8 line text

@@ -1,10 +1,10 @@
-//! The reasons why a run ends early.
+//! The reasons why a run fails.
 ghost use Rattle.std.specs.Prelude.{◌≡◌};
 ghost use Rattle.durstr_run.specs.declared.fault.RunFault.TheVariants.{Memory};
 
 use std::alloc::AllocError;
 
-/// Why a run ended before everything was written.
+/// Why a run failed.
 #[derive(Clone, Copy, Debug, PartialEq, Eq)]
 pub enum RunFault {
     /// A read failed.

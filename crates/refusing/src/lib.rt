@@ -1,4 +1,4 @@
-//! An allocator for tests, which counts the requests for memory and refuses one of them.
+//! An allocator for tests, which counts the requests for memory and can refuse one of them.
 #![tactic(auto)]
 
 use std::alloc::{AllocError, Allocator};
@@ -19,8 +19,8 @@ impl Requests {
     }
 }
 
-/// Passes each request for memory on to another allocator, except one, which it refuses. Growing or
-/// shrinking a block is a request too.
+/// Passes each request for memory on to another allocator, except the one that it refuses, if any.
+/// Growing or shrinking a block is a request too.
 #[derive(Drop)]
 pub struct Refusing<B: Allocator> {
     inner: B,

@@ -1,5 +1,4 @@
--- Lemmas about the instant to which a text moves a moment, from the contract of the calls for
--- dates.
+-- Lemmas about the results of the calls for dates.
 use Rattle.duration_str.specs.Rules.{rules_of}
 use Rattle.std.proofs.Common.{chars, Err, inl, inr, List, Ok, Result, ℕ, ℤ}
 use Rattle.std.specs.Int.Signed.{clash_ℤ}

@@ -14,8 +14,8 @@ module _ (law : PlaceAndKinds) (r : Rules) where
   begins_whole : (ts : List Terminal) → (BeginsSentence r ts ↔ length ts ≤ front_of r ts)
   begins_whole ts = search (rules, append-nil, length-take, take_all)
 
-  -- If a terminal is added, the front that the table finds becomes one terminal longer exactly if
-  -- the table allows the new terminal after the last one.
+  -- If the table allows all terminals of the front one after another, it allows one more exactly if
+  -- it allows that one after the last of them.
   pushed : (last : Option Terminal) (front : List Terminal) (t : Terminal)
       → length front ≤ front_after r last front
       → (IsTrue (allows (expected_after r (last_of last front)) t)

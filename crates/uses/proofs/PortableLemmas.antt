@@ -28,8 +28,8 @@ module _ (o p : Options) (text : List ℕ) (h : IsTrue (list_all (is_unaffected 
   no_chinese : beq o.cn_unit p.cn_unit ≡ false → HasNoChinese text
   no_chinese differ = search (rules, all_weaker, last_passes)
 
-  -- Goes from the options `o` to the options `p`. If they differ in `lowercase`, that is changed
-  -- first. If they differ in `cn_unit`, that is changed next.
+  -- Goes from the options `o`, with the `no_calc` of `p`, to the options `p`. If they differ in
+  -- `lowercase`, that is changed first. If they differ in `cn_unit`, that is changed next.
   others_changed : (P : Options → Type 0)
       → ((q : Options) → HasNoCapital text → (P (record q { lowercase = true }) ↔ P (record q { lowercase = false })))
       → (beq o.cn_unit p.cn_unit ≡ false → (q : Options)
@@ -60,7 +60,7 @@ module _ (o p : Options) (text : List ℕ) (h : IsTrue (list_all (is_unaffected 
       (λ q plain. (idle.lowercase (rules_with q default_unit) text plain).cause cause)
       (λ differ q. (idle.cn_unit default_unit q text (no_chinese differ)).cause cause))
 
-  -- By all rules, if `cn_unit` does not change.
+  -- The value is the same by all rules, if `cn_unit` does not change.
   pub unaffected_has_same_value_by_all : NoCalcAgrees → OptionsIdle → o.cn_unit ≡ p.cn_unit → HasSameValueByAll o p text
   unaffected_has_same_value_by_all agrees idle same r nanos =
       let calc = either_way (λ (b : Bool). IsRead (record r { options = record o { no_calc = b } }) text nanos)

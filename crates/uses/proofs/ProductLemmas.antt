@@ -11,8 +11,8 @@ number_below : (n : ℕ) (u : TimeUnit) → n * nanos_of u < 2 ^ 64 → n < 2 ^ 
 number_below n Year h = omega arith
 number_below n _ h = omega arith
 
--- `nanos` is the product of the two lengths in seconds, in nanoseconds, and all three are below
--- 2^64.
+-- `nanos` is the product of the two lengths in seconds, rounded down to nanoseconds, and all three
+-- are below 2^64.
 pub record IsProduct (a b nanos : ℕ) : Type 0 where
   pub length : a < 2 ^ 64
   pub other_length : b < 2 ^ 64

@@ -9,8 +9,8 @@ use Rattle.duration_str.specs.declared.unit.TimeUnit.{TimeUnit}
 abbrev pub canonical_text : Style → ℕ → List ℕ
 canonical_text style nanos = printed_counts style (counts_of unit_lengths nanos)
 
--- The key is the canonical text of the value, and no other breakdown of the value begins with
--- larger counts.
+-- The key is the canonical text of the value, and the text's counts are the greatest breakdown of
+-- the value.
 pub record IsKey (style : Style) (nanos : ℕ) (key : List ℕ) : Type 0 where
   pub one : key ≡ canonical_text style nanos
   pub greatest : IsGreatestBreakdown unit_lengths nanos (counts_of unit_lengths nanos)

@@ -12,7 +12,7 @@ use Rattle.duration_str.specs.Reading.{IsRead}
 use Rattle.duration_str.specs.Rules.{rules_with}
 use Rattle.duration_str.specs.Units.{unit_lengths}
 
--- at most two parts, and no unit shorter than the second
+-- at most two parts, and no unit shorter than a second
 abbrev pub coarse : Format
 coarse = record whole_format { units = down_to Second ALL; parts = 2 }
 

@@ -1,4 +1,4 @@
--- The instant to which a text moves a moment.
+-- The instant that is as long before or after a moment as a text says.
 use Rattle.std.specs.Prelude.{◌≡◌, ℕ, ℤ, List, Result, IsOkAnd, IsErrAnd, chars}
 use Rattle.uses.specs.Common.{Cause, OutOfRange, Fault, off, IsInRange, IsOutOfRange, IsRead, IsRefused, rules_of}
 

@@ -1,4 +1,4 @@
--- A number of units, and the texts that multiply two of them.
+-- Parts, each a number of units, and the texts that multiply two parts.
 use Rattle.std.specs.Prelude.{◌≡◌, ℕ, ◌*◌, List, [], ◌∷◌, ◌⊎◌}
 use Rattle.uses.specs.Common.{Plus, Star, nanos_of, IsSentenceOf, Rules, Term, written_terms}
 use Rattle.duration_str.specs.declared.operator.CondUnit.{CondUnit}

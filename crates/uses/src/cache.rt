@@ -14,9 +14,8 @@ use std::time::Duration;
 /// The least number of nanoseconds that no text is read as.
 const LIMIT: u128 = 1 << 64;
 
-/// Writes the key of a duration to the caller's buffer, and returns it: the duration's printed text
-/// in a style. It is the only text of this duration in that style, and no other breakdown into
-/// units begins with larger counts of the longer units.
+/// Writes the key of a duration to the caller's buffer, and returns it: the duration's text in a
+/// style, printed in full. The text's counts are the greatest breakdown of the duration.
 pub fn key<'b>(length: Duration, style: Style, buffer: &'b mut [u8; FORMAT_BUFFER_SIZE]) -> &'b str
     ensures { IsKey style (as_nanos length) (chars result.now) }
 {
@@ -63,9 +62,9 @@ pub fn share_entry<'a>(text: &'a str, other: &'a str) -> Result<bool, Fault<'a>>
     )
 }
 
-/// Returns what reading the printed text of a duration would return, in any style, under any
-/// options and with any default unit or none. The text is neither made nor read, so a program can
-/// ask this before it stores a duration as its text.
+/// Returns what reading a duration's text would return, if the text is printed in full, in any
+/// style, and is read under any options and with any default unit or none. The text is neither made
+/// nor read, so a program can ask this before it stores a duration as its text.
 ///
 /// ```text
 /// read_back(Duration::new(18_446_744_073, 709_551_615)) // Ok, the same duration

@@ -78,8 +78,7 @@ fn at_place(cause: Cause) -> Option<Completion>
     }
 }
 
-/// Returns whether a text is refused only because it ends too early, so that a prompt should wait
-/// for more.
+/// Returns whether a text has a syntax fault at its end, so that a prompt should wait for more.
 ///
 /// ```text
 /// is_unfinished("1m +", Options::off(), Some(TimeUnit::Second)) // true

@@ -12,8 +12,9 @@ use duration_str::{Breakdown, FORMAT_BUFFER_SIZE, Format, Style, TimeUnit, write
 use std::time::Duration;
 
 /// Writes the time that is left to the caller's buffer, and returns the text. It has at most two
-/// parts, and no unit shorter than the second. It never shows more than is left, and is read as the
-/// time that it shows, whatever the options and the default unit.
+/// parts, and no unit shorter than a second. It never shows more than is left. If the time that it
+/// shows is below 2^64 nanoseconds, it is read as that time, whatever the options and the default
+/// unit.
 ///
 /// ```text
 /// time_left(&Duration::new(5_400, 999_999_999), &mut buffer) // "1h 30min"

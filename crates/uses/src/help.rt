@@ -39,7 +39,7 @@ const CN_UNIT: Options = Options {
 
 const SECONDS: Option<TimeUnit> = Some(TimeUnit::Second);
 
-/// The cause of the refusal of a text that has one digit and then a word that names no unit.
+/// The cause for which `1M` is refused under `lowercase`.
 const NO_UNIT: Cause = Cause::Syntax {
     place: 1,
     expected: Expected {
@@ -50,8 +50,7 @@ const NO_UNIT: Cause = Cause::Syntax {
     },
 };
 
-/// The cause of the refusal of a text of five bytes that ends with a number, if each number needs
-/// its unit.
+/// The cause for which `1h 30` is refused, if each number needs its unit.
 const UNIT_MISSING: Cause = Cause::Syntax {
     place: 5,
     expected: Expected {
@@ -110,8 +109,8 @@ pub fn humantime_examples() -> [(&'static str, Options, Result<Duration, Cause>)
 }
 
 /// Returns words for a help page that people write for units, but that name no unit under any
-/// options, each after the name to write instead. Under all options that name is the unit that
-/// people mean by the word.
+/// options, each after the name to write instead. Under all options that name stands for the unit
+/// that people mean by the word.
 ///
 /// ```text
 /// refused_words()[1] // `min` for `mins`

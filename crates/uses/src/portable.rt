@@ -38,9 +38,9 @@ pub fn keeps_value(text: &str, before: Options, after: Options) -> bool
     are_unaffected(text, before, after)
 }
 
-/// Returns whether a text means the same by humantime's units and by the library's own: either both
-/// read it as the same value, or both refuse it. A program that leaves humantime can ask this of
-/// each text that it has stored.
+/// Returns whether a text means the same by humantime's units and by the library's own, if units
+/// are required: either both read it as the same value, or both refuse it. A program that leaves
+/// humantime can ask this of each text that it has stored.
 ///
 /// ```text
 /// keeps_value_without_humantime("1h 30m", Options::off()) // true

@@ -85,16 +85,16 @@ pub enum Cause {
     },
     /// A number is 2^64 or more.
     NumberTooLarge {
-        /// 0 if it is the text's first number, and `None` if it is a later one.
+        /// 0 if it is the first number of a text that was read, and otherwise `None`.
         place: Option<usize>,
     },
     /// A term, a step of the evaluation or the value is 2^64 nanoseconds or more.
     Overflow {
-        /// 0 if the first term is too large. `None` if a later term, a step or the value is too
-        /// large.
+        /// 0 if the first term of a text that was read is too large, and otherwise `None`.
         place: Option<usize>,
     },
-    /// The text has both operators: `later` follows `first`, and differs from it.
+    /// A sum and a product are mixed: the operator `later` follows `first`, and differs from it. An
+    /// operator that is left out is a plus.
     Mixed {
         /// The first operator.
         first: CondUnit,
@@ -112,8 +112,8 @@ pub enum Cause {
 }
 
 impl Cause {
-    /// Returns the byte offset of the fault. A syntax fault always has one. If the first term is
-    /// too large, the offset is 0. For all other causes it is `None`.
+    /// Returns the byte offset of the fault, if the cause has one: the place of a syntax fault, or
+    /// 0 if the first term of a text that was read is too large.
     ///
     /// In a `Fault` the offset is a character boundary within the text.
     ///

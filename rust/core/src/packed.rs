@@ -1,7 +1,7 @@
 // Made by tools/erase of crates/duration_str/src/packed.rt.
 //! A word's letters packed into one number, and the unit that such a number names. The letters are
-//! digits to the base
-//! 40. A capital has the same digit as its small letter, unless the option `lowercase` is on.
+//! its digits, to the base 40. A capital has the same digit as its small letter, unless the option
+//! `lowercase` is on.
 
 use crate::options::Options;
 use crate::unit::TimeUnit;
@@ -120,7 +120,7 @@ const CAPITAL_M: u64 = 39;
 /// The unit with a name that packs to this number.
 #[inline]
 pub(crate) fn unit_of_packed(packed: u64) -> Option<TimeUnit> {
-    // The product is computed in 128 bits, which the compiler turns into one multiplication of 64
+    // The product is computed in 128 bits, which the compiler turns into a multiplication of 64
     // bits, since only its lower half is used.
     let slot = ((packed as u128 * SPREAD as u128) % MODULUS) as u64 >> 57;
     let name = SLOTS[slot as usize] as usize;

@@ -53,13 +53,13 @@ pub fn parse_std(input: &str) -> Result<Duration, Fault<'_>> {
 ///
 /// A refusal holds the text, and the first cause in this order:
 /// - `Empty` for the empty text
-/// - a fault in the value of the first term
+/// - a fault of the first term, unless a syntax fault directly follows its number
 /// - `Syntax` at the first token that can't follow the text before it, or at the end of the text,
 ///   with what could stand there
 /// - the first fault of the evaluation
 ///
-/// Under `no_calc` the terms are added one by one, so the fault of a term comes before a syntax
-/// fault after it. The call allocates nothing.
+/// Under `no_calc` the terms are added one by one, so the fault of a term, or of the sum up to it,
+/// comes before a syntax fault after the term's unit. The call allocates nothing.
 ///
 /// # Errors
 ///
@@ -86,8 +86,8 @@ pub fn parse_with(input: &str, o: Options) -> Result<Duration, Fault<'_>> {
 /// each number must have its unit, so only a unit can follow a number.
 ///
 /// A product multiplies its terms in seconds, and a factor without a unit counts the default unit
-/// too: in milliseconds `90s*2` is 180 ms. If the numbers in your texts are milliseconds, turn on
-/// `no_calc`, so that operators are refused. The call allocates nothing.
+/// too: with milliseconds, `90s*2` is 180 ms. If the numbers in your texts are milliseconds, turn
+/// on `no_calc`, so that operators are refused. The call allocates nothing.
 ///
 /// # Errors
 ///
@@ -111,8 +111,8 @@ pub fn parse_with_default_unit(
 
 /// Reads a text as `parse_with_default_unit` does, and returns the duration in nanoseconds.
 ///
-/// The reader is compiled twice: once for the case that all options are off and the default unit is
-/// the second, which is faster, and once for all other cases.
+/// For this call the reader is compiled twice: once for the case that all options are off and the
+/// default unit is the second, which is faster, and once for all other cases.
 ///
 /// # Errors
 ///
@@ -167,9 +167,9 @@ pub fn parse_nanos_specialized(
 /// duration in nanoseconds.
 ///
 /// A month has 30.44 days and a year 365.25. Each number needs a unit. The library's own names are
-/// read too, and `+` and `*`. For humantime's texts turn on `lowercase`, so that `1M` is a month
-/// and `1m` a minute. As with `parse_nanos_specialized`, the whole reader is compiled into each
-/// place in the source that calls this.
+/// read too, and, unless `no_calc` is on, `+` and `*`. For humantime's texts turn on `lowercase`,
+/// so that `1M` is a month and `1m` a minute. As with `parse_nanos_specialized`, the whole reader
+/// is compiled into each place in the source that calls this.
 ///
 /// # Errors
 ///
@@ -193,8 +193,8 @@ pub fn parse_humantime_specialized(input: &str, o: Options) -> Result<u64, Fault
 /// Returns what `parse_with` returns, and how many times a character of the text was looked at.
 ///
 /// There are at most as many looks as characters. Reading a token again after it was cut off is not
-/// counted. If the text is accepted, all its characters are looked at. If it has a syntax fault, at
-/// least the characters before the fault's place are looked at.
+/// counted. If the text is accepted, there are as many looks as characters. If it has a syntax
+/// fault, there are at least as many looks as characters before the fault's place.
 ///
 /// ```text
 /// parse_looked("3m 13s", Options::off()) // (Ok(Duration::from_secs(193)), 6)

@@ -3,18 +3,18 @@
 //!
 //! The text has the greatest possible count of the largest unit, then the greatest count of the
 //! next unit in what is left, and so on down to the smallest unit, or until there are as many parts
-//! as were asked for. Counts of 0 are left out, and so is what remains at the end. A duration of 0
-//! is `0s`.
+//! as were asked for. Counts of 0 are left out, and so is what remains at the end. If there are no
+//! parts, the text is a zero, such as `0s`.
 //!
-//! Each function that writes keeps the first `at` bytes of the buffer, writes its part after them,
-//! and returns where that part ends.
+//! A function with an argument `at` keeps the first `at` bytes of the buffer, writes its part after
+//! them, and returns where that part ends.
 
 use crate::breakdown::Breakdown;
 use crate::format::{Format, Style, Units};
 use crate::unit::{Printed, TimeUnit, UNITS};
 use core::time::Duration;
 
-/// The length in bytes of the longest printed duration, except in the long style:
+/// The greatest length in bytes of a printed duration, except in the long style, such as of
 /// `100000000000y 3q 2mon 3w 6d 23h 59min 59s 999ms 999µs 999ns`.
 ///
 /// ```
@@ -48,8 +48,8 @@ pub fn write_human<'b>(d: &Duration, buffer: &'b mut [u8; HUMAN_BUFFER_SIZE]) ->
     printed(buffer, end)
 }
 
-/// The length in bytes of the longest printed duration in the long style: `100000000000 years 3
-/// quarters 2 months 3 weeks 6 days 23 hours 59 minutes 59 seconds 999 milliseconds 999
+/// The greatest length in bytes of a printed duration in the long style, such as of `100000000000
+/// years 3 quarters 2 months 3 weeks 6 days 23 hours 59 minutes 59 seconds 999 milliseconds 999
 /// microseconds 999 nanoseconds`.
 pub const MAX_LONG_LEN: usize = 134;
 
@@ -110,8 +110,9 @@ pub(crate) fn put_number(buffer: &mut [u8], at: usize, n: u64) -> usize {
     put_digit(buffer, end, n % 10)
 }
 
-/// Writes a number of one or two digits. A single digit is written twice to the same place, so that
-/// no branch is needed. (A branch on the number of digits can't be predicted.)
+/// Writes a number of one or two digits. A single digit is written over a `0` that was written to
+/// its place, so that no branch on the number of digits is needed. (Such a branch can't be
+/// predicted.)
 #[inline(always)]
 fn put_tens(buffer: &mut [u8], at: usize, n: u64) -> usize {
     let tens = n / 10;
@@ -168,7 +169,7 @@ fn put_wide(buffer: &mut [u8], at: usize, n: u128) -> usize {
 }
 
 /// Writes a unit's printed name. It copies four bytes (the name, and the spaces after it in the
-/// row), which takes no call and no branch.
+/// row), which takes no call.
 #[inline(always)]
 fn put_name(buffer: &mut [u8], at: usize, row: &Printed) -> usize {
     buffer[at..at + 4].copy_from_slice(&row.letters);

@@ -53,8 +53,8 @@ fn expect_number(tokens: &mut Tokens<'_>) -> Result<(), Cause> {
     Err(Cause::syntax(tokens.place(), Expected::at_start()))
 }
 
-/// Reads the unit after a number. If an operator or the end follows, the unit is the default unit,
-/// and no token is taken.
+/// Reads the unit after a number. If the end follows, or an operator (not under `no_calc`), no
+/// token is taken, and the unit is the default unit, if there is one.
 #[inline(always)]
 fn read_unit(tokens: &mut Tokens<'_>, settings: Settings) -> Result<TimeUnit, Cause> {
     let Some(sort) = tokens.sort_after_number() else {
@@ -84,7 +84,7 @@ fn unit_left_out(place: usize, settings: Settings) -> Result<TimeUnit, Cause> {
     }
 }
 
-/// The syntax fault of a token that can't follow a number.
+/// The syntax fault at a place where no unit follows the number.
 #[inline(always)]
 fn no_unit(place: usize, settings: Settings) -> Cause {
     Cause::syntax(place, Expected::after_number(settings))
@@ -117,7 +117,7 @@ fn no_operator(place: usize, settings: Settings) -> Cause {
     Cause::syntax(place, Expected::after_unit(settings))
 }
 
-/// Adds one more term to the later terms. `next` is the operator before it.
+/// Combines the later terms with one more. `next` is the operator before it.
 #[inline(always)]
 fn with_term(
     later: Later,

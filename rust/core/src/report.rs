@@ -1,5 +1,5 @@
 // Made by tools/erase of crates/duration_str/src/report.rt.
-//! A fault for a terminal: the text, a caret below its place, and the line.
+//! A fault for a terminal: its line, or the text, a caret and its line.
 
 use crate::cause::Cause;
 use crate::fault::Fault;

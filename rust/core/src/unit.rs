@@ -40,7 +40,7 @@ pub enum TimeUnit {
     NanoSecond,
 }
 
-/// The second, which a number without a unit counts.
+/// The second, which is the default unit of `parse_with`.
 impl Default for TimeUnit {
     fn default() -> TimeUnit {
         TimeUnit::Second
@@ -153,8 +153,8 @@ const YEAR: u64 = 365 * DAY;
 pub(crate) struct Printed {
     pub(crate) unit: TimeUnit,
     pub(crate) nanos: u64,
-    /// The greatest count of the unit that is below 2^64 nanoseconds. It is also the reciprocal of
-    /// the unit's length, as a fraction of 2^64.
+    /// The greatest count of the unit that is below 2^64 nanoseconds. It also serves as the
+    /// reciprocal of the unit's length, as a fraction of 2^64.
     pub(crate) most: u64,
     /// The printed name, filled up with spaces, so that every name is copied as four bytes.
     pub(crate) letters: [u8; 4],
@@ -189,8 +189,8 @@ impl Printed {
     }
 }
 
-/// The names and lengths that printing uses, the longest unit first. The names that are read are in
-/// another table, so that a program that only prints does not contain them.
+/// The short names and the lengths that printing uses, the longest unit first. The names that are
+/// read are in another table, so that a program that only prints does not contain them.
 pub(crate) static PRINTED: [Printed; 11] = [
     Printed {
         unit: TimeUnit::Year,

@@ -80,7 +80,7 @@ bytes_of_digits bs utf8 digits =
 pub fitting_number : (n low : ℕ) → low ≡ n % 2 ^ 64 → then_some (fits n) low ≡ u64_from n
 fitting_number n low same = search (rules, cases_lt, lt-ltb, le-ltb)
 
--- the standard library's `parse` gives the number that the digits write
+-- the standard library's `parse` gives the number that the digits write, if it is below 2^64
 pub parsed_u64 : {E : Type 0} (bs : List ℕ) (r : Result ℕ E) (parsed : Option ℕ) → IsUtf8 bs → IsNumber (chars bs)
     → ParsesUnsigned 64 10 bs r → parsed ≡ result_ok r → parsed ≡ u64_from (number_of (chars bs))
 parsed_u64 bs r parsed utf8 digits parses is = search (rules, bytes_of_digits, decimal_digits)

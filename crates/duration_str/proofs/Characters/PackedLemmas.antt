@@ -22,8 +22,8 @@ is_wide_letter c = list_any (λ d. d == c) wide_letters
 abbrev is_between : ℕ → ℕ → ℕ → Bool
 is_between first last c = leb first c && leb c last
 
--- whether a character is a letter of the units' names: a small letter except `z`, `M`, or a letter
--- beyond ASCII
+-- whether a character is `M`, a small letter except `z`, or a letter beyond ASCII, as all letters
+-- of the units' names are
 abbrev is_name_letter : ℕ → Bool
 is_name_letter c = is_between 97 121 c || (is_between 77 77 c || is_wide_letter c)
 
@@ -195,7 +195,8 @@ named_by_number table o w u letters =
 
 -- ---- words that name no unit
 
--- A word names no unit if all names pass a test that the word fails.
+-- A word names no unit if all names pass a test that the form in which it is compared with them
+-- fails.
 pub no_name : (r : Rules) (w : List ℕ) (test : List ℕ → Bool)
     → list_all (λ u. list_all test (all_names_in r.table u)) units ≡ true
     → test (comparison_form r.options w) ≡ false → None ≡ unit_of_word r w

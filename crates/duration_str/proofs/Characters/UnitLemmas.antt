@@ -20,7 +20,7 @@ each_passes test (u ∷ us) h =
 pub all_units : (test : TimeUnit → Bool) → list_all test units ≡ true → (u : TimeUnit) → test u ≡ true
 all_units test h = each_unit (λ u. test u ≡ true) (each_passes test units h)
 
--- With the library's own table, each unit is longer than 0, and shorter than 2^64 nanoseconds.
+-- With the library's own table, each unit is longer than 0, and shorter than 2^60 nanoseconds.
 pub some_length : (u : TimeUnit) → 1 ≤ nanos_of u
 some_length u = leb-true 1 (nanos_of u) (all_units (λ v. leb 1 (nanos_of v)) refl u)
 
@@ -102,13 +102,13 @@ module _ (o : Options) where
   named_unit w u h =
       found_only w units u h (all_units (λ u. list_any (λ v. eqb (nanos_of v) (nanos_of u)) units) refl u)
 
--- ---- The printed names: their lengths in bytes, and that they are characters
+-- ---- The printed names: their lengths in bytes
 
 pub length_name : (u : TimeUnit) → length (encode_utf8_all (row_of u).printed) ≡ byte_len (row_of u).printed
 unfolding lib.Utf8.encode
 length_name = each_unit (λ u. length (encode_utf8_all (row_of u).printed) ≡ byte_len (row_of u).printed) assumption
 
--- the greatest length of a unit's name in a style
+-- the greatest length of what follows a count of the unit in a style
 abbrev pub name_len : Style → TimeUnit → ℕ
 name_len style u = byte_len (name_part style false u)
 

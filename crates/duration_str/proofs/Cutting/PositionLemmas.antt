@@ -37,7 +37,7 @@ module _ {text : List ℕ} (place looks : ℕ) where
   looks_most None stands counted = omega (arith, counted)
   looks_most (Some c) stands counted = omega (arith, ap length (stands c refl).head, counted)
 
-  -- each character before the place was looked at
+  -- there are at least as many looks as characters before the place
   pub looks_least : (head : Option ℕ) → IsUtf8 text → IsCharBoundary text place → IsCounted text place looks head
       → length (chars (take place text)) ≤ looks
   looks_least head utf8 boundary counted =
@@ -157,7 +157,7 @@ module _ (settings : Settings) {text : List ℕ} {place next value : ℕ}
 
 -- ---- a word by itself
 
--- The word begins with unit letters whose packed number is n modulo 2^64, and `rest` follows them.
+-- The word begins with unit letters whose packed number modulo 2^64 is n, and `rest` follows them.
 pub record Packs (o : Options) (word rest : List ℕ) (n : ℕ) : Type 0 where
   pub letters : List ℕ
   pub whole : word ≡ letters ++ rest
@@ -176,7 +176,7 @@ packs_more {o} {c = c} passed letter more = record {
   number = omega (arith, more, passed.number, packed_after-push o 0 passed.letters c);
 }
 
--- a word whose characters are all packed names the unit of its packed number
+-- a word of at most 12 bytes whose characters are all packed names the unit of its packed number
 pub packs_unit : {o : Options} {word : List ℕ} {n : ℕ} {unit : Option TimeUnit} → Packs o word [] n → byte_len word ≤ 12
     → unit ≡ unit_of_packed row_of n → unit ≡ unit_of_word (rules_of o) word
 packs_unit {o} {word} {n} packed short found =

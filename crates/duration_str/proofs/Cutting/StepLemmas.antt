@@ -67,7 +67,7 @@ takes_word r {s} h kept taken stops =
     let letter = letter_of_sort (options_of s) h.character h.is_sort in
     takes_token kept (word_stands (rules_at r s) taken (simp kept.text at stops) (s.some h.character h.is_head) letter)
 
--- a step past a single character takes it as a token
+-- a step past a sign (`IsSign`) takes it as a token
 pub takes_sign : {s t : Tokens} (r : Rules) (sort : TokenStart) → IsSign sort → IsAhead s (Some sort) → KeepsInput s t
     → ((c : ℕ) → s.head ≡ Some c → StandsAt (source s) (cut_place s) (cut_place t) c)
     → TakesTokenWith r s t (λ terminal. sort ≡ sort_of terminal)

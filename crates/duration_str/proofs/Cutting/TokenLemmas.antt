@@ -18,7 +18,7 @@ module _ (o : Options) where
   same_end c d [] h = refl
   same_end c d (e ∷ rest) h = same_run o c d e h
 
-  -- A lexeme is one token.
+  -- A lexeme is one token, if its run ends with it.
   run_token : (at c : ℕ) (cs rest : List ℕ) → IsLexeme o (c ∷ cs) → EndsRun o (c ∷ cs) rest
       → tokens_from o at (c ∷ (cs ++ rest))
       ≡ record { start = at; characters = c ∷ cs } ∷ tokens_from o (at + byte_len (c ∷ cs)) rest

@@ -1,4 +1,4 @@
--- Two durations print the same text exactly if they are equal.
+-- Two durations print the same text in a style exactly if they are equal.
 use Rattle.duration_str.proofs.Common.{EqualTexts, FitsDuration, IsPrintedIn, List, off, rules_of, Second, Some, Style, sum_of, terminals_of, terms_of, ℕ, ◌≡◌}
 use Rattle.duration_str.proofs.Sentences.SpellingLemmas.{sentence_terminals}
 use Rattle.duration_str.proofs.Printer.PrintingLemmas.{counts_are, duration_lexemes, duration_sum, printed_is_sum}

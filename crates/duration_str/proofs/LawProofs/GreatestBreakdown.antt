@@ -1,4 +1,4 @@
--- The counts by quotients and remainders are the greatest breakdown, and the only one.
+-- The counts by quotients and remainders are the greatest breakdown, and no other counts are.
 use Rattle.duration_str.proofs.Common.{[], arith, cases_lt, counts_of, div-add-mod', GreatestBreakdown, inl, inr, IsBefore, IsGreatestBreakdown, length, List, refl, rules, unit_lengths, weighted_sum, ℕ, ◌%◌, ◌*◌, ◌+◌, ◌/◌, ◌∷◌, ◌≡◌, ◌≤◌, ◌⊎◌}
 
 -- Each length is above 0, and the last is 1.

@@ -4,8 +4,6 @@ use Rattle.duration_str.proofs.Common.{[], allows, ap, append-nil, ap₂, cases_
 use Rattle.duration_str.proofs.Sentences.AnswerLemmas.{sentence_refused}
 use Rattle.duration_str.proofs.Sentences.FrontLemmas.{AreAllowed, sentence_allowed}
 
--- ---- Names and units
-
 -- ---- Terminals and terms
 
 -- Each unit among these terminals still has its length.

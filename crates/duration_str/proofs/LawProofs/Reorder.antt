@@ -1,4 +1,4 @@
--- Sums whose terms have the same values, maybe in another order, are equal.
+-- Sums whose terms have the same values, maybe in another order, have the same value.
 use Rattle.duration_str.proofs.Common.{[], arith, cases_Bool, cond-true, eq-eqb, eqb-true, find, if◌then◌else◌, List, map, refl, Reorder, Some, sum_by, sum_by-cons, sum_of, Term, times_in, value_of_term, ℕ, ◌+◌, ◌==◌, ◌∷◌, ◌≡◌, ◌≤◌}
 use Rattle.std.specs.Set.{remove_key}
 use Rattle.std.proofs.lemmas.Map.Made.{sum_by-remove_key}

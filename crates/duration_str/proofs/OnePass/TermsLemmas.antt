@@ -89,8 +89,8 @@ pub number_taken : (r : Rules) {s a : Tokens} {n : Option ℕ} (op : CondUnit) (
 number_taken r {s} {a} op taken read is =
     rw (after_token (taken.token r), terms_read r op (cut_place s) taken.n (rest_of r a), is)
 
--- After an operator is read and the number after it is taken, the terms that are left depend on
--- that result too.
+-- After an operator is read and the number after it is taken, the terms that are left depend on the
+-- result of reading the unit after it, too.
 pub term_passed : (r : Rules) {s a : Tokens} {n : Option ℕ} {next : CondUnit} (b : Rest)
     → leaving (rest_of r s) (Ok (Some next)) ≡ operator_read r b → (taken : TakesNumber s a n)
     → (read : Result (ReadItem TimeUnit) Cause) → read ≡ unit_read r (rest_of r a)

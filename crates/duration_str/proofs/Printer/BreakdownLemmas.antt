@@ -19,12 +19,13 @@ pub part_skipped : (u : TimeUnit) (us : List TimeUnit) (most nanos : ℕ) → na
     → parts_in us most nanos ≡ parts_in (u ∷ us) most nanos
 part_skipped u us most nanos long = search rules
 
--- Otherwise its part comes first, and the other parts are those of the remainder.
+-- Otherwise, if a part is allowed, its part comes first, and the other parts are those of the
+-- remainder.
 pub part_taken : (u : TimeUnit) (us : List TimeUnit) (most nanos : ℕ) → 1 ≤ most → nanos_of u ≤ nanos
     → parts_in (u ∷ us) most nanos ≡ (u, nanos / nanos_of u) ∷ parts_in us (most - 1) (nanos % nanos_of u)
 part_taken u us most nanos left h = search rules
 
--- There are at most as many parts as are allowed, and at most one for each unit.
+-- There are at most as many parts as are allowed, and at most as many as units.
 pub parts_few : (us : List TimeUnit) (most nanos : ℕ)
     → (length (parts_in us most nanos) ≤ most) × (length (parts_in us most nanos) ≤ length us)
 parts_few [] most nanos = omega arith

@@ -7,7 +7,7 @@ length_one n h = ap length (decimal_digit n h)
 pub length_step : (n : ℕ) → 10 ≤ n → n < 10 ^ 64 → length (decimal n) ≡ length (decimal (n / 10)) + 1
 length_step n low high = ap length (decimal_step_wide n low high) ∙ length-append _ _
 
--- The digits of n / 10, and then the last digit of n, are the digits of n.
+-- If n is 10 or more, the digits of n / 10, and then the last digit of n, are the digits of n.
 pub put_last : (bytes before after : List ℕ) (n : ℕ) → after ≡ before ++ decimal (n % 10)
     → before ≡ bytes ++ decimal (n / 10) → 10 ≤ n → n < 10 ^ 64 → after ≡ bytes ++ decimal n
 put_last bytes before after n last first low high = search (rules, decimal_digit, decimal_step_wide, append_assoc)

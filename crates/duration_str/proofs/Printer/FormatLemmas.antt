@@ -67,8 +67,8 @@ with_nothing style (u ∷ us) bytes most nanos none =
 
 -- ---- The most bytes
 
--- the most bytes that the parts of less than `limit` nanoseconds in these units can have, with a
--- space after each part
+-- a bound on the bytes of the parts of less than `limit` nanoseconds in these units, with `between`
+-- after each part
 abbrev most_bytes : Style → ℕ → List TimeUnit → ℕ
 most_bytes style limit [] = 0
 most_bytes style limit (u ∷ us) =
@@ -134,7 +134,7 @@ days_fit y q m w d y_fits q_fits m_fits w_fits d_fits =
       part_more Short weeks Day d 9 d_fits (omega arith),
     )
 
--- the most bytes of parts that begin with any of these units
+-- the greatest `most_bytes` of all choices of these units
 abbrev worst : Style → ℕ → List TimeUnit → ℕ
 worst style limit [] = 0
 worst style limit (u ∷ us) =
@@ -151,7 +151,7 @@ worst_fits : (style : Style) → worst style (2 ^ 64 * 10 ^ 9) units ≤ most_le
 unfolding digits
 worst_fits style = search (rules, leb-true)
 
--- If the bytes and a space after them fit, the bytes do.
+-- If the bytes and the gap after them fit, the bytes do.
 less_gap : (style : Style) (bytes : List ℕ) (most : ℕ) → length (with_gap style bytes) ≤ most + length (between style)
     → length bytes ≤ most
 less_gap style bytes most h = search (rules, length-append)

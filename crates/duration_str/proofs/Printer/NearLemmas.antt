@@ -50,7 +50,8 @@ found_unit small (u ∷ us) none =
       | inr far ↦ found ∙ rw (own, far) (found_unit small us none)
     ]
 
--- the word and the name of a row in the code's table, without the spaces after them
+-- the word of a row in the code's table, in small letters, and its name, both without the spaces
+-- after them
 abbrev row_said : Row → Row
 row_said row = (map to_ascii_lowercase (trimmed row.0), trimmed row.1)
 

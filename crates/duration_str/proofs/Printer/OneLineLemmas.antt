@@ -232,9 +232,9 @@ unit_alone : (expected : Expected) → (expected.unit_word && not (expected.oper
     → expected_words expected ≡ codes "expected a unit"
 unit_alone expected only = grind (arith, common_steps)
 
--- The help for a number without its unit is longer than any other help. It stands only after the
--- shortest of the words that say what was expected, so the line is no longer than with the longest
--- words and other help.
+-- The help for a number without its unit can be longer than any other help. It stands only after
+-- the shortest of the words that say what was expected, so the line is no longer than with the
+-- longest words and other help.
 words_short : (expected : Expected) (text help : List ℕ) {column found : List ℕ} → IsShort 31 column → IsShort 173 found
     → IsShort 52 help
     → IsShort 294 (expected_words expected ++ (column ++ (found ++ missing_unit_help expected text help)))
@@ -361,7 +361,7 @@ taken_first first text rest utf8 parts = record {
   whole = rw (chars_past_char text rest first utf8 parts) refl;
 }
 
--- If the next character is like the first one, it is taken too.
+-- If the next character is like the first one, and one more may follow, it is taken too.
 pub taken_more : (first : ℕ) (text rest after : List ℕ) (left c : ℕ) → IsUtf8 rest → rest ≡ encode_utf8 c ++ after
     → left ≢ 0 → is_like first c ≡ true → Taken first text rest left → Taken first text after (left - 1)
 taken_more first text rest after zero c utf8 parts some like before = absurd (some refl)

@@ -23,7 +23,7 @@ some_part : (style : Style) (bytes : List ℕ) (n : ℕ) (u : TimeUnit) → n < 
     → 0 < length (bytes ++ part_bytes style n u)
 some_part style bytes n u h = search (rules, length-append, some_decimal)
 
--- If there are bytes already, each part comes after the space between two parts.
+-- If there are bytes already, each part comes after what stands between two parts.
 parts_after : (style : Style) (us : List TimeUnit) (bytes counts : List ℕ) → 0 < length bytes → AreShort counts
     → with_counts style bytes us counts
     ≡ bytes ++ encode_utf8_all (flat_map (λ part. between style ++ part) (printed_parts style us counts))

@@ -26,7 +26,7 @@ last_space end buffer (b ∷ bytes) inside same =
     omega (arith, ap length same, length-take-le end buffer inside, length-append whole (32 ∷ [])) in
     sym (take-take (end - 1) end buffer (omega arith)) ∙ rw (same, before) (take-append_seam whole (32 ∷ []))
 
--- The counts of a duration are quotients of its days, its other seconds and its other nanoseconds.
+-- The counts of a duration are computed from its days, its other seconds and its other nanoseconds.
 pub counts_by_days : (days secs nanos : ℕ) → secs < 86400 → nanos < 10 ^ 9
     → counts_of unit_lengths ((days * 86400 + secs) * 10 ^ 9 + nanos)
     ≡ counts_of (365 ∷ 91 ∷ 30 ∷ 7 ∷ 1 ∷ []) days

@@ -11,7 +11,7 @@ use Rattle.duration_str.specs.OtherResults.{IsValueOrFault, Reads}
 
 -- ---- The faults of a sentence
 
--- Under `no_calc` the table allows no operator.
+-- Under `no_calc` the table allows no operator, so none is other than plus.
 pub allowed_plus : (r : Rules) (last : Option Terminal) (terminals : List Terminal) → r.options.no_calc ≡ true
     → AreAllowed r last terminals → AllPlus terminals
 allowed_plus r last [] calc h = tt
@@ -246,7 +246,8 @@ fitting_sum_read {r} {lexemes} s f e h =
       value = value_is_sum terms some added ∙ ap Some e;
     }
 
--- With the library's own table, each term of such a sum fits.
+-- With the library's own table, each term of a sum below 2^64 fits, so a text that the sum spells
+-- is read as it.
 pub sum_read : {default_unit : Option TimeUnit} {o : Options} {lexemes : List (List ℕ)} {text : List ℕ} {nanos : ℕ}
     → IsSumOf (rules_with o default_unit) lexemes text
     → sum_of (written_terms (rules_with o default_unit) lexemes) ≡ nanos → nanos < 2 ^ 64
@@ -298,7 +299,7 @@ parses_text r bytes (Ok nanos) (Err f) is h = absurd is
 parses_text r bytes (Err f) result is h =
     rw is (record { read = tt; accepts = h.accepts; refused = h.refused; fits = tt })
 
--- The same, for the nanoseconds of the duration.
+-- A right result of `parse` is also right by `ParsesAs`.
 pub parses_as : (bytes : List ℕ) (r : Result Duration Fault) → Parses (rules_of off) bytes r
     → ParsesAs (λ d. pos (as_nanos d)) bytes r
 parses_as bytes (Ok d) parsed = (as_nanos d, parsed.read, refl)

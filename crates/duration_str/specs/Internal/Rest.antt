@@ -69,8 +69,8 @@ abbrev pub number_fault : Rest → Option Cause
 number_fault (terminal_at at (number n) rest) = None
 number_fault rest = Some (misplacement expected_at_start rest)
 
--- the unit after a number. Before an operator and at the end the unit can be left out, and is then
--- the default unit if there is one
+-- the unit after a number. Before an operator (not under `no_calc`) and at the end the unit can be
+-- left out if there is a default unit, and is then that unit
 abbrev pub unit_read : Rules → Rest → Result (ReadItem TimeUnit) Cause
 unit_read r (terminal_at at (word (Some u)) rest) = leaving rest (Ok u)
 unit_read r (terminal_at at (operator op) rest) =
@@ -116,8 +116,8 @@ abbrev pub checked_combination : CondUnit → ℕ → Result ℕ Cause → Resul
 checked_combination op x (Ok y) = ok_or (u64_from (combination op x y)) (Overflow None)
 checked_combination op x (Err cause) = Err cause
 
--- the total of the later terms after one more term, or the fault of that step. `later` has their
--- operator and their total so far, and `next` is the operator before the new term
+-- the total of the later terms after one more term, or the fault of that step. The first argument
+-- has the operator and the total of those so far, and `next` is the operator before the new term
 abbrev pub total_with : Option (CondUnit × ℕ) → CondUnit → Option ℕ → ℕ → Result ℕ Cause
 total_with None next n length = checked_term None n length
 total_with (Some (op, total)) next n length =

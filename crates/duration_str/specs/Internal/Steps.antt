@@ -97,7 +97,7 @@ pub record TakesTokenWith (r : Rules) (old new : Tokens) (Has : Terminal → Typ
   pub token : TakesToken r old new terminal
   pub has : Has terminal
 
--- If a token of a single character is ahead, it is taken. It stands for a terminal of its sort.
+-- If a sign (`IsSign`) is ahead, it is taken. It stands for a terminal of its sort.
 abbrev pub TakesSign : Tokens → Tokens → Type 0
 TakesSign old new =
     (r : Rules) (sort : TokenStart) → IsSign sort → IsAhead old (Some sort)

@@ -51,7 +51,8 @@ all_names_in table u = (table u).names ++ (table u).chinese
 abbrev pub all_names : TimeUnit → List Characters
 all_names u = all_names_in row_of u
 
--- whether the packed number of a name is n. Under `lowercase` capitals have digits of their own
+-- whether the packed number of a name is n. It is packed under `lowercase`, so that `M` differs
+-- from `m`
 abbrev pub packs_to : ℕ → Characters → Bool
 packs_to n name = packed_number (record off { lowercase = true }) name == n
 
@@ -59,7 +60,7 @@ packs_to n name = packed_number (record off { lowercase = true }) name == n
 unfoldable pub unit_of_packed : Table → ℕ → Option TimeUnit
 unit_of_packed table n = find (λ u. list_any (packs_to n) (all_names_in table u)) units
 
--- the bytes without the spaces at their end
+-- the bytes without the white space at their end
 abbrev pub trimmed : Bytes → Bytes
 trimmed bytes = take (length bytes - suffix_len is_ascii_whitespace bytes) bytes
 
@@ -67,6 +68,7 @@ trimmed bytes = take (length bytes - suffix_len is_ascii_whitespace bytes) bytes
 abbrev pub is_megabyte : Bytes → Bool
 is_megabyte word = is_among small_words (map to_ascii_lowercase word) && not (is_among small_words word)
 
--- whether a word is the word in a row of the table, which is filled up with spaces
+-- whether a word is the word in a row of the table, which is filled up with spaces, if ASCII
+-- capitals are read as small letters
 abbrev pub is_near : Bytes → Bytes → Bool
 is_near near word = bytes_eq (map to_ascii_lowercase word) (map to_ascii_lowercase (trimmed near))
