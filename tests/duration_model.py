@@ -1,6 +1,7 @@
 """duration_model.py PROGRAM [SECONDS [SEED]]: runs the command `duration` with the rows of
 rust/vectors.json, and then with random options, arguments and lines. It compares the output and the
-status with a model that was made only from shell/README.md and `duration --help`.
+status with a model that reads and prints by the reference parser, and was otherwise made from
+shell/README.md and `duration --help`.
 """
 import collections
 import fractions
