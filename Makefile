@@ -16,8 +16,8 @@
 # make install         installs what was built, the header, the manual pages and completions below
 #                      prefix=/usr/local, or into bindir=, libdir=, includedir=, mandir=, docdir=
 #                      and datarootdir=, all below DESTDIR= if that is set
-# make install-library installs of this only what belongs to the library for C. For another machine
-#                      this doesn't need Rust's standard library, which the program needs
+# make install-library installs only what belongs to the library for C. For another machine this
+#                      doesn't need Rust's standard library, which the program needs
 # make uninstall       removes them again, given the same variables
 # make release         fills dist/, or dist=FOLDER, with packages for machines without a toolchain
 # make page            writes out/duration_str.html, a page to try texts on
