@@ -13,13 +13,13 @@
 # make quick           runs the tests that take seconds and the checks of what has changed
 # make format          lays out Rust, Python, C, Go and shell scripts, by the usual tool of each
 #                      language
-# make install         installs what was built, the header, the manual pages and completions below
-#                      prefix=/usr/local, or into bindir=, libdir=, includedir=, mandir=, docdir=
-#                      and datarootdir=, all below DESTDIR= if that is set
+# make install         installs the programs, the library, its header, manual pages and completions
+#                      below prefix=/usr/local, or into bindir=, libdir=, includedir=, mandir=,
+#                      docdir= and datarootdir=, all below DESTDIR= if that is set
 # make install-library installs only what belongs to the library for C. For another machine this
 #                      doesn't need Rust's standard library, which the program needs
-# make uninstall       removes them again, given the same variables
-# make release         fills dist/, or dist=FOLDER, with packages for machines without a toolchain
+# make uninstall       removes what was installed, given the same variables
+# make release         fills dist/, or dist=FOLDER, with the files of a release
 # make page            writes out/duration_str.html, a page to try texts on
 # make clean           removes what was built and proved here, except dist/
 #

@@ -1,8 +1,8 @@
 """Checks what the documents say, for tests/repository.
 
 - A link leads to a file or folder of the repository, and to a heading if it names one. Links to
-  other hosts are not followed. A path in backquotes exists, and a name in backquotes occurs in a
-  source.
+  other hosts are not followed. A path in backquotes exists. A name in backquotes occurs in a
+  source, except in CHANGELOG and MIGRATING.
 - What is proved stands in docs/PROMISES.md. Each promise there names the contract, law or test that
   shows it, and has a hardest case: a text with its answer, or the name of a test, a row or a wrong
   body. The section of README.md has only sentences of that page. The documents of the packages have
