@@ -5,28 +5,28 @@
 #                      module, or for a machine without an operating system only an archive
 # make duration        builds the command duration, if Debian's packages of the crates that it uses
 #                      are installed
-# make setup           installs what the tests need, on Debian, as root or by sudo without a
+# make setup           installs what most tests need, on Debian, as root or by sudo without a
 #                      password; with all=yes also the many packages that few tests need
 # make prove           proves everything, by the Rattle toolchain's command rt
 # make check           proves everything, if there is rt, and tests everything that is built; this
 #                      takes half an hour to an hour
 # make quick           runs the tests that take seconds and the checks of what has changed
-# make format          lays out all files except those that a tool here writes, by the usual tool of
-#                      each language
-# make install         installs what was built, the header, the manual pages and completions below
-#                      prefix=/usr/local, or into bindir=, libdir=, includedir=, mandir=, docdir=
-#                      and datarootdir=, all below DESTDIR= if that is set
-# make install-library installs only the library for C, its header and its manual pages. For another
-#                      machine this doesn't need Rust's standard library, which the program needs
-# make uninstall       removes them again, given the same variables
-# make release         fills dist/, or dist=FOLDER, with packages for machines without a toolchain
+# make format          lays out Rust, Python, C, Go and shell scripts, by the usual tool of each
+#                      language
+# make install         installs the programs, the library, its header, manual pages and completions
+#                      below prefix=/usr/local, or into bindir=, libdir=, includedir=, mandir=,
+#                      docdir= and datarootdir=, all below DESTDIR= if that is set
+# make install-library installs only what belongs to the library for C. For another machine this
+#                      doesn't need Rust's standard library, which the program needs
+# make uninstall       removes what was installed, given the same variables
+# make release         fills dist/, or dist=FOLDER, with the files of a release
 # make page            writes out/duration_str.html, a page to try texts on
-# make clean           removes everything that was built and proved here, except dist/
+# make clean           removes what was built and proved here, except dist/
 #
-# cargo, from Rust 1.85 on, builds all of this from the proved sources without their contracts. It
-# needs no network. For another machine, set target=TARGET to rustc's name of it, such as
-# aarch64-unknown-linux-gnu. With static=yes the program needs no shared library. If there is rt but
-# no cargo, rt builds the program.
+# cargo, from Rust 1.85 on, builds the programs and the library. It needs no network. For another
+# machine, set target=TARGET to rustc's name of it, such as aarch64-unknown-linux-gnu. With
+# static=yes the program needs no shared library. If there is rt but no cargo, rt builds the
+# program.
 SHELL := bash
 .SHELLFLAGS := -euo pipefail -c
 .ONESHELL:
@@ -275,7 +275,7 @@ install install-library: installable
 	sed -n "s/^[^:]*: creating directory '\(.*\)'$$/\1/p" "$$said" |
 	    xargs -r realpath -m --relative-to=$(prefix) >>$(folders)
 
-# Folders that were there before are kept, and so are folders with other files.
+# Folders with other files are kept, and without DESTDIR also those that were there before.
 uninstall: installable
 	@made=$$(cat "$$DESTDIR$(folders)" 2>/dev/null || true)
 	for file in $(installed) $(folders); do rm -fv "$$DESTDIR$$file"; done

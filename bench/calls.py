@@ -1,4 +1,4 @@
-"""Runs each call of the command line some thousand times, as calls.mjs does in Node."""
+"""Runs each call of the command line 10,000 times, as calls.mjs does in Node."""
 
 import os
 import sys

@@ -1,6 +1,6 @@
-// Prints times of the package for JavaScript over the lines of the standard input. There is a line
-// for each call, with its name, a tab, and the nanoseconds. These are the least of many rounds,
-// which are short, so that some run undisturbed.
+// Prints times of the package for JavaScript, some of them over the lines of the standard input.
+// There is a line for each call, with its name, a tab, and the nanoseconds. These are the least of
+// many rounds, which are short, so that some run undisturbed.
 import { existsSync, readFileSync } from "node:fs";
 import { createRequire } from "node:module";
 

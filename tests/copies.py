@@ -1,6 +1,6 @@
-"""Lays out what docs/GRAMMAR.md says for the documentation of each language: what a text means, how
-a duration is printed, and what the options of reading do. tests/repository compares the result with
-what stands there, and writes it.
+"""Lays out what docs/GRAMMAR.md says for the documentation of languages: what a text means,
+how a duration is printed, and what the options of reading do. tests/repository compares the result
+with what stands there, and writes it.
 
 Each place is a file, the text before and after what is copied, and what must stand between them.
 """

@@ -1,6 +1,7 @@
 """duration_model.py PROGRAM [SECONDS [SEED]]: runs the command `duration` with the rows of
 rust/vectors.json, and then with random options, arguments and lines. It compares the output and the
-status with a model that was made only from shell/README.md and `duration --help`.
+status with a model that reads and prints by the reference parser, and was otherwise made from
+shell/README.md and `duration --help`.
 """
 import collections
 import fractions
@@ -53,7 +54,8 @@ quoted = json.JSONEncoder(ensure_ascii=False).encode
 
 
 def number_in(nanos, unit, decimals=None, way="down"):
-    """A duration as a number of this unit, with this many decimals, or with as many as it needs."""
+    """A duration as a number of this unit, with this many decimals, or with as many of nine as it
+    needs."""
     digits = 9 if decimals is None else decimals
     whole, rest = divmod(
         reference.rounded(fractions.Fraction(nanos * 10**digits, LENGTHS[unit]), way),
@@ -364,7 +366,7 @@ def run(words, options, data, cuts):
 
 
 def untried(program):
-    """The options in the program's help that no command here has."""
+    """The options in the program's help that no command here has, except three."""
     told = subprocess.run([program, "--help"], capture_output=True, text=True, check=True).stdout
     names = set(re.findall(r"^ +(?:-., )? *--([a-z-]+)", told, re.M))
     return names - {*VALUES, "units", "completions", "help", "version"}
@@ -392,7 +394,7 @@ def vector_commands():
 
 
 def compare(words, must, options, data, cuts=()):
-    """Runs a command. If it does not what it must, shows both, and ends this program."""
+    """Runs a command. If it doesn't do what it must, shows both, and ends this program."""
     got = run(words, options, data, [0, *cuts])
     if must.status == 2:
         got = got._replace(errors=got.errors[:7])

@@ -1,7 +1,7 @@
-/* Calls each function that the header declares, and prints each answer that is not the expected
- * one. It compiles as C and as C++, and shows that the header and the library agree on each struct
- * and each number, and that the header's macros make these numbers. tests/compare tries the answers
- * to many more arguments. */
+/* Calls each function that the header declares, and prints what is not as expected. It compiles as
+ * C and as C++, and shows that the header and the library agree on structs and numbers, and that
+ * the header's macros make these numbers. tests/compare tries the answers to many more
+ * arguments. */
 #include <stdio.h>
 #include <string.h>
 
@@ -120,7 +120,7 @@ static void check_refusals(void) {
     expect(strcmp(duration_str_cause_name(9), "") == 0, "no name");
 }
 
-/* Checks how each call that takes a text reads a null text of length 0. */
+/* Checks how calls read a null text of length 0. */
 static void check_null_texts(void) {
     uint64_t nanos = 7;
     struct duration_str_answer answer;

@@ -3,7 +3,7 @@ be proved with such a law. While tests/edits judges wrong bodies of `uses`, they
 of `crate::by_own_table` and `crate::by_second`. These hold for the rules of the library's own table
 of units, and for those of them whose default unit is the second.
 
-Each clause of a law is weakened that begins with its rules or its default unit. `never_more` stays,
+Each clause of a law that begins with its rules or its default unit is weakened. `never_more` stays,
 since it speaks of a default unit only within another record.
 """
 import re

@@ -1,12 +1,13 @@
 """Checks what the documents say, for tests/repository.
 
 - A link leads to a file or folder of the repository, and to a heading if it names one. Links to
-  other hosts are not followed. A path in backquotes exists, and a name in backquotes occurs in a
-  source.
-- What is proved stands in docs/PROMISES.md. Each row there has one promise, names the contract, law
-  or test that shows it, and has a hardest case: a text with its answer, or a test. The section of
-  README.md has only sentences of that page. The documents of the packages, and those about texts,
-  other programs and speed, have one sentence that leads there, and no other about proofs.
+  other hosts are not followed. A path in backquotes exists. A name in backquotes occurs in a
+  source, except in CHANGELOG and MIGRATING.
+- What is proved stands in docs/PROMISES.md. Each promise there names the contract, law or test that
+  shows it, and has a hardest case: a text with its answer, or the name of a test, a row or a wrong
+  body. The section of README.md has only sentences of that page. The documents of the packages have
+  one sentence that leads there, and no other about proofs. Those about texts, other programs and
+  speed have none.
 - Each help in docs/GRAMMAR.md ends a line of the vectors. In tables of README.md, GRAMMAR.md and
   MIGRATING.md each text is answered as the reference parser answers it, and each duration printed
   as it prints it. The same holds of the hardest cases. (tests/peers asks other libraries, and the

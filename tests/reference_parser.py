@@ -622,7 +622,8 @@ def print_whole(nanos):
 
 
 def line_of(answer):
-    """The line that says what is wrong, as in the message of `duration-str` 0.19.0."""
+    """The line that says what is wrong in the message, which is like that of `duration-str`
+    0.19.0."""
     match answer.cause:
         case "syntax" if "unit" in answer.expected:
             return UNIT_LINE
@@ -777,8 +778,8 @@ def expected_in_line(expected):
 
 @functools.lru_cache(1 << 16)
 def report(text, answer):
-    """The report about a refused text for a terminal. It has the text and a caret above the line,
-    if a quote would escape nothing in the text.
+    """The report about a refused text for a terminal. For a syntax fault it has the text and a
+    caret above the line, unless the text is long or a quote would escape something in it.
     """
     line = one_line(text, answer)
     if answer.cause != "syntax" or len(text) > 80 or any(escape(each) != each for each in text):

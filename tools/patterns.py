@@ -8,7 +8,7 @@ import units
 
 BLANKS = r"[ \t\n\r]*"
 NUMBER = f"[0-9]+{BLANKS}"
-# The letter stands for the pattern of a unit.
+# The letter `U` stands for the pattern of a unit.
 UNIT = f"U{BLANKS}"
 
 # The sentences by the options `no_calc` and `require_unit`. If no unit is required, `$` lets a text

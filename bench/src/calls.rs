@@ -1,6 +1,6 @@
 //! Single calls of this library, for a tool that counts instructions. The program needs no other
 //! crate, so `rustc` alone builds it. SIDE is `crate` (the Rust crate) or `archive` (the archive,
-//! called through C). The last word, COUNT, is the number of calls.
+//! called through C). The last word, COUNT, says how often that is done.
 //!
 //! - `calls SIDE nothing COUNT`: only the loop.
 //! - `calls SIDE read COUNT`, `calls SIDE print COUNT`: reads `3m 13s 29ms`, and prints it into a

@@ -135,7 +135,7 @@ impl Archive {
     }
 }
 
-/// `struct duration_str_answer`, of which only `nanos` is read here.
+/// `struct duration_str_answer`, of which `nanos` and `cause` are read here.
 #[repr(C)]
 #[derive(Default)]
 struct Answer {
