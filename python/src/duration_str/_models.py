@@ -71,8 +71,8 @@ class _Shown(dict[str, Any]):
 
 class DurationField(WithOptions):
     """Makes pydantic 2 read a timedelta from a text, under these options, and
-    write it as a text in JSON. If you name a default unit, whole numbers are read too,
-    such as `1500` in JSON. Use this class in `Annotated`.
+    write it as a text in JSON. If you name a default unit, whole numbers are
+    read too, such as `1500` in JSON. Use this class in `Annotated`.
 
     >>> from datetime import timedelta
     >>> from typing import Annotated
