@@ -234,9 +234,9 @@ interface Told {
 export type Fault = Refusal & Told;
 
 /**
- * The error for a refused text. A structured clone keeps the message and the `cause`, and `toJSON`
- * returns both. In Node `import` and `require` give the same class. `duration-str/plain` has
- * another class of the same name.
+ * The error for a refused text. In Node 20 a structured clone keeps the message and the `cause`.
+ * `toJSON` returns the message and what the `cause` has. In Node `import` and `require` give the
+ * same class, and `duration-str/plain` has another one of the same name.
  *
  * ```js
  * try {
@@ -273,7 +273,7 @@ export declare const version: string;
  * setTimeout(retry, parse("1m 30s")); // setTimeout takes at most 24.8 days
  * ```
  *
- * With `defaultUnit` it also reads a whole number or a bigint, as its digits would be:
+ * With `defaultUnit` it also reads a whole number below 2^53 or a bigint, as its digits would be:
  * `parse(1500, { defaultUnit: "ms" })` is `1500`, and `parse(2, { defaultUnit: "h" })` is
  * `7200000`. A number with a fraction is refused as its text would be.
  *
@@ -317,8 +317,8 @@ export function tryParseNs(
 /**
  * Returns a regular expression for JSON Schema, HTML's `pattern` and other validators that check a
  * text before your program reads it. It matches exactly the texts that have no wrong syntax under
- * these options. `parse` reads such a text, unless a number or the duration is too large, or `+`
- * and `*` are mixed.
+ * these options. `parse` reads such a text, unless a number, a term, a step or the value is too
+ * large, or `+` and `*` are mixed.
  *
  * It needs no flags, begins with `^` and ends with `$`. `docs/GRAMMAR.md` in the repository says in
  * which languages you can use it.

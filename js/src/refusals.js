@@ -47,7 +47,7 @@ function hideLong(cause, name) {
 }
 
 /** The error for a refused text. Everything about the fault except its message and its report is in
- * `cause`, since a structured clone of an error keeps that, but no fields of its own class. */
+ * `cause`, since a structured clone of an error can keep that, but no fields of its own class. */
 export class DurationError extends Error {
     #report;
 

@@ -117,7 +117,7 @@ class DurationField(WithOptions):
 
 Duration = Annotated[datetime.timedelta, DurationField()]
 """A timedelta in a model of pydantic 2. A text is read, and a timedelta is kept if it is not
-negative. In JSON it is the printed text. The limits `gt`, `ge`, `lt` and `le` of a `Field` are
-timedeltas."""
+negative. In JSON it is the printed text, up to 584 years. The limits `gt`, `ge`, `lt` and `le` of a
+`Field` are timedeltas."""
 DurationRequireUnit = Annotated[datetime.timedelta, DurationField(require_unit=True)]
 """A `Duration`, but a number without a unit is refused, as in `90` and `1h 30`."""
