@@ -1,4 +1,4 @@
-"""Columns of NumPy and pandas, which are imported only when they are used."""
+"""Columns of NumPy and pandas. NumPy is imported only when it is used, and pandas is not."""
 
 from __future__ import annotations
 
