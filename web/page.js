@@ -31,7 +31,8 @@ function read() {
     }, PAUSE);
 }
 
-/** Adds a unit to the text, or 1 of the unit, if that can follow. Otherwise it starts a new text. */
+/** Adds a unit to the text, or 1 of the unit, if that can follow, and otherwise starts a new
+ * text. */
 function addUnit(name) {
     const isChinese = UNITS.some(({ chinese }) => chinese.includes(name));
     if (isChinese) choose({ ...chosenOptions(), cnUnit: true });
