@@ -74,7 +74,7 @@ function put(value) {
     if (value < 0) throw negative(value);
     const whole = Math.trunc(value);
     const fraction = Math.round((value - whole) * MILLISECOND);
-    // The two halves are multiplied one by one. So, if the duration is not too long, all numbers
+    // The two halves are multiplied one by one. So, if the duration is not too long, their products
     // are below 2^53 and exact.
     const upper = Math.trunc(whole / HALF);
     const low = (whole - upper * HALF) * MILLISECOND + fraction;

@@ -217,8 +217,8 @@ def try_values(page):
 
 
 def kind_of_fault(row):
-    """The kind of a row: whether a part is marked, whether it has options, whether the sentence is
-    the page's own, and whether the text is long."""
+    """The kind of a row: whether a part, the end or nothing is marked, whether it has options,
+    whether the sentence is the page's own, and whether the text is long."""
     text, options, marked, *sentence = row
     return marked in (None, "\u00a0") and marked, bool(options), bool(sentence), len(text) > 40
 

@@ -203,10 +203,10 @@ def to_timedelta(
     DurationError, whose `index` is the text's position in a column. So does a
     text or an int of 2**63 nanoseconds or more, which is some 292 years, since
     timedelta64 can't hold it. A number that `parse_ns` refuses, except NaN,
-    raises the same error. Any other value in a column, such as bytes, raises
-    DurationTypeError, even if a text before it is refused. A timedelta of
-    2**63 nanoseconds or more raises OverflowError. With `errors="coerce"` all
-    of these become NaT.
+    raises an error of the same type. Any other value in a column, such as
+    bytes, raises DurationTypeError, even if a text before it is refused. A
+    timedelta of 2**63 nanoseconds or more raises OverflowError. With
+    `errors="coerce"` all of these become NaT.
     """
     raises = raises_errors(errors)
     reading = _native.reading(

@@ -55,8 +55,8 @@ def _print(value: Any) -> str:
 
 
 class _Shown(dict[str, Any]):
-    """A JSON schema, to which pydantic adds a field's default last. The default is a timedelta in
-    ISO 8601, or as a number of seconds, and this class replaces it by the duration's text.
+    """A JSON schema, to which pydantic adds a field's default last. A default that is a timedelta
+    comes in ISO 8601, or as a number of seconds. This class replaces it by the duration's text.
     """
 
     def __setitem__(self, key: str, value: Any) -> None:
