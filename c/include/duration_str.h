@@ -110,8 +110,7 @@ extern "C" {
 enum duration_str_option {
     /* `+` and `*` are not read, and the terms are added one by one */
     DURATION_STR_OPTION_NO_CALC = 1,
-    /* ASCII capitals are not read as small letters, so `1M` is refused;
-     * without this option `1M` is a minute */
+    /* ASCII capitals are not read as small letters, so `1M` is not a minute */
     DURATION_STR_OPTION_LOWERCASE = 2,
     /* the Chinese names of the units are read too */
     DURATION_STR_OPTION_CN_UNIT = 4,
@@ -274,8 +273,8 @@ size_t duration_str_format(
  * then as many of the next one as fit into the rest, and so on. Counts of 0
  * are left out. A count with its unit is a part. After the greatest number of
  * parts, the rest is left out, and nothing is rounded up. If there are no
- * parts, the text is a zero: `0` and the name of the smallest chosen unit,
- * such as `0h`, or `0s` if that unit is shorter than a second.
+ * parts, the text is a zero of the smallest chosen unit, such as `0 hours` or
+ * `0h`, or of seconds if that unit is shorter than a second.
  *
  * For example, 90,061 seconds in two parts are `1d 1h`, and 180 days in all
  * units without the quarter and the week are `6mon`.
