@@ -8,7 +8,8 @@ use alloc::string::String;
 use chrono::{NaiveDate, NaiveDateTime, Utc};
 use duration_str_core::{Cause, Options};
 
-/// Adds the value of a text to the given moment, and returns the sum. Neither has a time zone.
+/// Adds the value of a text to the given moment, and returns the sum. A [`NaiveDateTime`] has no
+/// time zone.
 ///
 /// If the text is refused, its fault is returned. Otherwise, if chrono can't represent the moment,
 /// the cause is [`Cause::OutOfRange`].

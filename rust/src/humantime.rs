@@ -4,16 +4,16 @@
 //! A text that both humantime and this module read is the same duration in both. So a text that
 //! humantime printed and a program stored is read as it was meant, up to some 584 years. For this,
 //! a month has 30.44 days here, by whatever name, and a year has 365.25 days. In the rest of this
-//! crate a month has 30 days and a year 365.
+//! crate, except for the module `humantime_serde`, a month has 30 days and a year 365.
 //!
 //! This module also reads the names of units that only humantime has: `M` is a month, and `secs`,
 //! `mins`, `hrs`, `millis` and `nanos` are units, and so are `yr`, `yrs`, `wk` and `wks` of
-//! humantime 2.4. Capitals and small letters differ. The rest of this crate refuses these names, or
-//! reads `1M` as a minute.
+//! humantime 2.4. Capitals and small letters differ. Other calls of this crate refuse these names,
+//! or read `1M` as a minute.
 //!
 //! This module prints what humantime prints, such as `1day 2h 3m`.
 //!
-//! Some texts that humantime reads are refused. The error says what is wrong:
+//! Some texts that humantime reads are refused, with an error that says what is wrong:
 //!
 //! - fractions of humantime 2.4, such as `1.5h`, and its `0` without a unit
 //! - durations of 2^64 nanoseconds or more, which is some 584 years (`584y` is read)

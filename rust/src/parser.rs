@@ -35,10 +35,10 @@ pub(crate) const FEATURES: Options = Options {
     cn_unit: cfg!(feature = "cn_unit"),
 };
 
-/// The options of [`parse_duration`]. Other calls that `duration-str` 0.19.0 does not have add to
-/// them. Only the feature `cn_unit`, which adds names, affects these calls. The other features take
-/// something away. If they affected these calls, a crate that turns one on could break what the
-/// other crates of the program read.
+/// The options of [`parse_duration`], to which some calls that `duration-str` 0.19.0 does not have
+/// add others. Only the feature `cn_unit`, which adds names, affects these calls. The other
+/// features take something away. If they affected these calls, a crate that turns one on could
+/// break what the other crates of the program read.
 pub(crate) const ADDITIONS: Options = Options {
     cn_unit: FEATURES.cn_unit,
     ..Options::off()

@@ -10,7 +10,7 @@
 //!   [`human_or_seconds`](crate::human_or_seconds) and
 //!   [`human_or_millis`](crate::human_or_millis) also read numbers.
 //! - The empty text is refused.
-//! - `None` is the format's null, if it has one. With `#[serde(default)]` a missing field is `None`
+//! - In a format that has null, `None` is null. With `#[serde(default)]` a missing field is `None`
 //!   too.
 //! - If a text is refused, the error's message is `invalid duration: ` and the line of the fault, to
 //!   which a format may add its own line and column.
