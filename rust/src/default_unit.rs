@@ -1,4 +1,4 @@
-//! The calls for which a number without a unit counts another unit than seconds, or is refused.
+//! The calls that take a default unit, or require units.
 use crate::error::DurationError;
 use crate::fault::Fault;
 use crate::parser::ADDITIONS;

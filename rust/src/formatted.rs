@@ -6,7 +6,7 @@ use core::time::Duration;
 use duration_str_core::{Breakdown, FORMAT_BUFFER_SIZE, Format, Style, TimeUnit, write_format};
 
 /// A duration whose `Display` prints it for people, without allocating. You choose the units, the
-/// number of parts and the style.
+/// greatest number of parts and the style.
 ///
 /// Call [`format_duration`] to get one. For a duration of `chrono` or `time`, call
 /// [`HumanFormat::formatted`](crate::HumanFormat::formatted).
