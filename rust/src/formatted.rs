@@ -48,9 +48,10 @@ use duration_str_core::{Breakdown, FORMAT_BUFFER_SIZE, Format, Style, TimeUnit, 
 ///
 /// Width and fill pad the text. A precision is ignored.
 ///
-/// A negative duration has a minus before its text, unless the text is a zero. No call reads a text
-/// with a minus, or one that stands for 2^64 nanoseconds or more, which is some 584 years. But if
-/// parts of such a long duration are left out, its text can stand for less, and is then read:
+/// A negative duration prints as a minus and the text of its magnitude, or without a minus if that
+/// text is a zero. No call reads a text with a minus, or one that stands for 2^64 nanoseconds or
+/// more, which is some 584 years. But if parts of such a long duration are left out, its text can
+/// stand for less, and is then read:
 ///
 /// ```
 /// use duration_str::{format_duration, parse_duration};
