@@ -26,8 +26,7 @@ export type Options = RequiringOptions | CountingOptions | SecondsOptions;
 interface Switches {
     /** `+` and `*` are not read, and the terms are added one by one. */
     noCalc?: boolean | undefined;
-    /** ASCII capitals are not read as small letters, so `1M` is refused; without this option `1M`
-     * is a minute. */
+    /** ASCII capitals are not read as small letters, so `1M` is not a minute. */
     lowercase?: boolean | undefined;
     /** The Chinese names of the units are read too. */
     cnUnit?: boolean | undefined;
@@ -111,8 +110,8 @@ interface Counted<Name extends Unit> {
  * The text has as many of the largest chosen unit as fit into the duration, then as many of the
  * next one as fit into the rest, and so on. Counts of 0 are left out. A count with its unit is a
  * part. After the greatest number of parts, the rest is left out, and nothing is rounded up. If
- * there are no parts, the text is a zero: `0` and the name of the smallest chosen unit, such as
- * `0h`, or `0s` if that unit is shorter than a second.
+ * there are no parts, the text is a zero of the smallest chosen unit, such as `0 hours` or `0h`, or
+ * of seconds if that unit is shorter than a second.
  */
 export interface Format extends Counted<Unit> {
     /**
