@@ -1,4 +1,4 @@
-# Turns the header into the description of a manual page. Each comment becomes paragraphs, with the
+# Turns the header into the description of a manual page. A comment becomes paragraphs, with the
 # declaration that it describes below them. A call gets a heading, its declaration, and then its
 # comment. With the variable `synopsis` set, only the declarations of the calls are written.
 BEGIN { RS = "" }
@@ -13,7 +13,7 @@ function code(text) {
     return literal(text)
 }
 
-# Prints words in lines of up to 50 bytes, each sentence on a line of its own, as manual pages want it.
+# Prints words in lines of some 50 bytes. A sentence begins a line, as manual pages want it.
 function fill(text, word, count, line, at) {
     count = split(text, word, " ")
     for (at = 1; at <= count; at++) {

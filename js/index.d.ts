@@ -15,19 +15,18 @@
  */
 
 /**
- * Options for reading. If you give none, all are off, and numbers count seconds. They must
- * be a plain object, and only the object's own properties count. An unknown name is a `TypeError`.
- * `requireUnit` and `defaultUnit` can't stand together. Beside a `defaultUnit` other than the
- * second, `noCalc` can't be `false`. An option that is `undefined` is the same as one that is left
- * out.
+ * Options for reading. If you give none, all are off, and a number without a unit counts seconds.
+ * The options must be a plain object, and only the object's own properties count. An unknown name
+ * is a `TypeError`. `requireUnit: true` and `defaultUnit` can't stand together. Beside a
+ * `defaultUnit` other than the second, `noCalc` can't be `false`. An option that is `undefined` is
+ * the same as one that is left out.
  */
 export type Options = RequiringOptions | CountingOptions | SecondsOptions;
 
 interface Switches {
     /** `+` and `*` are not read, and the terms are added one by one. */
     noCalc?: boolean | undefined;
-    /** ASCII capitals are not read as small letters, so `1M` is refused; without this option `1M`
-     * is a minute. */
+    /** ASCII capitals are not read as small letters, so `1M` is not a minute. */
     lowercase?: boolean | undefined;
     /** The Chinese names of the units are read too. */
     cnUnit?: boolean | undefined;
@@ -47,8 +46,8 @@ interface CountingOptions extends Switches {
      * read.
      *
      * With `ms`, `1500` is 1.5 seconds, and so is `1s 500`. docs/GRAMMAR.md in the repository says
-     * why `+` and `*` are not read then. If you name a default unit, even seconds, a number that is
-     * not a text is read as its digits would be.
+     * why `+` and `*` are not read then. If you name a default unit, even seconds, a whole number
+     * below 2^53 and a bigint are read as their digits would be.
      */
     defaultUnit?: Unit | undefined;
     requireUnit?: false | undefined;
@@ -82,7 +81,7 @@ export type Unit =
     | "µs" | "µsec" | "µsecond" | "us" | "usec" | "usecond" | "microsecond" | "microseconds"
     | "ns" | "nsec" | "nanosecond" | "nanoseconds";
 
-/** The names of the units as they are printed, the longest first. */
+/** The names of the units as the short style prints them, the longest unit first. */
 // Made by tests/repository --write.
 export type PrintedUnit = "y" | "q" | "mon" | "w" | "d" | "h" | "min" | "s" | "ms" | "µs" | "ns";
 
@@ -111,8 +110,8 @@ interface Counted<Name extends Unit> {
  * The text has as many of the largest chosen unit as fit into the duration, then as many of the
  * next one as fit into the rest, and so on. Counts of 0 are left out. A count with its unit is a
  * part. After the greatest number of parts, the rest is left out, and nothing is rounded up. If
- * there are no parts, the text is a zero: `0` and the name of the smallest chosen unit, such as
- * `0h`, or `0s` if that unit is shorter than a second.
+ * there are no parts, the text is a zero of the smallest chosen unit, such as `0 hours` or `0h`, or
+ * of seconds if that unit is shorter than a second.
  */
 export interface Format extends Counted<Unit> {
     /**
@@ -173,7 +172,7 @@ export interface SyntaxFault extends Refused {
     readonly code: "SYNTAX";
     /**
      * Where the fault is, in UTF-16 units, as strings count: `text.slice(index)` begins with
-     * `found`.
+     * `found`, if that is not null.
      */
     readonly index: number;
     /** The same place, in bytes of UTF-8. */
@@ -234,9 +233,9 @@ interface Told {
 export type Fault = Refusal & Told;
 
 /**
- * The error for a refused text. A structured clone keeps the message and the `cause`, and `toJSON`
- * returns both. In Node `import` and `require` give the same class. `duration-str/plain` has
- * another class of the same name.
+ * The error for a refused text. In Node 20 a structured clone keeps the message and the `cause`.
+ * `toJSON` returns the message and what the `cause` has. In Node `import` and `require` give the
+ * same class, and `duration-str/plain` has another one of the same name.
  *
  * ```js
  * try {
@@ -273,26 +272,26 @@ export declare const version: string;
  * setTimeout(retry, parse("1m 30s")); // setTimeout takes at most 24.8 days
  * ```
  *
- * With `defaultUnit` it also reads a whole number or a bigint, as its digits would be:
+ * With `defaultUnit` it also reads a whole number below 2^53 or a bigint, as its digits would be:
  * `parse(1500, { defaultUnit: "ms" })` is `1500`, and `parse(2, { defaultUnit: "h" })` is
  * `7200000`. A number with a fraction is refused as its text would be.
  *
  * @throws DurationError if the text or the number is refused
  * @throws TypeError if an option is unknown or of another type, or if `text` is not a string. With
  * a `defaultUnit`, a number and a bigint are read too.
- * @throws RangeError if `defaultUnit` names no unit, stands beside `requireUnit`, or is not the
- * second while `noCalc` is `false`. It is also thrown if a number is NaN, or if it is 2^53 or more,
- * since it can have lost digits then.
+ * @throws RangeError if `defaultUnit` is a string that names no unit, stands beside
+ * `requireUnit: true`, or is not the second while `noCalc` is `false`. With a `defaultUnit`, it is
+ * also thrown for NaN, and for a number of 2^53 or more, which can have lost digits.
  * @throws Error if WebAssembly is missing or refused. The other functions that read, print or count
  * throw it too. The message says what to do, and the `cause` is the engine's error. The next call
- * tries again.
+ * tries again. The functions of `duration-str/plain` don't need WebAssembly.
  */
 export function parse(text: string, options?: Options): number;
 export function parse(value: string | number | bigint, options: NumberOptions): number;
 
 /**
- * Returns an object with the value that `parse` returns, or with what is wrong with the text. It
- * makes no error and no stack.
+ * Returns an object with the value that `parse` returns, or with what is wrong with the text. For a
+ * refused text it makes no error and no stack.
  *
  * @throws TypeError, RangeError as `parse` does
  */
@@ -317,8 +316,8 @@ export function tryParseNs(
 /**
  * Returns a regular expression for JSON Schema, HTML's `pattern` and other validators that check a
  * text before your program reads it. It matches exactly the texts that have no wrong syntax under
- * these options. `parse` reads such a text, unless a number or the duration is too large, or `+`
- * and `*` are mixed.
+ * these options. `parse` reads such a text, unless a number, a term, a step or the value is too
+ * large, or `+` and `*` are mixed.
  *
  * It needs no flags, begins with `^` and ends with `$`. `docs/GRAMMAR.md` in the repository says in
  * which languages you can use it.

@@ -1,7 +1,7 @@
 """Builds the extension module with the library for C. The library is the archive that
 DURATION_STR_LIB names, or otherwise the one that cargo builds from the proved sources without their
-contracts. Each build starts anew in a temporary folder. Beside the sources, only copies of the
-licences are written.
+contracts. Each build starts anew in a temporary folder. Beside the sources it writes copies of
+the licences, and with pip's --editable also the module.
 """
 
 import atexit
@@ -47,7 +47,8 @@ def copy_crates(folder):
         for file in filter(pathlib.Path.is_file, CRATES.glob(pattern)):
             copy = pathlib.Path(folder, file.relative_to(CRATES))
             copy.parent.mkdir(parents=True, exist_ok=True)
-            # The mode is not copied, since a folder that can't be written to could not be deleted.
+            # No modes are copied, since a copied folder that can't be written to could not be
+            # deleted.
             shutil.copyfile(file, copy)
 
 

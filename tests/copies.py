@@ -49,7 +49,7 @@ def paragraphs():
     ):
         yield name, before, after, filled(told, width, prefix)
     end = '\\n\\n"'
-    for told, before in (printing, "(`1 hour 30 minutes`)"), (parts, "are ints of any size."):
+    for told, before in (printing, "(`1 hour 30 minutes`)"), (parts, "may be 2**64 or more."):
         lines = in_strings(filled(told, 79, ""))
         yield f"{PYTHON}/_native.c", f'{before}{end}\n    "', end, lines
 

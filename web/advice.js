@@ -72,7 +72,7 @@ export function offersFor(text, options) {
 }
 
 /** A list with one range, `{ from, to }`: the part of the text that the fault is about. The list is
- * empty if the fault has no place. */
+ * empty if the fault has no index. */
 export function markedParts({ words, start, fault }, options) {
     if (!fault || fault.index === null) return [];
     const { code, index, found } = fault;

@@ -1,5 +1,5 @@
 // Shows the answer below the text: the text's value in all notations, or its fault and the texts
-// that are offered instead. For several lines, it shows each line's value or fault.
+// that are offered instead. For several lines, it shows their values and faults.
 import { formatNs, tryParseNs } from "../js/dist/duration-str.js";
 import { markedParts, notesOn, offersFor, sentence } from "./advice.js";
 import {

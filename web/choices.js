@@ -17,7 +17,8 @@ export const printing = { style: element("style"), parts: element("parts") };
 /** The choices with which everything is printed. */
 export const WHOLE = { style: "short", parts: String(UNITS.length) };
 
-/** The boxes of the units that are printed, the longest first. One of them is always checked. */
+/** The boxes of the units that are printed, the longest unit first. At least one of them is always
+ * checked. */
 export const unitBoxes = UNITS.map(({ names, printed }) => {
     const title = names.at(-1);
     const box = Object.assign(make("input"), { type: "checkbox", value: printed, title });
@@ -47,7 +48,7 @@ export function chosenFormat() {
 }
 
 /** Leaves only those units checked that the function keeps, by their places. If none would be left,
- * nothing changes. Returns whether one is left. */
+ * nothing changes. Returns whether one would be left. */
 export function keepUnits(keeps) {
     const kept = unitBoxes.map((box, place) => box.checked && keeps(place));
     if (!kept.includes(true)) return false;

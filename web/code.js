@@ -1,5 +1,5 @@
 // Programs that read and print the text, in each language. A text that is read has no character
-// that a language escapes differently than JSON does.
+// that Rust, Python or JavaScript escapes differently than JSON does.
 import { format as printed, formatNs, parse, parseNs } from "../js/dist/duration-str.js";
 import { UNITS } from "./units.js";
 
@@ -31,7 +31,7 @@ function rustReading(text, { requireUnit, defaultUnit, ...options }) {
     const isPlain = names.length === 0;
     if (requireUnit && isPlain) return `parse_require_unit(${literal})`;
     if (defaultUnit && isPlain) return `parse_in(${literal}, ${rustUnit(defaultUnit)})`;
-    // `parse_in` turns it on too.
+    // `parse_in` would turn `no_calc` on.
     if (defaultUnit) names.unshift("noCalc");
     const fields = names.map((name) => `${idOf(name)}: true, `).join("");
     const taken = fields ? `Options { ${fields}..Options::off() }` : "Options::off()";

@@ -27,8 +27,8 @@ const [WEEK, DAY, HOUR, MINUTE, SECOND] = ["w", "d", "h", "m", "s"].map(unitOf);
 /** Marks of direction around a text, and characters without width anywhere in the text. */
 const UNSEEN = /^[\u202a\u2066]|[\u202c\u2069]$|[\u00ad\u200b-\u200f\u2060\ufeff]/g;
 
-/** The text without characters that can't be seen, with ASCII digits for the digits of other
- * scripts, with `µ` for the other mu, and with `microseconds` for `micro seconds`. */
+/** The text without the characters of UNSEEN, with ASCII digits for the digits of other scripts,
+ * with `µ` for the other mu, and with `microseconds` for `micro seconds`. */
 function plain(text) {
     const seen = text.trim().replace(UNSEEN, "");
     const joined = seen.replace(/\b(milli|micro|nano)[ -](?=sec)/gi, "$1");
@@ -63,8 +63,8 @@ const FOREIGN = byWord({
     sec: "sekunde sekunden seconde secondes segundo segundos секунда секунды секунд 秒钟 秒間",
 });
 
-/** Whether one word becomes the other if one letter is added, removed or changed, or if two
- * neighbours are swapped. */
+/** Whether the words are equal, or one becomes the other if one letter is added, removed or
+ * changed, or if two neighbours are swapped. */
 function isOneEdit(one, other) {
     let start = 0;
     while (start < one.length && one[start] === other[start]) start++;
@@ -75,7 +75,7 @@ function isOneEdit(one, other) {
 }
 
 /** The name that a misspelt word of four letters or more means. The name has the same first letter,
- * and is one edit away from the word. So it can't be the name of another unit. */
+ * and is one edit away from the word. No other unit has such a name. */
 function correction(word) {
     if (word.length < 4) return null;
     const isNear = (name) => name[0] === word[0] && isOneEdit(name, word);
@@ -85,8 +85,8 @@ function correction(word) {
     return names.find((name) => name.at(-1) === word.at(-1)) ?? names[0];
 }
 
-/** The library's name for a word, which may be such a name, a common word or a misspelt one. It is
- * null if there is no such name. */
+/** The library's name for a word, which may be such a name, or a common, foreign or misspelt word.
+ * It is null if there is no such name. */
 function unitName(word) {
     const small = word.toLowerCase();
     if (unitOf(word)) return word;
@@ -154,8 +154,7 @@ const LED = new RegExp(String.raw`^(?:${KEY}|(?<word>(?:${LEADING})(?=[=\s])|\+)
     + String.raw`(?<words>\S.*?)\s*[,;]?$`, "is");
 const ENCLOSED = /^(?:"(.+)"|'(.+)'|`(.+)`|“(.+)”|‘(.+)’|«(.+)»|\((.+)\)|\[(.+)\]|\{(.+)\})$/s;
 
-/** At most this many quotes, brackets and words are taken off around a duration: as many as in
- * `{ "ttl": "5m" }`, and one more. */
+/** Up to one more than this many quotes, brackets and words are taken off around a duration. */
 const MOST_AROUND = 4;
 
 /** The meaning of a part of a text, which is read as it stands or converted. */

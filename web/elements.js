@@ -1,5 +1,5 @@
-// The elements of the page. A text that is typed, or comes from the link, is only put into their
-// `textContent` and `value`.
+// The elements of the page. A text that is typed, or comes from the link, is put into them as text,
+// and never as HTML.
 import { shorten } from "./sentences.js";
 
 /** The most lines that are shown. */
@@ -9,7 +9,7 @@ const CHINESE = /\p{Script=Han}/u;
 export const element = (id) => document.getElementById(id);
 export const text = element("text");
 
-/** An element with this content. Its language is Chinese if the content has a Chinese name. */
+/** An element with this content. Its language is Chinese if the content has a Chinese character. */
 export function make(name, ...content) {
     const one = document.createElement(name);
     one.append(...content);

@@ -21,7 +21,8 @@ function defaultUnitWords() {
     return [`default_unit=${encodeURIComponent(defaultUnit.value)}`];
 }
 
-/** Writes the text and the choices into the address, and returns the address. */
+/** Writes the text and the choices into the address, if it can hold the text. Returns the
+ * address. */
 export function writeLink() {
     let note = "";
     try {

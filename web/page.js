@@ -31,7 +31,8 @@ function read() {
     }, PAUSE);
 }
 
-/** Adds a unit to the text if one can follow, and otherwise starts a new text. */
+/** Adds a unit to the text, or 1 of the unit, if that can follow, and otherwise starts a new
+ * text. */
 function addUnit(name) {
     const isChinese = UNITS.some(({ chinese }) => chinese.includes(name));
     if (isChinese) choose({ ...chosenOptions(), cnUnit: true });
@@ -121,7 +122,8 @@ function showLanguages() {
     element("codes").replaceChildren(...Object.entries(LANGUAGES).map(placeForCode));
 }
 
-/** Copies what the element shows, or selects it if it can't be copied. */
+/** Copies what the element shows, with digits that are not grouped, or selects it if it can't be
+ * copied. */
 async function copy(id) {
     if (id === "link-note") copied[id] = writeLink();
     let said = `Copied: ${copied[id].split("\n", 1)}`;
@@ -141,7 +143,7 @@ function open() {
     const unknown = readLink();
     read();
     if (unknown.length === 0) return;
-    // The link stays as it is until something is typed.
+    // The link stays as it is until something is typed or chosen.
     clearTimeout(pause);
     showUnknown(unknown);
 }

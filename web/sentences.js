@@ -1,10 +1,11 @@
 // Sentences, which are lists of strings and of quoted texts. This module needs no browser. Neither
 // do advice.js, conversions.js, units.js and values.js, which know what a text means.
 
-/** How many UTF-16 units of a long text are shown, or are shown on each side of a fault. */
+/** How many characters of a long text are shown, and how many UTF-16 units on each side of a
+ * fault. */
 export const AROUND = 40;
 
-/** This text, or its first 40 characters if it is longer. */
+/** This text, or its first 40 characters and `…` if it is longer. */
 export function shorten(found) {
     const first = Array.from(found.slice(0, 2 * AROUND)).slice(0, AROUND).join("");
     return first.length < found.length ? `${first}…` : first;

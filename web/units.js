@@ -29,8 +29,8 @@ export function defaultUnitOf({ requireUnit, defaultUnit = "s" }) {
     return requireUnit ? null : unitOf(defaultUnit);
 }
 
-/** The terms of a text that is read, or of the part before its fault. Each has the operator before
- * it, the term as it is written, its number and its unit's name. */
+/** The terms of a text that is read. Each has the operator before it, the term as it is written,
+ * its number and its unit's name. In a refused text, those after the fault mean nothing. */
 export function* terms(text, { cnUnit }) {
     const letters = `A-Za-zµ${cnUnit ? CHINESE_LETTERS : ""}`;
     const sign = "(?:([+*])[ \t\r\n]*)?";

@@ -77,8 +77,9 @@ function steps(values) {
     return rows;
 }
 
-/** Rows with the terms of a text that is read and the value of each, and with the steps of a
- * product. There are none for a single term. */
+/** Rows with the terms of a text that is read and the value of each, and with the sum or the steps
+ * of a product. If there are more than SHOWN terms, the last row says so instead. A single term has
+ * no rows. */
 export function termRows(text, options) {
     const found = [];
     for (const term of terms(text, options)) if (found.push(term) > SHOWN) break;

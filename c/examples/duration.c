@@ -1,6 +1,6 @@
 /* `duration EXPRESSION` prints the expression's value in nanoseconds, that value as a printed
  * duration, and the moment that much after 2000-01-01T00:00:00Z, in seconds since 1970. Or it
- * prints what is wrong with the expression, below a caret. */
+ * prints the library's report of what is wrong with the expression. */
 #include <stdio.h>
 #include <string.h>
 

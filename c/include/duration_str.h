@@ -54,7 +54,7 @@
      DURATION_STR_VERSION_MINOR * 1000 + DURATION_STR_VERSION_PATCH)
 #define DURATION_STR_VERSION "0.19.0"
 
-/* The most bytes that a text of duration_str_format has. */
+/* No text of duration_str_format has more bytes than this. */
 #define DURATION_STR_MAX_PRINTED_LEN 60
 /* The size of the buffer that duration_str_format prints into. */
 #define DURATION_STR_FORMAT_BUFFER_SIZE 64
@@ -64,7 +64,7 @@
 /* The size of the buffer that duration_str_format_with prints into. */
 #define DURATION_STR_FORMAT_WITH_BUFFER_SIZE 144
 
-/* The most bytes that a line of duration_str_one_line has. */
+/* No line of duration_str_one_line has more bytes than this. */
 #define DURATION_STR_MAX_ONE_LINE_LEN 294
 /* The size of the buffer that duration_str_one_line writes into. */
 #define DURATION_STR_ONE_LINE_BUFFER_SIZE 384
@@ -72,7 +72,7 @@
 /* The size of the buffer that duration_str_report writes into. */
 #define DURATION_STR_REPORT_BUFFER_SIZE 867
 
-/* Attributes for GCC and Clang. They say how many bytes a buffer has (in C),
+/* Attributes for GCC and Clang. They say how long an array is at least (in C),
  * which pointers may not be null, and which results must be used. */
 #if defined __GNUC__ && !defined __cplusplus && \
     !defined DURATION_STR_DECLARATIONS_ONLY
@@ -88,8 +88,8 @@
 #define DURATION_STR_MUST_USE
 #endif
 
-/* Converts an integer, in a way that compilers don't warn about. Because of
- * the `| 0`, compilers refuse pointers and fractions. */
+/* Converts an integer. Because of the `| 0`, compilers refuse pointers and
+ * fractions. */
 #ifdef __cplusplus
 #define DURATION_STR_CAST(type, integer) static_cast<type>((integer) | 0)
 #else
@@ -100,8 +100,8 @@
 extern "C" {
 #endif
 
-/* The name of each constant begins with the name of its enumeration, or for a
- * unit with DURATION_STR_UNIT. */
+/* In an enumeration, the name of each constant begins with that of the
+ * enumeration, in capitals, or for a unit with DURATION_STR_UNIT. */
 
 /* The options are bits of a `uint32_t`; 0 turns all of them off. Further bits
  * are those of DURATION_STR_OPTION_DEFAULT_UNIT. If a bit is set that belongs
@@ -110,8 +110,7 @@ extern "C" {
 enum duration_str_option {
     /* `+` and `*` are not read, and the terms are added one by one */
     DURATION_STR_OPTION_NO_CALC = 1,
-    /* ASCII capitals are not read as small letters, so `1M` is refused;
-     * without this option `1M` is a minute */
+    /* ASCII capitals are not read as small letters, so `1M` is not a minute */
     DURATION_STR_OPTION_LOWERCASE = 2,
     /* the Chinese names of the units are read too */
     DURATION_STR_OPTION_CN_UNIT = 4,
@@ -224,8 +223,8 @@ enum duration_str_style {
     DURATION_STR_STYLE_LONG = 2     /* `1 hour 30 minutes` */
 };
 
-/* The answer to a text: its value, or why and where it is refused. A field
- * that doesn't apply is 0. */
+/* The answer to a text: its value, or why it is refused. A field that doesn't
+ * apply is 0. */
 struct duration_str_answer {
     /* if the text is read: its value in nanoseconds */
     uint64_t nanos;
@@ -274,8 +273,8 @@ size_t duration_str_format(
  * then as many of the next one as fit into the rest, and so on. Counts of 0
  * are left out. A count with its unit is a part. After the greatest number of
  * parts, the rest is left out, and nothing is rounded up. If there are no
- * parts, the text is a zero: `0` and the name of the smallest chosen unit,
- * such as `0h`, or `0s` if that unit is shorter than a second.
+ * parts, the text is a zero of the smallest chosen unit, such as `0 hours` or
+ * `0h`, or of seconds if that unit is shorter than a second.
  *
  * For example, 90,061 seconds in two parts are `1d 1h`, and 180 days in all
  * units without the quarter and the week are `6mon`.
@@ -328,7 +327,7 @@ bool duration_str_breakdown(
     uint64_t *rest);
 
 /* Reads a text under these options. Returns true if it is read. Writes to
- * `*answer` the value, or why and where the text is refused. */
+ * `*answer` the value, or why the text is refused. */
 DURATION_STR_NONNULL(4)
 bool duration_str_parse_with(const char *text, size_t length,
                              uint32_t options,
@@ -343,7 +342,7 @@ bool duration_str_parse_with(const char *text, size_t length,
  * Returns the length of the line, at most DURATION_STR_MAX_ONE_LINE_LEN. If the
  * text is read, returns 0, and the line is empty.
  *
- * The line quotes at most 40 characters of the text. Quotation marks,
+ * The line quotes at most 40 characters of the text. In the quote, `"`,
  * backslashes, control characters and characters that can't be seen are
  * escaped. For bytes that are not UTF-8 the line is `not UTF-8`, and for bits
  * that are not options it is `unknown option`. */

@@ -1,5 +1,5 @@
-//! The functions of `duration_str.h`. Each makes slices of C's pointers and calls the proved
-//! function of the same name. A pointer that may be null, as the header says, is an `Option`.
+//! The functions of `duration_str.h`. They make slices of C's pointers and call the proved
+//! functions of the same names. A pointer to write to is an `Option` if the header lets it be null.
 #![deny(clippy::no_mangle_with_rust_abi)]
 use crate::{answer::Answer, breakdown, format, message, unit};
 use core::mem::{MaybeUninit, offset_of, zeroed};

@@ -5,8 +5,7 @@ import letters from "duration_str.txt";
 const ADVICE = "allow 'wasm-unsafe-eval' in the content security policy, lift --jitless or the "
     + "limit of the address space, or import duration-str/plain";
 
-/** The bytes that the letters stand for. Node's Buffer takes a tenth of the time that the loop
- * takes. */
+/** The bytes that the letters stand for. Node's Buffer takes less time than the loop. */
 function bytesOf(text) {
     const { Buffer, process } = globalThis;
     // In a page, `Buffer` may be something else.

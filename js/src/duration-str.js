@@ -74,7 +74,8 @@ function put(value) {
     if (value < 0) throw negative(value);
     const whole = Math.trunc(value);
     const fraction = Math.round((value - whole) * MILLISECOND);
-    // The two halves are multiplied one by one, so that all numbers stay below 2^53 and are exact.
+    // The two halves are multiplied one by one. So, if the duration is not too long, their products
+    // are below 2^53 and exact.
     const upper = Math.trunc(whole / HALF);
     const low = (whole - upper * HALF) * MILLISECOND + fraction;
     const high = upper * MILLISECOND + Math.trunc(low / HALF);
@@ -196,7 +197,7 @@ function breakDown(value, options, all, longest) {
     // `breakdown` counts all units, and `parts` all except the quarter.
     if (named & ~all) throw new RangeError("parts has no quarters");
     const most = countOf(chosen.parts);
-    // There is at least a part, and each count is below 2^64, so the call refuses nothing.
+    // At least one part is allowed, and each count is below 2^64, so the call refuses nothing.
     calls.duration_str_breakdown(low, high, nanos, left, most, WRITTEN, ANSWER);
     return left;
 }

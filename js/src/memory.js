@@ -25,8 +25,8 @@ export let fields;
 let written;
 export let texts;
 
-/** Makes the module. This happens at the first call, so that an import takes no time, and does not
- * throw if WebAssembly is refused. */
+/** Makes the module. This happens at the first call, so that an import takes less time, and does
+ * not throw if WebAssembly is refused. */
 export function start() {
     const { memory: all, __heap_base: heap, ...others } = instance();
     ANSWER = Math.ceil(heap.value / 8) * 8;
@@ -80,7 +80,7 @@ export function decode(bytes) {
 }
 
 /** The text of the codes `c`. `String.fromCharCode` also takes an array of codes, by `apply`, but
- * needs some 300 instructions more for that. So a text is cut from that of 9, 16 or 28 codes. */
+ * is slower then. So a text is cut from that of 9, 16 or 28 codes. */
 function textOf(c, length) {
     let whole;
     if (length <= 9) {

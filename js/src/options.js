@@ -28,7 +28,8 @@ export function typeOf(value) {
     return Array.isArray(value) ? "array" : typeof value;
 }
 
-/** Whether an object inherits only what every object inherits, in this realm or another. */
+/** Whether a value is an object that inherits nothing, or only from Object.prototype, of this realm
+ * or another. */
 function isPlain(options) {
     if (typeof options !== "object" || options === null) return false;
     const prototype = Object.getPrototypeOf(options);
@@ -60,7 +61,8 @@ function unitOf(what, name) {
     throw new RangeError(`${what} must be one of ${UNITS.join(", ")}, not ${name}`);
 }
 
-/** The bits of a default unit. The second has none. Another unit turns `noCalc` on. */
+/** The bits of a default unit. Any has READS_NUMBERS. One other than the second also has its number,
+ * and turns `noCalc` on. */
 function defaultUnitBits(name) {
     if (name === undefined) return 0;
     const unit = unitOf("the option defaultUnit", name);
@@ -76,7 +78,7 @@ export function bitsOf(options) {
     let bits = 0;
     let wantsOperators = false;
     const names = Object.keys(options);
-    // With `for..of` here, V8 compiles `parse` without options into twice the instructions.
+    // With `for..of` here, V8 compiles `parse` without options into more instructions.
     for (let index = 0; index < names.length; index++) {
         const name = names[index];
         const value = options[name];
@@ -162,8 +164,9 @@ export function formatOf(options, known) {
     return { units, largest, smallest, parts, style };
 }
 
-/** The set of the units in `all` that a format leaves, and the set of the units that it names. If
- * no units are listed and no largest is chosen, the largest is `longest`. */
+/** The set of the units in `all` that a format leaves, and the set of all units in its options,
+ * given or by default. If no units are listed and no largest is chosen, the largest is
+ * `longest`. */
 export function unitsLeft({ units, largest, smallest }, all, longest) {
     const wanted = units === undefined ? all : unitsOf(units);
     if (largest === undefined) largest = units === undefined ? longest : "y";

@@ -46,8 +46,8 @@ function hideLong(cause, name) {
     Object.defineProperty(cause, name, { get: () => text });
 }
 
-/** The error for a refused text. Everything about the fault except its message is in `cause`, since
- * a structured clone of an error keeps no other field. */
+/** The error for a refused text. Everything about the fault except its message and its report is in
+ * `cause`, since a structured clone of an error can keep that, but no fields of its own class. */
 export class DurationError extends Error {
     #report;
 

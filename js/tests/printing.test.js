@@ -19,7 +19,7 @@ const DAY = 86_400_000_000_000n;
 const LENGTHS = Object.fromEntries(NAMES.map((name) => [name, parseNs(`1${name}`)]));
 
 /** Checks that a duration prints as the row says, and breaks down into the parts of its short text.
- * A text with a 0 has no parts. */
+ * A text that begins with 0 has no parts. */
 function checkRow([text, limits, short, long, secs, nanos]) {
     const value = parseNs(text);
     const texts = { short, compact: short.replaceAll(" ", ""), long };

@@ -19,7 +19,7 @@ const OPTIONS = {
 const ASCII = Array.from({ length: 128 }, (_, code) => String.fromCharCode(code));
 const STRANGE = [...ASCII, ..."\x85\xa0\u2028\ufeff٣０μſK", "\ud800", "\u{1f600}"];
 
-/** Without flags, as in a JSON schema, and with the flag of HTML's `pattern`, if Node has it. */
+/** Without flags, with `u`, and as HTML's `pattern` with its flag `v`, if Node has that. */
 function* expressions(source) {
     yield new RegExp(source);
     yield new RegExp(source, "u");

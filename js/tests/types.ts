@@ -115,7 +115,7 @@ formatNs(1n, { units: "d" });
 format(1, { unit: "d" });
 // @ts-expect-error: no style
 formatNs(1n, { style: "wide" });
-// @ts-expect-error: no text has a style
+// @ts-expect-error: a breakdown has no style
 breakdown(1n, { style: "long" });
 // @ts-expect-error: no unit
 breakdown(1n, { units: ["fortnights"] });

@@ -23,7 +23,8 @@ fn outcome() -> (u8, &'static str) {
 fn main() -> ExitCode {
     let (status, line) = outcome();
     if !line.is_empty() {
-        // The exit status says the same, so it does not matter if this line can't be written.
+        // The exit status too says that the run failed, so it does not matter if this line can't be
+        // written.
         let _ = writeln!(io::stderr(), "{line}");
     }
     ExitCode::from(status)

@@ -9,7 +9,7 @@ pub struct AllocError;
 /// Where memory comes from.
 pub trait Allocator {}
 
-/// Rust's own allocator, whatever allocator the program names.
+/// Rust's global allocator.
 pub struct Heap;
 
 impl Allocator for Heap {}
@@ -51,7 +51,7 @@ impl<A: Allocator> String<A> {
         self.0.extend_from_slice(text.as_bytes())
     }
 
-    /// The method that `write!` calls. It fails only if memory is refused.
+    /// The method that `write!` calls. It fails if memory is refused.
     pub fn write_fmt(&mut self, arguments: fmt::Arguments<'_>) -> Result<(), AllocError> {
         fmt::Write::write_fmt(self, arguments).map_err(|_| AllocError)
     }

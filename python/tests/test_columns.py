@@ -49,7 +49,7 @@ class Columns(unittest.TestCase):
         for length in LENGTHS:
             with self.subTest(length=length):
                 values = array("Q", range(length))
-                # Texts that become longer and longer, up to the room for a copy
+                # Texts of up to 599 characters
                 texts = [f"{value}ns".rjust(value % 600) for value in values]
                 self.assertEqual(parse_many(texts), values)
                 self.assertEqual(parse_many(texts, errors="coerce"), (values, array("Q")))

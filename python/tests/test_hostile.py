@@ -240,7 +240,7 @@ class Hostile(unittest.TestCase):
                 duration_str._native.read_list(
                     missing, array("Q", [0, 0]), (0, False), True, 0, lambda *_: -(2**63)
                 )
-                # The numbers are above 256, since Python keeps each smaller int for ever.
+                # The numbers are above 256, since Python keeps small ints for ever.
                 numbers = [*range(1_000, 1_200), *[None] * 200, "x"]
                 for call in (
                     lambda: parse_many(["1s", "x"]),
@@ -259,7 +259,6 @@ class Hostile(unittest.TestCase):
         tracemalloc.start()
         try:
             before = kept(1_000)
-            # 100,000 calls that read a text, and as many that refuse one
             self.assertLess(kept(20_000) - before, 2_000)
         finally:
             tracemalloc.stop()

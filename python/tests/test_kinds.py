@@ -29,7 +29,7 @@ UNITS = {"W": 604_800 * 10**9, "D": 86_400 * 10**9, "h": 3_600 * 10**9, "m": 60 
 UNITS |= {"s": 10**9, "ms": 10**6, "us": 10**3, "ns": 1}
 LENGTHS = {f"timedelta64[{unit}]": nanos for unit, nanos in UNITS.items()}
 LENGTHS |= {f"duration[{unit}]": nanos for unit, nanos in UNITS.items()}
-# The units of timedelta64 that have no length in nanoseconds
+# The units of timedelta64 that are refused
 OTHER_UNITS = ("Y", "M", "ps", "fs", "as")
 UNREADABLE = {"timedelta64", *(f"timedelta64[{unit}]" for unit in OTHER_UNITS)}
 # What is raised if a column can't be made
@@ -116,7 +116,7 @@ def of_arrow():
 
 def of_memory(values):
     """The name of the format of an array's memory, and the nanoseconds of its first value in
-    milliseconds. They are None if Python can't read that format."""
+    milliseconds. These are None if Python can't read that format."""
     nanos = first(lambda values: 10**6 * int(values[0]), values)
     return f"format {memoryview(values).format!r}", nanos
 
@@ -200,7 +200,7 @@ class Kinds(unittest.TestCase):
 
     def test_judges_arrays_of_python(self):
         for column in of_python():
-            # An array of C can't be iterated, so to_timedelta takes it for one value.
+            # An array of C has no `__iter__`, so to_timedelta takes it for one value.
             is_of_c = isinstance(column, ctypes.Array)
             calls = (parse_many,) if is_of_c else (parse_many, to_timedelta)
             name, nanos = of_memory(column)

@@ -8,8 +8,8 @@ use alloc::string::String;
 use chrono::{NaiveDate, NaiveDateTime, Utc};
 use duration_str_core::{Cause, Options};
 
-/// Adds the value of a text to the given moment, and returns the sum, which is a moment in the same
-/// time zone, such as UTC.
+/// Adds the value of a text to the given moment, and returns the sum. A [`NaiveDateTime`] has no
+/// time zone.
 ///
 /// If the text is refused, its fault is returned. Otherwise, if chrono can't represent the moment,
 /// the cause is [`Cause::OutOfRange`].
@@ -38,8 +38,8 @@ pub fn moment_after(
         .ok_or(Fault::of(input, Cause::OutOfRange, options))
 }
 
-/// Subtracts the value of a text from the given moment, and returns the difference, which is a
-/// moment in the same time zone. It refuses as [`moment_after`] does.
+/// Subtracts the value of a text from the given moment, and returns the difference. It refuses as
+/// [`moment_after`] does.
 ///
 /// # Errors
 ///
@@ -104,7 +104,7 @@ pub fn before_naive_date_time(input: impl AsRef<str>) -> Result<NaiveDateTime, S
     moment_before(now(), input.as_ref(), FEATURES).map_err(|fault| fault.message())
 }
 
-/// Returns the date of what [`after_naive_date_time`] returns.
+/// Returns the date of the moment that [`after_naive_date_time`] returns.
 ///
 /// # Errors
 ///
@@ -118,7 +118,7 @@ pub fn after_naive_date(input: impl AsRef<str>) -> Result<NaiveDate, String> {
     after_naive_date_time(input).map(|moment| moment.date())
 }
 
-/// Returns the date of what [`before_naive_date_time`] returns.
+/// Returns the date of the moment that [`before_naive_date_time`] returns.
 ///
 /// # Errors
 ///

@@ -1,4 +1,4 @@
-//! The calls for which a number without a unit counts another unit than seconds, or is refused.
+//! The calls that take a default unit, or require units.
 use crate::error::DurationError;
 use crate::fault::Fault;
 use crate::parser::ADDITIONS;
@@ -81,9 +81,9 @@ pub(crate) fn naming(default_unit: TimeUnit) -> Options {
 /// Reads a text as [`parse_duration`](crate::parse_duration) does, but refuses a number without a
 /// unit.
 ///
-/// Most other calls read `90` and `1h 30` as seconds, which may not be what was meant. In clap,
-/// write `value_parser = duration_str::parse_require_unit`. For serde, use the module
-/// `human_require_unit`.
+/// Most other calls read such a number, as in `90` and `1h 30`, as seconds, which may not be what
+/// was meant. In clap, write `value_parser = duration_str::parse_require_unit`. For serde, use the
+/// module `human_require_unit`.
 ///
 /// # Errors
 ///

@@ -4,8 +4,8 @@ use alloc::string::{String, ToString};
 use core::fmt;
 use duration_str_core::{Cause, Expected, Options};
 
-/// The error of [`parse_duration`](crate::parse_duration) and of `str::parse`: a [`Fault`] that
-/// owns its text.
+/// A [`Fault`] that owns its text. Calls such as [`parse_duration`](crate::parse_duration) return
+/// this error.
 ///
 /// It displays as one line, as a [`Fault`] does.
 ///
@@ -101,7 +101,7 @@ impl DurationError {
         self.as_fault().found()
     }
 
-    /// Returns the text, a caret and the line, as [`Fault::report`] does.
+    /// Returns the report for a terminal, as [`Fault::report`] does.
     ///
     /// ```
     /// let error = "600y".parse::<duration_str::HumanDuration>().unwrap_err();

@@ -5,7 +5,7 @@ use alloc::string::{String, ToString};
 use core::fmt;
 use duration_str_core::{self as proved, Cause, Expected, ONE_LINE_BUFFER_SIZE, Options};
 
-/// Why and where a text is refused.
+/// Why a text is refused, and often where.
 ///
 /// It displays as one line, for terminals and logs. The line says what is wrong. For a syntax fault
 /// it also says at which column, counted in characters from 1. It quotes at most 40 characters of

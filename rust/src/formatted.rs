@@ -6,7 +6,7 @@ use core::time::Duration;
 use duration_str_core::{Breakdown, FORMAT_BUFFER_SIZE, Format, Style, TimeUnit, write_format};
 
 /// A duration whose `Display` prints it for people, without allocating. You choose the units, the
-/// number of parts and the style.
+/// greatest number of parts and the style.
 ///
 /// Call [`format_duration`] to get one. For a duration of `chrono` or `time`, call
 /// [`HumanFormat::formatted`](crate::HumanFormat::formatted).
@@ -28,13 +28,13 @@ use duration_str_core::{Breakdown, FORMAT_BUFFER_SIZE, Format, Style, TimeUnit, 
 /// The text has as many of the largest chosen unit as fit into the duration, then as many of the
 /// next one as fit into the rest, and so on. Counts of 0 are left out. A count with its unit is a
 /// part. After the greatest number of parts, the rest is left out, and nothing is rounded up. If
-/// there are no parts, the text is a zero: `0` and the name of the smallest chosen unit, such as
-/// `0h`, or `0s` if that unit is shorter than a second.
+/// there are no parts, the text is a zero of the smallest chosen unit, such as `0 hours` or `0h`,
+/// or of seconds if that unit is shorter than a second.
 ///
 /// Each call that chooses units only takes units away, so you can make these calls in any order. If
 /// the largest unit that you ask for is shorter than the smallest, no unit is left, and each
-/// duration prints as zero seconds. The same is true if you ask for no unit. These calls can't
-/// fail, so if a user chooses the units, compare them first:
+/// duration prints as zero seconds. The same is true after `only(&[])`. These calls can't fail. So
+/// if a user of your program chooses the units, compare them first. Otherwise this can be printed:
 ///
 /// ```
 /// use duration_str::{Style, TimeUnit, format_duration};
@@ -48,9 +48,10 @@ use duration_str_core::{Breakdown, FORMAT_BUFFER_SIZE, Format, Style, TimeUnit, 
 ///
 /// Width and fill pad the text. A precision is ignored.
 ///
-/// A negative duration has a minus before its text, unless the text is a zero. No call reads a text
-/// with a minus, or one that stands for 2^64 nanoseconds or more, which is some 584 years. But the
-/// text of such a long duration is read if the parts that it leaves out make it stand for less:
+/// A negative duration prints as a minus and the text of its magnitude, or without a minus if that
+/// text is a zero. No call reads a text with a minus, or one that stands for 2^64 nanoseconds or
+/// more, which is some 584 years. But if parts of such a long duration are left out, its text can
+/// stand for less, and is then read:
 ///
 /// ```
 /// use duration_str::{format_duration, parse_duration};
@@ -206,8 +207,8 @@ chooses! {
     /// ```
     without: TimeUnit,
 
-    /// Leaves out the units that are longer than this one. If it is shorter than the smallest unit,
-    /// no unit is left, and each duration prints as zero seconds.
+    /// Leaves out the units that are longer than this one. If no unit is left, each duration prints
+    /// as zero seconds.
     ///
     /// ```
     /// use duration_str::{TimeUnit, format_duration};
@@ -218,8 +219,8 @@ chooses! {
     /// ```
     largest: TimeUnit,
 
-    /// Leaves out the units that are shorter than this one. If it is longer than the largest unit,
-    /// no unit is left, and each duration prints as zero seconds.
+    /// Leaves out the units that are shorter than this one. If no unit is left, each duration
+    /// prints as zero seconds.
     ///
     /// ```
     /// use duration_str::{TimeUnit, format_duration};

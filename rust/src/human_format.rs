@@ -29,8 +29,8 @@ use duration_str_core::{HUMAN_BUFFER_SIZE, write_human};
 /// assert_eq!(build.smallest(duration_str::TimeUnit::Second).to_string(), "0s");
 /// ```
 pub trait HumanFormat: Sealed {
-    /// Returns a value that prints the duration, in the units, the number of parts and the style
-    /// that you choose.
+    /// Returns a value that prints the duration, in the units, the greatest number of parts and the
+    /// style that you choose.
     ///
     /// ```
     /// use duration_str::{HumanFormat, Style};

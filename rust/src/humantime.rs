@@ -2,18 +2,18 @@
 //! crate, change one import: `use duration_str::humantime;`.
 //!
 //! A text that both humantime and this module read is the same duration in both. So a text that
-//! humantime printed and a program stored is read as it was meant, up to 584 years. For this, a
-//! month has 30.44 days here, by whatever name, and a year has 365.25 days. In the rest of this
-//! crate a month has 30 days and a year 365.
+//! humantime printed and a program stored is read as it was meant, up to some 584 years. For this,
+//! a month has 30.44 days here, by whatever name, and a year has 365.25 days. In the rest of this
+//! crate, except for the module `humantime_serde`, a month has 30 days and a year 365.
 //!
 //! This module also reads the names of units that only humantime has: `M` is a month, and `secs`,
 //! `mins`, `hrs`, `millis` and `nanos` are units, and so are `yr`, `yrs`, `wk` and `wks` of
-//! humantime 2.4. Capitals and small letters differ. The rest of this crate refuses these names, or
-//! reads `1M` as a minute.
+//! humantime 2.4. Capitals and small letters differ. Other calls of this crate refuse these names,
+//! or read `1M` as a minute.
 //!
 //! This module prints what humantime prints, such as `1day 2h 3m`.
 //!
-//! Some texts that humantime reads are refused. The error says what is wrong:
+//! Some texts that humantime reads are refused, with an error that says what is wrong:
 //!
 //! - fractions of humantime 2.4, such as `1.5h`, and its `0` without a unit
 //! - durations of 2^64 nanoseconds or more, which is some 584 years (`584y` is read)
@@ -91,7 +91,7 @@ fn read_other(text: &str) -> Result<StdDuration, Fault<'_>> {
 
 /// Reads a text by the proved reader, with humantime's names and lengths of units. Each number
 /// needs a unit, and capitals and small letters differ. The reader is compiled for this case alone,
-/// which makes it faster, and a program that only uses this module contains no other copy of it.
+/// which makes it faster.
 #[inline(never)]
 fn read_with(text: &str, no_calc: bool) -> Result<u64, proved::Fault<'_>> {
     let options = Options {
@@ -142,8 +142,8 @@ impl FormattedDuration {
     }
 }
 
-/// The length of the longest text:
-/// `584542046089years 11months 30days 23h 59m 59s 999ms 999us 999ns`.
+/// No text is longer than this. The longest has 63 bytes, such as
+/// `584542046089years 10months 30days 10h 33m 35s 999ms 999us 999ns`.
 const MAX_LEN: usize = 64;
 
 /// A text that is written into a buffer.
@@ -158,7 +158,7 @@ impl Written {
         self.end += text.len();
     }
 
-    /// Appends a number. `write!` would take twice as many instructions.
+    /// Appends a number. `write!` would take more instructions.
     fn push_count(&mut self, mut count: u64) {
         let mut digits = [b'0'; 20];
         let mut start = digits.len();
@@ -226,7 +226,7 @@ impl fmt::Display for FormattedDuration {
 pub struct Duration(StdDuration);
 
 impl Duration {
-    /// Wraps the duration. A constant can call this.
+    /// Wraps the duration. You can call this in a constant.
     ///
     /// ```
     /// use duration_str::humantime::Duration;

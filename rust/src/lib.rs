@@ -16,13 +16,14 @@
 //!
 //! - Use [`parse_duration`] for most texts. Its [`DurationError`] owns the text, so it can go
 //!   through `?`, threads and chains of errors.
-//! - Use [`parse_require_unit`] to refuse `90` and `1h 30`, which most calls read as seconds.
+//! - Use [`parse_require_unit`] to refuse numbers without a unit, such as in `90` and `1h 30`. Most
+//!   calls read them as seconds.
 //! - Use [`parse_in`] if your program's numbers count another unit, such as milliseconds.
 //! - Use [`parse_with`] to set options, or if nothing may be allocated. Its [`Fault`] borrows the
 //!   text. [`parse_with_default_unit`] also takes the default unit, or `None` to require units.
-//! - [`parse`], [`parse_std`] (which is the same) and the calls for `chrono` and `time` are the
-//!   calls of `duration-str` 0.19.0. Their error is a `String` of up to three lines. The features
-//!   of the whole program decide what these calls read.
+//! - [`parse`], [`parse_std`] (which is the same), `parse_chrono` and `parse_time` are calls of
+//!   `duration-str` 0.19.0. Their error is a `String` of up to three lines. This crate's features
+//!   decide what they read, and are the same for the whole program.
 #![cfg_attr(
     feature = "macros",
     doc = "- Use [`duration!`] for a text in the source, which is read at compile time:"
@@ -59,8 +60,8 @@
 //! # Ok::<(), serde_json::Error>(())
 //! ```
 //!
-//! `"timeout": "5 mins"` is refused with
-//! `invalid duration: unknown unit "mins" at column 3 (did you mean "min"?) at line 4 column 17`.
+//! `{ "timeout": "5 mins" }` is refused with
+//! `invalid duration: unknown unit "mins" at column 3 (did you mean "min"?) at line 1 column 21`.
 //!
 //! # Command lines
 //!
@@ -128,10 +129,9 @@
 //!
 //! # Features
 //!
-//! The crate is `no_std`, and needs `alloc`.
+//! Without its default features, the crate is `no_std`, and needs `alloc`.
 //!
-//! - `serde`, `chrono` and `time` are on by default, and add the calls for these crates. You need
-//!   them only for calls of `duration-str` 0.19.0, and for fields in configuration files.
+//! - `serde`, `chrono` and `time` are on by default, and add the calls for these crates.
 //! - `macros` adds the macro `duration!`.
 //! - `no_calc`, `lowercase` and `cn_unit` turn on the [option](Options) of the same name for the
 //!   calls of `duration-str` 0.19.0.
@@ -182,7 +182,7 @@ mod parser;
 mod serde;
 
 // The documentation shows these only in their module. Otherwise the list of this crate's functions,
-// which is in alphabetical order, would begin with them.
+// which is in alphabetical order, would begin with four of them.
 #[cfg(feature = "chrono")]
 #[doc(hidden)]
 pub use dates::{

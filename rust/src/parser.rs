@@ -5,8 +5,7 @@ use alloc::string::String;
 use core::time::Duration;
 use duration_str_core::{self as proved, Options};
 
-/// Reads a text under these options, and returns its duration. If the text is refused, the fault
-/// says why and where.
+/// Reads a text under these options, and returns its duration.
 ///
 /// # Errors
 ///
@@ -36,9 +35,9 @@ pub(crate) const FEATURES: Options = Options {
     cn_unit: cfg!(feature = "cn_unit"),
 };
 
-/// The options of the calls that `duration-str` 0.19.0 does not have, except of those calls that
-/// take options. Only the feature `cn_unit`, which adds names, affects these calls. The other
-/// features take something away. If they affected these calls, a crate that turns one on would
+/// The options of [`parse_duration`], to which some calls that `duration-str` 0.19.0 does not have
+/// add others. Only the feature `cn_unit`, which adds names, affects these calls. The other
+/// features take something away. If they affected these calls, a crate that turns one on could
 /// break what the other crates of the program read.
 pub(crate) const ADDITIONS: Options = Options {
     cn_unit: FEATURES.cn_unit,

@@ -1,6 +1,6 @@
-//! For tests/compare: does by this crate what the program durstr does. The words `require_unit` and
-//! another default unit, such as `default_unit=ms`, are read too. The status is 0 if all lines are
-//! read, and 1 if some are refused.
+//! For tests/compare: prints the value and the duration of each line of the input, or the line of
+//! the refusal. The words are those of the program durstr, `require_unit`, and a default unit, such
+//! as `default_unit=ms`. The status is 0 if all lines are read, and 1 if some are refused.
 #![forbid(unsafe_code)]
 
 use duration_str::{Options, TimeUnit, format_duration, parse_with_default_unit};

@@ -13,7 +13,7 @@ fn with_m(duration: FormattedDuration) -> String {
     duration.to_string().replace("min", "m")
 }
 
-/// The duration in the longest of these units that divides it, unless it is zero.
+/// The duration in the first of these units that divides it, if one does and it is not zero.
 fn exact(duration: Duration, units: &[TimeUnit]) -> Option<String> {
     let nanos = duration.as_nanos();
     let divides = |unit: &&TimeUnit| nanos > 0 && nanos % u128::from(unit.nanos()) == 0;

@@ -60,8 +60,8 @@ fn run(words: impl Iterator<Item = OsString>) -> io::Result<c_int> {
     run.all().map(|()| run.has_refused.into())
 }
 
-/// A stream as a file. If the stream is closed, reading or writing the file is an error. The stream
-/// of Rust's library hides that error.
+/// A stream as a file, or an error if the stream is closed. The streams of Rust's library hide that
+/// error.
 fn file(stream: impl AsFd) -> io::Result<File> {
     Ok(stream.as_fd().try_clone_to_owned()?.into())
 }
@@ -81,7 +81,8 @@ struct Run<'a> {
 }
 
 impl Run<'_> {
-    /// Answers each argument, or, if there are none, each line of standard input.
+    /// Prints completions or a pattern, or answers the arguments, or the lines of standard input if
+    /// there are no arguments.
     fn all(&mut self) -> io::Result<()> {
         if let Some(shell) = self.choices.completions {
             self.output
@@ -139,7 +140,7 @@ impl Run<'_> {
     fn next(&mut self, input: &mut BufReader<File>, line: &mut Vec<u8>) -> io::Result<bool> {
         line.clear();
         // Most lines are short, and whole in the buffer. A search that compares byte by byte finds
-        // the end of a short line in the least time.
+        // the end of a short line quickly.
         if let Some(last) = input.buffer().iter().position(|byte| *byte == self.end) {
             line.extend_from_slice(&input.buffer()[..=last]);
             input.consume(last + 1);
@@ -251,7 +252,7 @@ impl Run<'_> {
         } else {
             ""
         };
-        // A terminal should show the answers before this one first.
+        // On a terminal, the answers so far should stand above this line.
         self.output.flush()?;
         let field = self
             .choices
@@ -266,9 +267,9 @@ impl Run<'_> {
             .write_all(format!("duration: {what} {number}{field}:{gap}{said}{advice}\n").as_bytes())
     }
 
-    /// Whether the shell has perhaps cut a text at a blank before this argument. Then the argument
-    /// begins with an operator, as in `3m + 13s`. Or it begins with a word, and the one before it
-    /// ends with the word's number, as in `5 min`.
+    /// Whether the shell has perhaps cut a text at a blank before this argument. If so, the
+    /// argument begins with an operator, as in `3m + 13s`, or with a word whose number is the end
+    /// of the argument before it, as in `5 min`.
     fn is_cut(&self, refusal: &Refusal, number: u64) -> bool {
         let texts = &self.choices.texts;
         let Some(before) = number.checked_sub(2).and_then(|at| texts.get(at as usize)) else {

@@ -92,7 +92,7 @@ pub struct Choices {
     /// Refuse a number without a unit
     #[arg(long, conflicts_with = "from")]
     pub require_unit: bool,
-    /// Print the regular expression of the texts that have no wrong syntax, for validators
+    /// Print the regular expression of the texts that the grammar allows, for validators
     #[arg(long, conflicts_with_all = SHAPES, conflicts_with_all = ["texts", "to", "decimals",
         "round", "field", "delimiter", "header", "json", "quiet"])]
     pub pattern: bool,
@@ -210,7 +210,8 @@ fn one_byte(text: &str) -> Result<u8, &'static str> {
     }
 }
 
-/// The unit that a word names. Any other word is refused, with the help that a text would get.
+/// The unit that a word names. For any other word, the error names the unit that the word is near,
+/// if a text would get that help, and otherwise lists the units.
 fn unit(word: &str) -> Result<TimeUnit, String> {
     word.parse().map_err(|unknown: UnknownUnit| {
         let line = parse_duration(&format!("1{word}"))
@@ -258,8 +259,8 @@ fn with_list(shell: Shell, script: &str) -> String {
             let (before, _) = before.rsplit_once('"').expect("it is in quotation marks");
             let (_, after) = after.split_once('"').expect("they are two");
             // The part of the list before the last word is put in front of each word. It is left
-            // out if it has a character that no unit has. After a tab fish expects an explanation
-            // of the word, which is empty here.
+            // out if it has a character that is neither a letter nor a comma. After a tab fish
+            // expects an explanation of the word, which is empty here.
             let words = UNITS.join(r"\t,") + r"\t";
             let list = r"(string match -r '^(?:.*=)?\K(?:[\pL,]*,)?' -- (commandline -ct))";
             format!(r#"{before}"{list}{{{words}}}"{after}"#)
@@ -272,8 +273,8 @@ fn with_list(shell: Shell, script: &str) -> String {
             // What was typed must not become a part of the words, since compgen expands them, and
             // so would run a command that stands in them. The last word is completed, and the part
             // of the list before it is put in front of each answer. A list with a blank or another
-            // character that no unit has is left alone: bash would write the answer after the
-            // blank.
+            // character that is no letter, comma or quotation mark is left alone: bash would write
+            // the answer after the blank.
             let answer = r#"COMPREPLY=($(compgen -W "LIST" -- "${cur}"))"#;
             let (words, last) = (UNITS.join(" "), r"${cur##*,}");
             let answers = format!(

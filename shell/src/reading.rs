@@ -1,10 +1,9 @@
-//! Reads a text by the library, and says why it is refused.
+//! Reads a text, and says why it is refused.
 use crate::options::{Choices, Round};
 use duration_str::{Fault, TimeUnit, parse_with_default_unit};
 use serde_json::json;
 
-/// Why a text is refused. A syntax fault also has its place, the token there, and the text with a
-/// caret.
+/// Why a text is refused. A syntax fault also has its place, and the token there.
 #[derive(Default)]
 pub struct Refusal {
     pub message: String,
@@ -77,7 +76,7 @@ pub fn read<'a>(bytes: &'a [u8], choices: &Choices) -> Result<(&'a str, u64), Re
 }
 
 /// If a text is only a number with a fraction or an exponent, such as `12.5`, `.5` or `1.2e-05`,
-/// returns it without the blanks around it, with its nanoseconds in this unit. (The library reads a
+/// returns it without the blanks around it, and its value in nanoseconds. (The library reads a
 /// number that has neither.) The number is written without its exponent, and rounded down to 18
 /// decimals. The result is rounded down too. With `Round::Up`, the number and the result are rounded
 /// up.

@@ -142,7 +142,7 @@ fn refuses_wrong_usage() {
             "{words:?}: {errors}"
         );
     }
-    // If an option is given twice, the last value counts, so that an alias can have another one.
+    // If an option is given twice, the last value counts, so that it can override that of an alias.
     assert_eq!(answer(&["--to", "s", "-q", "--to", "ms", "1h", "-q"]), "");
     assert_eq!(answer(&["--to", "s", "--to", "ms", "1h"]), "3600000\n");
     let word = OsStr::from_bytes(b"1h\xff");

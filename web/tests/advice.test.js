@@ -11,7 +11,7 @@ import { lineOf, shorten } from "../sentences.js";
 import { counts, decimal, groupDigits, iso, seconds, termRows } from "../values.js";
 
 const TEXTS = JSON.parse(readFileSync(new URL("texts.json", import.meta.url), "utf8"));
-/** The most words in a sentence of the page. A quoted text counts as one. */
+/** The most words in the page's own sentence about a refused text. A quoted text counts as one. */
 const MOST_WORDS = 9;
 
 /** The names of the options in JavaScript, and their names in texts.json. */

@@ -12,7 +12,8 @@ function put(text) {
     all("#text")[0].dispatchEvent(new Event("input", { bubbles: true }));
 }
 
-/** Puts the text into the input, as typing or as pasting does, until the answer is drawn. */
+/** Puts the text into the input, as typing or as pasting does, and calls `done` when the answer is
+ * drawn. */
 function answer(text, pasted, done) {
     all("#text")[0].select();
     if (pasted) document.execCommand("insertText", false, text);

@@ -217,8 +217,8 @@ def try_values(page):
 
 
 def kind_of_fault(row):
-    """The kind of a row: what is marked, which sentence is shown, and whether the text is short or
-    long."""
+    """The kind of a row: whether a part, the end or nothing is marked, whether it has options,
+    whether the sentence is the page's own, and whether the text is long."""
     text, options, marked, *sentence = row
     return marked in (None, "\u00a0") and marked, bool(options), bool(sentence), len(text) > 40
 
@@ -835,7 +835,7 @@ def try_rules(page):
 
 
 def try_place(page):
-    """The answer, and so everything above it, doesn't move while a text is typed."""
+    """While the "typed" texts are typed, the answer doesn't move, and so nothing above it."""
     for width in (320, 900):
         emulate(page, "light", width)
         page.open()
@@ -890,7 +890,7 @@ def try_looks(page):
 
 
 def shown_in_picture(page, scheme):
-    """Opens the page as the pictures show it, and returns its height."""
+    """Opens the page as the pictures show it, and returns the height of a picture."""
     emulate(page, scheme, PICTURE_WIDTH)
     page.open("#text=1%3A30")
     page.run("document.activeElement.blur()")

@@ -1,4 +1,4 @@
-"""Columns of NumPy and pandas, which are imported only when they are used."""
+"""Columns of NumPy and pandas. NumPy is imported only when it is used, and pandas is not."""
 
 from __future__ import annotations
 
@@ -22,7 +22,8 @@ _NAT = -(2**63)
 
 
 def _is_missing(value: Any) -> bool:
-    """Whether a value is None, NaN, NaT, or another value by which pandas marks missing ones."""
+    """Whether a value is None, NaT, a float that is NaN, or, if pandas is imported, another value
+    that pandas takes for missing."""
     # If a module isn't imported, no value has one of its types.
     numpy: Any = sys.modules.get("numpy")
     pandas: Any = sys.modules.get("pandas")
@@ -44,8 +45,9 @@ def _missing_in(values: Any) -> Any:
 
 
 def _flat(values: Any, name: str) -> list[Any]:
-    """A list of the values of a sequence, or of an array of any shape, whose type has this name. A
-    masked value is None."""
+    """A list of the values of a sequence, or of an array of any shape. `name` is that of their
+    type. A masked value is None. If the type is not read, a stand-in takes the place of each value
+    that is not missing."""
     import numpy
 
     pandas = sys.modules.get("pandas")
@@ -90,7 +92,8 @@ def _like(values: Any, result: Any) -> Any:
 
 def _nanos_of_value(value: Any, index: int, raises: bool, takes_numbers: bool) -> int:
     """The nanoseconds of a value that is neither a text nor a number that is read. They stand for
-    NaT if the value is missing, or if it is refused and no error is to be raised."""
+    NaT if the value is missing, or if it is refused and `raises` is false. A timedelta64 in a unit
+    that `nanos_of` refuses raises TypeError even then."""
     import numpy
 
     if _is_missing(value):
@@ -180,16 +183,17 @@ def to_timedelta(
     default_unit: Unit = UNNAMED,
 ) -> Any:
     """Reads texts as timedelta64[ns], like `pandas.to_timedelta`. It needs
-    NumPy, but not pandas. The options are those of `parse_ns`.
+    NumPy, but not pandas. Except for `errors`, the options are those of
+    `parse_ns`.
 
     For a Series it returns a Series with the same index and name, and for an
-    Index an Index. For a NumPy array or any other sequence it returns an array
-    of the same shape. For a single text it returns a Timedelta if pandas is
-    imported, and otherwise a timedelta64.
+    Index an Index. For a NumPy array it returns an array of the same shape,
+    and for a list one of the same length. For a single text it returns a
+    Timedelta if pandas is imported, and otherwise a timedelta64.
 
-    Timedeltas are kept, and an array of timedelta64[ns] is returned as it is.
-    None, NaN, NaT, pandas' NA, and the masked values of an array become NaT. A
-    single None stays None, as in pandas.
+    Timedeltas are kept. (A timedelta64 must have a unit from weeks to
+    nanoseconds.) None, NaT, a float that is NaN, pandas' NA, and the masked
+    values of an array become NaT. A single None stays None, as in pandas.
 
     If you name a default unit, even seconds, whole numbers are read too, as
     by `parse_ns`. So a column of integers is read, and a column of floats that
@@ -197,10 +201,10 @@ def to_timedelta(
 
     With `errors="raise"` the first text that is refused raises a
     DurationError, whose `index` is the text's position in a column. So does a
-    text of 2**63 nanoseconds or more, which is some 292 years, since
-    timedelta64 can't hold it. A number is refused as the text of its digits
-    would be. Any other value, such as bytes, or a number without a default
-    unit, raises DurationTypeError, even if a text before it is refused. A
+    text or an int of 2**63 nanoseconds or more, which is some 292 years, since
+    timedelta64 can't hold it. A number that `parse_ns` refuses, except NaN,
+    raises an error of the same type. Any other value in a column, such as
+    bytes, raises DurationTypeError, even if a text before it is refused. A
     timedelta of 2**63 nanoseconds or more raises OverflowError. With
     `errors="coerce"` all of these become NaT.
     """
@@ -244,14 +248,15 @@ def format_many(
     """Prints a column of durations, each as `format` does. A duration is an
     int of nanoseconds or a timedelta. The options are those of `format`.
 
-    For a list or any other iterable it returns a list of str. For a Series, an
-    Index or a NumPy array it returns the same kind of column, with the dtype
-    `object` and the same shape, index and name. (An array of pandas becomes
-    one of NumPy.) Such a column may also have the type timedelta64, in units
-    from weeks to nanoseconds. Missing values, such as None, NaN and NaT,
-    become None.
+    For a list or a generator it returns a list of str. For a Series, an Index
+    or a NumPy array it returns the same kind of column, with the dtype
+    `object` and the same shape, index and name. (A masked array, and an array
+    of pandas, become plain ones of NumPy.) Such a column may also have the
+    type timedelta64, in units from weeks to nanoseconds. Missing values, such
+    as None, NaN and NaT, become None.
 
-    It raises the errors of `format`, with the value's position in the message.
+    It raises the errors of `format`. The error of a value says the value's
+    position.
 
     >>> duration_str.format_many([90 * 10**9, None])
     ['1min 30s', None]
@@ -279,8 +284,9 @@ def format_many(
 
 
 def _durations(values: Any) -> list[Any]:
-    """Returns the values of an array in a list. A timedelta64 becomes an int of nanoseconds, or
-    None if it is missing.
+    """Returns the values of an array in a list. Those of the type timedelta64 become ints of
+    nanoseconds, or None if they are missing. In an array of the type `object` they stay as they
+    are.
     """
     if not LENGTHS.fullmatch(name := type_name(values)):
         return _flat(values, name)

@@ -34,7 +34,7 @@ def _type_of_values(dtype: Any) -> Any:
     if hasattr(dtype, "fill_value"):  # a sparse column
         return dtype.subtype
     dtype = getattr(dtype, "pyarrow_dtype", dtype)
-    # A dictionary is a category of Arrow.
+    # Arrow calls categories a dictionary.
     return dtype.value_type if hasattr(dtype, "index_type") else dtype
 
 
@@ -69,8 +69,9 @@ def stand_in(name: str) -> Any | None:
 
 
 def values_of(texts: Any, name: str) -> list[Any]:
-    """The values of a sequence, whose type has this name, in a list of their own. Raises TypeError
-    for a single text and for a table.
+    """The values of a sequence in a list of their own. `name` is that of their type. If the type
+    is not read, a stand-in takes the place of each. Raises TypeError for a single text, and for
+    other than one dimension.
     """
     if isinstance(texts, (str, bytes, bytearray)):
         raise TypeError(f"the texts must be a sequence of str, not one {type(texts).__name__}")
@@ -150,17 +151,18 @@ def parse_many(
     default_unit: Unit = UNNAMED,
 ) -> array[int] | tuple[array[int], array[int]]:
     """Reads the texts of an iterable, such as a list, and returns their values
-    in nanoseconds as an `array('Q')`. The options are those of `parse_ns`. If
-    you name a default unit, whole numbers are read too, as by `parse_ns`.
+    in nanoseconds as an `array('Q')`. Except for `errors`, the options are
+    those of `parse_ns`. If you name a default unit, whole numbers are read
+    too, as by `parse_ns`.
 
     With `errors="raise"` the first text that is refused raises a
-    DurationError, whose `index` is the text's position. With a default unit, a
-    number is refused as the text of its digits would be. Any other value, such
+    DurationError, whose `index` is the text's position. A number that
+    `parse_ns` refuses raises an error of the same type. Any other value, such
     as None, raises DurationTypeError, even if a text before it is refused.
 
     With `errors="coerce"` it returns two arrays. The first has the values, and
-    0 for each text that is refused and for any other value. The second has the
-    positions of these zeros.
+    0 for each text or number that is refused and for any other value. The
+    second has the positions of these zeros.
 
     >>> duration_str.parse_many(["1s", "2m"])
     array('Q', [1000000000, 120000000000])

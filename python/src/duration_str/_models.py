@@ -15,7 +15,7 @@ from ._texts import DurationError, DurationTypeError
 
 def _read(value: Any, options: dict[str, Any]) -> Any:
     """Returns the value of a text, and, if a default unit is named, of a whole number. Returns a
-    timedelta as it is. Raises pydantic's own errors."""
+    timedelta as it is if it is not negative. Raises pydantic's own errors."""
     core = import_module("pydantic_core")
     if isinstance(value, datetime.timedelta):
         if value < datetime.timedelta(0):
@@ -36,7 +36,7 @@ def _read(value: Any, options: dict[str, Any]) -> Any:
             "found": error.found,
         }
         # pydantic replaces `{NAME}` in the message by the context's value of that name. So a
-        # message that contains such a name gets no context.
+        # message that contains one of its names in braces gets no context.
         context = None if any(f"{{{name}}}" in str(error) for name in told) else told
         raise core.PydanticCustomError("duration", str(error), context) from None
 
@@ -55,8 +55,8 @@ def _print(value: Any) -> str:
 
 
 class _Shown(dict[str, Any]):
-    """A JSON schema, to which pydantic adds a field's default last. The default is a timedelta in
-    ISO 8601, or as a number of seconds, and this class replaces it by the duration's text.
+    """A JSON schema, to which pydantic adds a field's default last. A default that is a timedelta
+    comes in ISO 8601, or as a number of seconds. This class replaces it by the duration's text.
     """
 
     def __setitem__(self, key: str, value: Any) -> None:
@@ -71,8 +71,8 @@ class _Shown(dict[str, Any]):
 
 class DurationField(WithOptions):
     """Makes pydantic 2 read a timedelta from a text, under these options, and
-    write it as a text. If you name a default unit, whole numbers are read too,
-    such as `1500` in JSON. Use this class in `Annotated`.
+    write it as a text in JSON. If you name a default unit, whole numbers are
+    read too, such as `1500` in JSON. Use this class in `Annotated`.
 
     >>> from datetime import timedelta
     >>> from typing import Annotated
@@ -116,7 +116,8 @@ class DurationField(WithOptions):
 
 
 Duration = Annotated[datetime.timedelta, DurationField()]
-"""A timedelta in a model of pydantic 2. A text is read, and a timedelta is kept. In JSON it is the
-printed text. The limits `gt`, `ge`, `lt` and `le` of a `Field` are timedeltas."""
+"""A timedelta in a model of pydantic 2. A text is read, and a timedelta is kept if it is not
+negative. In JSON it is the printed text, up to 584 years. The limits `gt`, `ge`, `lt` and `le` of a
+`Field` are timedeltas."""
 DurationRequireUnit = Annotated[datetime.timedelta, DurationField(require_unit=True)]
 """A `Duration`, but a number without a unit is refused, as in `90` and `1h 30`."""

@@ -192,9 +192,9 @@ static int read_str(struct state *state, PyObject *given, uint32_t options, uint
     return -1;
 }
 
-/* The digits of a whole number, as a str. For a float that is not whole, or is below -2^53, it is
+/* The digits of a whole number, as a str. For a float that is not whole, or is -2^53 or less, it is
  * what Python prints, which the library refuses. Returns NULL if the value is no number, or a float
- * that can have lost digits, or with an error if Python refuses to print the number. */
+ * of 2^53 or more, or with an error if Python refuses to print the number. */
 static PyObject *digits_of(struct state *state, PyObject *value) {
     PyObject *number = NULL, *digits = NULL;
     if (PyBool_Check(value))
@@ -265,7 +265,7 @@ static void raise_name(PyObject *name, const char *keyword, const char *listed) 
 
 /* The number of the unit that has this name if all options are off. Returns -1 with an error. */
 static int unit_of(struct state *state, PyObject *name, const char *keyword) {
-    /* Python keeps one object for equal names in a program, so most names are found here. */
+    /* Python usually keeps one object for equal names in a program. So most are found here. */
     for (int unit = 0; unit <= DURATION_STR_UNIT_NANOSECOND; unit++)
         if (name == state->kept[UNIT_NAMES + unit])
             return unit;
@@ -371,7 +371,7 @@ static PyObject *timedelta_of(struct state *state, uint64_t nanos) {
         return state->datetime->timedelta((int)(secs / 86400), (int)(secs % 86400),
             (int)(nanos % SECOND / 1000), 0, (PyTypeObject *)state->kept[TIMEDELTA]);
     }
-    /* Multiplying takes two thirds of the time that the constructor would take. */
+    /* Multiplying takes less time than the constructor would take. */
     PyObject *micros = PyLong_FromUnsignedLongLong(nanos / 1000);
     PyObject *value = micros ? PyNumber_Multiply(state->kept[A_MICROSECOND], micros) : NULL;
     Py_XDECREF(micros);
@@ -445,8 +445,8 @@ static int take_units(struct state *state, PyObject *value, uint32_t *units) {
         return 0;
     PyObject *names = PyUnicode_Check(value) ? NULL : PyObject_GetIter(value), *name;
     if (!names) {
-        /* An error of the value's own __iter__ passes through, except a TypeError, which also says
-         * that there is no __iter__. */
+        /* An error of the value's own __iter__ passes through, except a TypeError, which Python
+         * also raises if there is no __iter__. */
         if (!PyErr_Occurred() || PyErr_ExceptionMatches(PyExc_TypeError))
             PyErr_Format(PyExc_TypeError, "units must be a list of units, not %R", value);
         return -1;
@@ -575,7 +575,7 @@ static int take_timedelta(struct state *state, PyObject *value, struct duration 
     return 0;
 }
 
-/* Takes the duration of a value. `function` is called for a value that is neither int nor
+/* Takes the duration of a value. `function` is called for a value whose type is neither int nor
  * timedelta. Returns 1 if the duration is taken, and 0 if the function returns None, since the
  * value is missing. Returns -1 with an error. */
 static inline int take_duration(
@@ -593,8 +593,8 @@ static inline int take_duration(
     return failed ? -1 : !is_missing;
 }
 
-/* The text of a duration. If there are no limits, it uses the call without limits, which is faster.
- * */
+/* The text of a duration. If there are no limits, and the duration is not too long, it uses the
+ * call without limits, which is faster. */
 static PyObject *text_of(const struct duration *duration, const struct limits *limits) {
     char buffer[DURATION_STR_FORMAT_WITH_BUFFER_SIZE];
     const bool is_whole = !memcmp(limits, &no_limits, sizeof *limits);
@@ -641,7 +641,7 @@ static PyObject *printed_count(const struct duration *duration, uint32_t units) 
 }
 
 /* Makes a named tuple of this type. It takes over the reference to the items, which are a tuple.
- * The type's own constructor is a function in Python, and takes some ten times as long. */
+ * The type's own constructor is a function in Python, and takes longer. */
 static PyObject *named_tuple(PyObject *type, PyObject *items) {
     const newfunc new_tuple = (newfunc)(uintptr_t)PyType_GetSlot(&PyTuple_Type, Py_tp_new);
     PyObject *arguments = items ? PyTuple_Pack(1, items) : NULL;
@@ -721,7 +721,7 @@ static PyObject *limits(
 }
 
 /* After this many values of a column, other threads may run, and a signal may end the call. For
- * values such as `3m 13s 29ms` that is after half a millisecond. */
+ * values such as `3m 13s 29ms` that takes far less than a hundredth of a second. */
 static const Py_ssize_t A_TURN = 4096;
 
 /* Lets other threads run. Returns -1 with an error if a signal has raised one. */
@@ -732,8 +732,8 @@ static int end_turn(void) {
 }
 
 /* format_list(values, function, texts, limits): appends the text of each value to `texts`, whose
- * length then says at which value an error is. The function is called for a value that is neither
- * int nor timedelta. */
+ * length then says at which value an error is. The function is called for a value whose type is
+ * neither int nor timedelta. */
 static PyObject *format_list(PyObject *self, PyObject *arguments) {
     PyObject *values, *function, *texts;
     struct limits limits;
@@ -778,8 +778,8 @@ static Py_ssize_t length_of(const struct list *list) {
     return length < list->room ? length : list->room;
 }
 
-/* Keeps a value that has no text, for timedelta64. `*missing` is a value for which the function has
- * returned NaT, so that it is not asked about that value again. Returns -1 with an error. */
+/* Keeps a value that has no text, for timedelta64. `*missing` is the last value for which the
+ * function has returned NaT, and becomes NaT without another call. Returns -1 with an error. */
 static int keep(struct state *state, const struct list *list, Py_ssize_t at, PyObject *value,
     PyObject **missing) {
     long parts[3];
@@ -818,7 +818,8 @@ static void raise_beyond(struct state *state, PyObject *given, Py_ssize_t index)
     raise_error(state, line, PyUnicode_FromObject(given), &answer, NULL, index);
 }
 
-/* Reads a text of the list, as read_str does. */
+/* Reads a text of the list, and returns what read_str does. If there is a function, it also refuses
+ * a value that timedelta64 can't hold. */
 static int read_text(
     struct state *state, const struct list *list, Py_ssize_t at, PyObject *text, bool raises) {
     int is_read =
@@ -919,8 +920,8 @@ PyDoc_STRVAR(parse_ns_doc,
     "parse_ns" OPTIONS_DOC "Returns the value of a text in nanoseconds.\n\n"
     "The options are off by default, and the default unit is the second:\n\n"
     "  no_calc       `+` and `*` are not read, and the terms are added one by one\n"
-    "  lowercase     ASCII capitals are not read as small letters, so `1M` is\n"
-    "                refused; without this option `1M` is a minute\n"
+    "  lowercase     ASCII capitals are not read as small letters, so `1M` is not a\n"
+    "                minute\n"
     "  cn_unit       the Chinese names of the units are read too\n"
     "  require_unit  a number without a unit is refused, such as in `90` and `1h 30`\n"
     "  default_unit  a number without a unit counts this unit; with any unit except\n"
@@ -929,10 +930,12 @@ PyDoc_STRVAR(parse_ns_doc,
     "If you name one, even seconds, a whole number that is not a text is read as its\n"
     "digits would be. It is an int (also NumPy's), or a float that is whole and\n"
     "below 2**53.\n\n"
-    "Raises DurationError if the text or the number is refused, and\n"
-    "DurationTypeError for any other value. Raises ValueError if `default_unit`\n"
-    "names no unit, if you name it and also require units, or if it is not the\n"
-    "second and you also write `no_calc=False`.\n\n"
+    "Raises DurationError if the text is refused, or with a default unit the\n"
+    "number, such as -1, 1.5 or 2**64. Raises DurationTypeError for any other value,\n"
+    "also for NaN and for a float of 2**53 or more. Raises ValueError for an int\n"
+    "with more digits than Python writes, if `default_unit` is a text that names no\n"
+    "unit, if you name it and also require units, or if it is not the second and you\n"
+    "also write `no_calc=False`.\n\n"
     ">>> duration_str.parse_ns('1500', default_unit='ms')\n"
     "1500000000\n"
     ">>> duration_str.parse_ns(1500, default_unit='ms')\n"
@@ -953,6 +956,7 @@ PyDoc_STRVAR(format_doc,
     "  units     only these units, such as `('y', 'mon', 'd')`, in any order\n"
     "  largest   the largest unit: `y`, `q`, `mon`, `w`, `d`, `h`, `min`, `s`,\n"
     "            `ms`, `\xc2\xb5s` or `us`, `ns`, or another name that is read\n"
+    "            without `cn_unit`\n"
     "  smallest  the smallest unit\n"
     "  style     `short` (`1h 30min`), `compact` (`1h30min`) or `long`\n"
     "            (`1 hour 30 minutes`)\n\n"
@@ -960,7 +964,7 @@ PyDoc_STRVAR(format_doc,
     "as many of the next one as fit into the rest, and so on. Counts of 0 are left\n"
     "out. A count with its unit is a part. After the greatest number of parts, the\n"
     "rest is left out, and nothing is rounded up. If there are no parts, the text is\n"
-    "a zero: `0` and the name of the smallest chosen unit, such as `0h`, or `0s` if\n"
+    "a zero of the smallest chosen unit, such as `0 hours` or `0h`, or of seconds if\n"
     "that unit is shorter than a second.\n\n"
     "Raises ValueError if the duration is negative, if `parts` is 0, if a name is\n"
     "not that of a unit, or if no units are left. Raises OverflowError if the\n"
@@ -979,7 +983,7 @@ PyDoc_STRVAR(breakdown_doc,
     "nanoseconds, or a timedelta (also NumPy's).\n\n"
     "Returns a named tuple of the `parts` and of the nanoseconds that no part has,\n"
     "`rest_ns`. Each part is a named tuple of the `count` and the `unit`, by the\n"
-    "name that `format` prints. The counts and the rest are ints of any size.\n\n"
+    "name that `format` prints in the short style. A count may be 2**64 or more.\n\n"
     "The parts are those that the printed text has, so a duration of 0 has none. The\n"
     "counts, each times the length of its unit, and the rest are together the\n"
     "duration.\n\n"

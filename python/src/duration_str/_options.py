@@ -28,10 +28,9 @@ class WithOptions:
             "require_unit": require_unit,
             "default_unit": default_unit,
         }
-        # Raises ValueError if no unit has the name of the default unit, or if the options
+        # Raises an error if the default unit is no name of a unit, or if the options
         # contradict each other.
         _, self._takes_numbers = reading(**given)
-        # Only the options that are on are kept, and the default unit if one is named. An option
-        # that is off reads texts as if it were left out.
+        # Only the options that are on are kept, and the default unit if one is named.
         chosen = {name: value for name, value in given.items() if value and value is not UNNAMED}
         self._options: dict[str, Any] = chosen

@@ -72,7 +72,7 @@ class Cause(enum.IntEnum):
     MIXED = 5
     """`+` and `*` are mixed."""
     NOT_TEXT = 7
-    """The string has a lone surrogate, or the bytes are not UTF-8."""
+    """The text has a lone surrogate."""
 
 
 class Expected(enum.Flag):
@@ -85,8 +85,9 @@ class Expected(enum.Flag):
 
 
 class DurationTypeError(TypeError, ValueError):
-    """A value is neither a text nor, if a default unit is named, a number. This
-    error is also a ValueError, since pydantic takes only those for refusals."""
+    """A value has a type that is not read, or is NaN or a float of 2**53 or more.
+    This error is also a ValueError, since pydantic doesn't take a plain
+    TypeError for a refusal."""
 
 
 _CAUSES = {int(cause): cause for cause in Cause}
@@ -116,8 +117,8 @@ class DurationError(ValueError):
     place: int | None
     """The byte at which the fault is, in UTF-8 and from 0, or None if the fault has no place."""
     pos: int | None
-    """The same place in characters. For a syntax fault `text[pos:]` begins with `found`. The column
-    in the line is one more, since columns count from 1."""
+    """The same place in characters. For a syntax fault `text[pos:]` begins with `found`, if that is
+    not None. The column in the line is one more, since columns count from 1."""
     expected: Expected
     """What could stand at the place of a syntax fault. For other faults no flag is set."""
     found: str | None
@@ -182,7 +183,7 @@ def whole_of(value: Any) -> int | None:
 
 def nanos_a_step(dtype: Any) -> int:
     """The nanoseconds of one step of this type of timedelta64. Raises TypeError if the type's unit
-    has no fixed length."""
+    is none from weeks to nanoseconds."""
     numpy: Any = import_module("numpy")
     unit, count = numpy.datetime_data(dtype)
     if unit not in _NANOS:

@@ -1,5 +1,5 @@
 //! Traits and methods that the types have in addition to the proved source. They are in this crate,
-//! since only the crate of a type can implement them.
+//! since duration-str can't implement them for types of another crate.
 use super::breakdown::Breakdown;
 use super::cause::Cause;
 use super::fault::Fault;
@@ -155,7 +155,7 @@ impl PartialOrd for TimeUnit {
     }
 }
 
-/// Reads each name of a unit that is read with all options off.
+/// Reads the names that units have in a text if all options are off.
 impl FromStr for TimeUnit {
     type Err = UnknownUnit;
 

@@ -16,8 +16,7 @@
 pub struct Options {
     /// `+` and `*` are not read, and the terms are added one by one.
     pub no_calc: bool,
-    /// ASCII capitals are not read as small letters, so `1M` is refused; without this option `1M`
-    /// is a minute.
+    /// ASCII capitals are not read as small letters, so `1M` is not a minute.
     pub lowercase: bool,
     /// The Chinese names of the units are read too.
     pub cn_unit: bool,

@@ -61,8 +61,8 @@ fn value(input: TokenStream) -> Result<TokenStream, Refusal> {
     )))
 }
 
-/// The literal, as it is written, and where it stands. A literal that another macro passes on
-/// stands in a group of its own.
+/// The literal, as it is written, and where it stands. A literal that another macro passes on can
+/// stand in a group of its own.
 fn literal(token: Option<TokenTree>) -> Result<(String, Span), Refusal> {
     match token {
         Some(TokenTree::Literal(literal)) => Ok((literal.to_string(), literal.span())),

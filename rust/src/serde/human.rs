@@ -10,12 +10,13 @@
 //!   [`human_or_seconds`](crate::human_or_seconds) and
 //!   [`human_or_millis`](crate::human_or_millis) also read numbers.
 //! - The empty text is refused.
-//! - `None` is the format's null. With `#[serde(default)]` a missing field is `None` too.
+//! - In a format that has null, `None` is null. With `#[serde(default)]` a missing field is `None`
+//!   too.
 //! - If a text is refused, the error's message is `invalid duration: ` and the line of the fault, to
 //!   which a format may add its own line and column.
 //!
-//! Everything that is written can be read back. So writing fails for a negative duration, and for
-//! one of 2^64 nanoseconds or more, which is some 584 years.
+//! Writing fails for a negative duration, and for one of 2^64 nanoseconds or more, which is some
+//! 584 years, since their texts could not be read back.
 //!
 //! This module needs the feature `serde`.
 //!
@@ -46,7 +47,7 @@
 //! ```
 //!
 //! [`human_require_unit`](crate::human_require_unit) refuses a number without a unit. To use
-//! another call or options, write a function of two lines for `deserialize_with`:
+//! another call or options, write a function for `deserialize_with`:
 //!
 //! ```
 //! use duration_str::{TimeUnit, parse_in};
@@ -90,7 +91,7 @@ use serde::ser::{self, Serialize, Serializer};
 /// [`human_or_seconds`](crate::human_or_seconds) and [`human_or_millis`](crate::human_or_millis)
 /// write and read.
 ///
-/// A map needs no `with`:
+/// A map with values of the type [`HumanDuration`] needs no `with`:
 ///
 /// ```
 /// use duration_str::HumanDuration;
@@ -138,7 +139,7 @@ pub fn serialize<T: HumanText, S: Serializer>(value: &T, serializer: S) -> Resul
     value.serialize_human::<S, TEXT>(serializer)
 }
 
-/// Reads durations, which must be texts.
+/// Reads durations from texts.
 ///
 /// # Errors
 ///

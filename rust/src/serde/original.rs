@@ -41,7 +41,7 @@ impl<T: Length> Visitor<'_> for Required<T> {
     }
 }
 
-/// Reads a text as a duration, and null and the empty text as `None`. It refuses any other value.
+/// Reads a text or its bytes as a duration, and null and the empty text as `None`.
 struct Optional<T>(PhantomData<T>);
 
 impl<'de, T: Length> Visitor<'de> for Optional<T> {

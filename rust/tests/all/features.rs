@@ -3,8 +3,8 @@ use duration_str::{
     Format, HumanDuration, Options, parse, parse_duration, parse_require_unit, parse_std,
 };
 
-/// Texts, whether the calls of `duration-str` 0.19.0 read them, and whether all other calls do.
-/// Only the feature `cn_unit`, which adds names, affects the other calls.
+/// Texts, whether the calls of `duration-str` 0.19.0 read them, and whether `parse_duration` does.
+/// Only the feature `cn_unit`, which adds names, affects `parse_duration`.
 const TEXTS: [(&str, bool, bool); 4] = [
     ("1m", true, true),
     ("1m+1", cfg!(not(feature = "no_calc")), true),

@@ -162,7 +162,8 @@ impl<'de> Deserializer<'de> for Untyped {
     }
 }
 
-/// Reads a text in each way in which a field can be a duration as text, and checks that all agree.
+/// Reads a text by the module `human`, as an `Option` too, and as a `HumanDuration`, and checks
+/// that all agree.
 fn read<D: Deserializer<'static, Error = Error>>(text: impl Fn() -> D) -> Result<Duration, String> {
     let required: Result<Duration, Error> = human::deserialize(text());
     let optional: Result<Option<Duration>, Error> = human::deserialize(text());

@@ -63,15 +63,14 @@ const FEATURES: Options = Options {
     cn_unit: cfg!(feature = "cn_unit"),
 };
 
-/// The options of the calls that return a `DurationError`. Only the feature `cn_unit`, which adds
-/// names, affects them.
+/// The options of `parse_duration`. Only the feature `cn_unit`, which adds names, affects them.
 const ADDITIONS: Options = Options {
     cn_unit: cfg!(feature = "cn_unit"),
     ..Options::off()
 };
 
-/// What these calls return for a text, if there are some that read under these options with this
-/// default unit.
+/// What `parse_duration`, `parse_in` and `parse_require_unit` return for a text, if they read under
+/// these options with this default unit.
 fn by_usual_calls(
     text: &str,
     options: Options,

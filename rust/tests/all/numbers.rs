@@ -20,7 +20,7 @@ fn with_numbers<'de, D: Deserializer<'de, Error = Error>>(value: D) -> Result<Du
 #[test]
 fn reads_whole_seconds_and_texts() {
     let minute = Ok(Duration::from_secs(60));
-    // JSON and YAML pass positive numbers on as unsigned, and TOML passes all numbers on as signed.
+    // JSON and YAML pass positive integers on as unsigned, and TOML passes integers on as signed.
     assert_eq!(with_numbers(U64Deserializer::new(60)), minute);
     assert_eq!(with_numbers(I64Deserializer::new(60)), minute);
     assert_eq!(with_numbers(U128Deserializer::new(60)), minute);
@@ -83,8 +83,8 @@ fn reads_whole_floats_as_numbers() {
     assert_eq!(in_millis(F64Deserializer::new(-0.0)), Ok(Duration::ZERO));
     let json: Option<Duration> = human_or_millis::deserialize(json!(1_500.0)).unwrap();
     assert_eq!(json, Some(Duration::from_millis(1_500)));
-    // This is the greatest float of 32 bits that can't have lost a digit. That of 64 bits is too
-    // large for milliseconds, and so has the refusal of an integer.
+    // This is the greatest float of 32 bits that can't have lost a digit. The one of 64 bits is too
+    // large for milliseconds, and is refused as the same integer is.
     assert_eq!(
         in_millis(F32Deserializer::new(16_777_215.0)),
         Ok(Duration::from_millis(16_777_215))

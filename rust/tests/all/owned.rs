@@ -73,5 +73,5 @@ fn keeps_faults_in_sets() {
     assert_eq!(HashSet::from(bare).len(), 2);
 }
 
-// A constant can call these.
+// These can be called in a constant.
 const _: () = assert!(TimeUnit::Minute.nanos() == 60_000_000_000 && Cause::Empty.place().is_none());

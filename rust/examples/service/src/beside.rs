@@ -106,7 +106,7 @@ fn prints_what_was_printed_and_reads_it() {
             serde_json::to_value(&stored).unwrap(),
             serde_json::json!({ "length": is })
         );
-        // A duration that is too long to be read by this crate
+        // This duration can be too long to be read by this crate.
         let long = Duration::new(numbers.any(), 999_999_999);
         let was = before::format_duration(long).to_string();
         assert_eq!(after::format_duration(long).to_string(), was);

@@ -1,6 +1,6 @@
 //! A program that was written for humantime 2 and humantime-serde 1. To move it to this crate,
-//! these dependencies in Cargo.toml became `duration-str`, and one import changed to the first one
-//! below. `before.rs` has the old import.
+//! these dependencies in Cargo.toml became `duration-str`, and the import in `before.rs` became the
+//! first one below.
 use duration_str::{humantime, humantime_serde};
 use std::error::Error;
 
