@@ -51,8 +51,7 @@ const COMMON = new Map([
     ...UNITS.flatMap(({ near, printed }) => near.map((word) => [word, printed])),
     ...byWord({ ms: "millisec millisecs", µs: "microsec microsecs", ns: "nanosec nanosecs" }),
 ]);
-/** Whole words for lengths in other languages. Words that are abbreviated, or that name a date or
- * an hour of the day too, are left out. */
+/** Words for lengths in other languages. */
 const FOREIGN = byWord({
     y: "年間",
     mon: "个月 か月 개월",
