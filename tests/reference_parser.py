@@ -50,8 +50,8 @@ STYLES = ("short", "compact", "long")
 
 PLACES = {name: place for place, unit in enumerate(UNITS) for name in unit.names.split()}
 
-# The line of a syntax fault where a unit could stand, and the most bytes of a duration that the
-# program prints.
+# The line of a syntax fault where a unit could stand, and the most bytes of a duration that is
+# printed in the short style.
 UNIT_LINE = 'expected ["y", "q", "mon", "w", "d", "h", "m", "s", "ms", "µs", "us", "ns"]'
 LONGEST_PRINTED = 60
 
