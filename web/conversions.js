@@ -453,8 +453,7 @@ function sumOfTerms(text) {
 
 const BLANKS_IN_NUMBER = /^[1-9][0-9]{0,2}(?: [0-9]{3})+(?=\s*\p{L}+\.?$)/u;
 
-/** `1 000 s`, in which the blank groups digits as in SI. Two numbers next to each other mean
- * nothing else. */
+/** `1 000 s`, in which the blank groups digits as in SI. */
 function groupedByBlanks(text) {
     const grouped = text.replace(BLANKS_IN_NUMBER, (digits) => digits.replaceAll(" ", "\u202f"));
     return grouped === text ? null : sumOfTerms(grouped);
