@@ -9,7 +9,7 @@
 #                      password; with all=yes also the many packages that few tests need
 # make prove           proves everything, by the Rattle toolchain's command rt
 # make check           proves everything, if there is rt, and tests everything that is built; this
-#                      takes half an hour to an hour
+#                      can take over an hour
 # make quick           runs the tests that take seconds and the checks of what has changed
 # make format          lays out Rust, Python, C, Go and shell scripts, by the usual tool of each
 #                      language
@@ -86,8 +86,8 @@ program:
 	fi
 	echo $$program
 
-# 4.3 MB of the archive that rustc writes are helpers that nothing calls. So the archive is written
-# again from rustc's object, which has everything needed.
+# The archive that rustc writes also has helpers that nothing calls. So the archive is written again
+# from rustc's object, which has everything else.
 library:
 	@archive="$(built)/libduration_str.a"
 	if ! $(call serves,"$$archive",c); then

@@ -161,7 +161,7 @@ export interface Expected {
 }
 
 interface Refused {
-    /** The whole text that was read. */
+    /** The whole text. */
     readonly text: string;
     /** What could stand at the place of a syntax fault. For other faults all fields are false. */
     readonly expected: Expected;
@@ -201,7 +201,7 @@ export interface TextFault extends Refused {
     readonly found: null;
 }
 
-/** The text is empty, or mixes `+` and `*`. */
+/** The text is empty, or mixes a sum and a product. */
 export interface OtherFault extends Refused {
     readonly code: "EMPTY" | "MIXED";
     readonly index: null;
@@ -315,9 +315,9 @@ export function tryParseNs(
 
 /**
  * Returns a regular expression for JSON Schema, HTML's `pattern` and other validators that check a
- * text before your program reads it. It matches exactly the texts that have no wrong syntax under
+ * text before your program reads it. It matches exactly the texts that the grammar allows under
  * these options. `parse` reads such a text, unless a number, a term, a step or the value is too
- * large, or `+` and `*` are mixed.
+ * large, or a sum and a product are mixed.
  *
  * It needs no flags, begins with `^` and ends with `$`. `docs/GRAMMAR.md` in the repository says in
  * which languages you can use it.
@@ -389,9 +389,9 @@ export function breakdown(
  * new Intl.DurationFormat("en").format(parts(parse("1h 30m"))); // 1 hr, 30 min
  * ```
  *
- * @throws RangeError if a number can't hold a count exactly, if the quarter is named, or if
- * `smallest` is longer than a day and you give neither `largest` nor `units`. It is also thrown for
- * a duration or an option for which `format` or `formatNs` throws it.
+ * @throws RangeError if a count is 2^53 or more, if the quarter is named, or if `smallest` is
+ * longer than a day and you give neither `largest` nor `units`. It is also thrown for a duration or
+ * an option for which `format` or `formatNs` throws it.
  * @throws TypeError if the duration is neither a number nor a bigint, or for an option for which
  * `format` throws it
  */

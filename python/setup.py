@@ -136,7 +136,7 @@ if {"bdist_wheel", "dist_info"} & set(sys.argv):
         any(map(importlib.util.find_spec, ["wheel", "setuptools.command.bdist_wheel"])),
         "wheel, beside setuptools",
     )
-# Interpreters without a global lock have no limited API.
+# Up to CPython 3.14, interpreters without a global lock have no limited API.
 limited = not sysconfig.get_config_var("Py_GIL_DISABLED")
 if IS_CHECKOUT:
     for name in ["LICENSE", "NOTICE"]:

@@ -157,7 +157,7 @@ def json_object(text, answer, options, where):
 
 
 def advice_on(answer, before):
-    """The advice to quote, if an argument begins with what goes on with the one before it."""
+    """The advice to quote, if an argument begins as if it went on with the one before it."""
     goes_on = "[+*A-Za-z\x80-\U0010ffff]" if before[-1:].isdigit() else "[+*]"
     if answer.column != 1 or not re.match(goes_on, answer.found or ""):
         return ""
@@ -321,8 +321,8 @@ class Commands(Texts):
         return end_of(options).join(lines) + self.choice((b"", end_of(options)))
 
     def command(self):
-        """The options, texts and input of a command. In one command of ten the options may be
-        wrong."""
+        """The options, texts and input of a command. A command whose options are wrong is made
+        anew in nine cases of ten."""
         likely = {"to": 60, "from": 40, "round": 40, "decimals": 40, "quiet": 4, "json": 12}
         likely["pattern"] = 2
         options = {

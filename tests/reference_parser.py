@@ -50,8 +50,8 @@ STYLES = ("short", "compact", "long")
 
 PLACES = {name: place for place, unit in enumerate(UNITS) for name in unit.names.split()}
 
-# The line of a syntax fault where a unit could stand, and the most bytes that a printed duration
-# has.
+# The line of a syntax fault where a unit could stand, and the most bytes of a duration that is
+# printed in the short style.
 UNIT_LINE = 'expected ["y", "q", "mon", "w", "d", "h", "m", "s", "ms", "µs", "us", "ns"]'
 LONGEST_PRINTED = 60
 
@@ -540,8 +540,8 @@ def rounded(number, way):
 
 def bare_number(text, length, way):
     """The nanoseconds that the command `duration` reads with `--from`, if a text is a number with a
-    fraction or an exponent, of a unit with this length. Decimals after the 18th are cut off, and
-    count only if numbers are rounded up. The result is None if the duration is too long.
+    fraction or an exponent, of a unit with this length. Decimals after the 18th count only if
+    numbers are rounded up. The result is None if the duration is too long.
     """
     decimals = rounded(fractions.Fraction(text.strip(BLANKS)) * 10**18, way)
     nanos = rounded(fractions.Fraction(decimals * length, 10**18), way)
@@ -675,8 +675,8 @@ HIDDEN = re.compile(
     "[\0-\x1f\x7f-\xa0\xad\u034f\u061c\u115f\u1160\u1680\u17b4\u17b5\u180b-\u180f\u2000-\u200f\u2028-\u202f\u205f-\u206f"
     "\u2800\u3000\u3164\ufe00-\ufe0f\ufeff\uffa0\ufff0-\ufffb\U0001bca0-\U0001bca3\U0001d173-\U0001d17a\U000e0000-\U000e0fff]"
 )
-# Characters beyond ASCII that are no letters: the signs of Latin 1 except the micro sign,
-# punctuation, arrows, mathematical signs and others.
+# Characters beyond ASCII that are not taken for letters: the signs of Latin 1 except the micro
+# sign, punctuation, arrows, mathematical signs and others.
 SIGNS = re.compile("[\xa1-\xb4\xb6-\xbf\xd7\xf7\u2010-\u2bff\u3001-\u303f\uff00-\uff20]")
 ESCAPES = {'"': '\\"', "\\": "\\\\", "\t": "\\t", "\n": "\\n", "\r": "\\r"}
 

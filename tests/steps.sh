@@ -2,8 +2,8 @@
 #
 # The functions that the checks in shell share. `. tests/steps.sh NAME` sets $room, a temporary
 # folder that is removed when the script ends, and $status, which is 1 once a step has failed, and
-# with which the script exits. NAME is written before each line. A script goes on after a step that
-# failed. If the next steps need it, the script has `runs .. || exit`.
+# with which the script exits. Messages begin with NAME. A script goes on after a step that failed.
+# If the next steps need it, the script has `runs .. || exit`.
 steps=$1
 status=0
 rows=0

@@ -51,8 +51,7 @@ const COMMON = new Map([
     ...UNITS.flatMap(({ near, printed }) => near.map((word) => [word, printed])),
     ...byWord({ ms: "millisec millisecs", µs: "microsec microsecs", ns: "nanosec nanosecs" }),
 ]);
-/** Whole words for lengths in other languages. Words that are abbreviated, or that name a date or
- * an hour of the day too, are left out. */
+/** Words for lengths in other languages. */
 const FOREIGN = byWord({
     y: "年間",
     mon: "个月 か月 개월",
@@ -454,8 +453,7 @@ function sumOfTerms(text) {
 
 const BLANKS_IN_NUMBER = /^[1-9][0-9]{0,2}(?: [0-9]{3})+(?=\s*\p{L}+\.?$)/u;
 
-/** `1 000 s`, in which the blank groups digits as in SI. Two numbers next to each other mean
- * nothing else. */
+/** `1 000 s`, in which the blank groups digits as in SI. */
 function groupedByBlanks(text) {
     const grouped = text.replace(BLANKS_IN_NUMBER, (digits) => digits.replaceAll(" ", "\u202f"));
     return grouped === text ? null : sumOfTerms(grouped);

@@ -50,7 +50,7 @@ function isChoice(id, value) {
     return Array.from(lists[id].options, (one) => one.value).includes(value);
 }
 
-/** Takes a word about the units to print. Returns whether all its units exist, and any unit is then
+/** Takes a word about the units to print. Returns whether all its units exist, and one or more are
  * left to print. */
 function takeUnits(id, names) {
     const places = names.map((name) => printedNames.indexOf(name));

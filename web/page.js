@@ -172,5 +172,5 @@ if (location.hash) {
 element("needs").remove();
 document.querySelector("main").hidden = false;
 text.focus();
-// The first text that is typed or pasted replaces the example.
+// The example is selected, so that typing replaces it.
 if (!location.hash) text.select();

@@ -6,7 +6,7 @@ const [MINUTE, SECOND] = ["m", "s"].map((name) => unitOf(name).nanos);
 /** The most terms that are shown. */
 const SHOWN = 20;
 
-/** Whole digits in groups of three: `193,029`. */
+/** The digits before the point in groups of three: `193,029`. */
 export function groupDigits(digits) {
     return digits.replace(/^[0-9]+/, (whole) => whole.replace(/\B(?=([0-9]{3})+$)/g, ","));
 }

@@ -12,8 +12,8 @@
 //!   texts of the standard input.
 //! - `bench column FILE THREADS`: reads each line of a file, in threads that share the lines, and
 //!   prints the sum of the nanoseconds modulo 2^64.
-//! - `bench calls WORDS COUNT`: makes humantime's calls. The words are those of `calls.rs` after
-//!   SIDE.
+//! - `bench calls WORDS COUNT`: makes humantime's calls. The words are some of those of `calls.rs`
+//!   after SIDE.
 mod ours;
 mod texts;
 

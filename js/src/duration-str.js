@@ -220,7 +220,7 @@ export function breakdown(value, options = {}) {
     return { parts: counted, restNs: nanoseconds() };
 }
 
-/** The count as a number, which must hold it exactly. */
+/** The count as a number. It must be below 2^53. */
 function exactly(count) {
     const number = Number(count);
     if (Number.isSafeInteger(number)) return number;

@@ -1,6 +1,6 @@
-// `node durstr.js [OPTION..]` does by this package what the program durstr does, except that for a
-// refused line it writes the package's message. An option may also be `require_unit`, or a default
-// unit such as `default_unit=ms`. The status is 0 if all lines are read, and 1 if some are refused.
+// `node durstr.js [OPTION..]` writes for each line what the program durstr writes, but for a
+// refused line the package's message. An option may also be `require_unit`, or a default unit such
+// as `default_unit=ms`. The status is 0 if all lines are read, and 1 if some are refused.
 import { readFileSync, writeFileSync } from "node:fs";
 
 import { formatNs, tryParseNs } from "duration-str";

@@ -1,6 +1,6 @@
 // The function `pattern` returns the patterns of docs/duration.schema.json. They mean the same to
-// JavaScript's engine as to tests/patterns, which shows that they match exactly the texts without a
-// syntax fault.
+// JavaScript's engine as to tests/patterns, which shows that they match exactly the texts that
+// the grammar allows.
 import assert from "node:assert/strict";
 import { readFileSync } from "node:fs";
 import test from "node:test";
@@ -26,8 +26,8 @@ function* expressions(source) {
     if (Object.hasOwn(RegExp.prototype, "unicodeSets")) yield new RegExp(`^(?:${source})$`, "v");
 }
 
-/** Whether the text has no syntax fault. With zeros for all digits, it has no fault for which a
- * number counts. */
+/** Whether the grammar allows the text. With zeros for all digits, no number, term or step is too
+ * large. */
 function isSentence(text, options) {
     const { ok, fault } = tryParse(text.replace(/[0-9]/g, "0"), options);
     return ok || fault.code === "MIXED";

@@ -1,5 +1,5 @@
 """Tests that each regular expression means the same to Python's engine as to tests/patterns, which
-shows that it matches exactly the texts without a syntax fault.
+shows that it matches exactly the texts that the grammar allows.
 """
 
 import re
@@ -13,8 +13,8 @@ STRANGE = [*map(chr, range(128)), *"\x85\xa0\u2028\ufeff٣０μſK"]
 
 
 def is_sentence(text, words):
-    """Whether the text has no syntax fault. With zeros for all digits, it has no fault for which a
-    number counts.
+    """Whether the grammar allows the text. With zeros for all digits, no number, term or step is
+    too large.
     """
     try:
         duration_str.parse_ns(re.sub("[0-9]", "0", text), **words)

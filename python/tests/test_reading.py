@@ -48,7 +48,7 @@ class Place:
 
 # Texts that are no names of units: names with something before, after or within, Chinese names,
 # letters that look like a letter of a name or become one in small letters or capitals, and texts
-# without UTF-8.
+# with lone surrogates.
 NO_UNITS = ["", " ", "mins", "年", "毫秒", "1分", " ms", "ms ", "m s", "m\n", "m 0s", "1", "1ms", "0ms"]
 NO_UNITS += [
     "ms1",

@@ -210,8 +210,8 @@ static void count(struct duration_str_answer answer) {
 #define count(answer) ((void)0)
 #endif
 
-/* The default unit only affects texts that have a number without a unit, and seconds as the default
- * unit change nothing. */
+/* If a text is read without operators and with units required, each default unit gives the same
+ * answer. Seconds as the default unit change nothing. */
 static void check_default_units(struct text text, const struct duration_str_answer *answers) {
     const struct duration_str_answer required =
         answers[DURATION_STR_OPTION_NO_CALC | DURATION_STR_OPTION_REQUIRE_UNIT];

@@ -50,8 +50,8 @@ PICTURE_MARGIN = 12
 OPTIONS = reference_parser.Options._fields
 
 MEGABYTE = 1 << 20
-# Texts of 1 MiB, and their printed values, or None if they are refused. 349,525 s are 4 d 1 h 5 min
-# 25 s.
+# Texts of over a million characters, and their printed values, or None if they are refused.
+# 349,525 s are 4 d 1 h 5 min 25 s.
 LONG = [
     ("1s " * 349_525 + " ", "4d 1h 5min 25s"),
     ("1h\n" + " " * MEGABYTE, "1h"),
@@ -811,7 +811,7 @@ def emulate(page, scheme, width, height=1100, forced=False):
 
 
 def try_rules(page):
-    """Tries rules of accessibility in a page that shows everything that it can."""
+    """Tries rules of accessibility under some texts."""
     for text in ("1:30", "1h\n1h 30\n5 mins", "3m + 13s + 29ms"):
         page.open("#cn_unit&text=" + urllib.parse.quote(text))
         for what, broken in page.answer_line("asked.brokenRules()").items():

@@ -1,4 +1,4 @@
-"""Columns of NumPy and pandas. NumPy is imported only when it is used, and pandas is not."""
+"""Columns of NumPy and pandas. NumPy is imported only when it is used, and pandas never."""
 
 from __future__ import annotations
 
@@ -46,8 +46,7 @@ def _missing_in(values: Any) -> Any:
 
 def _flat(values: Any, name: str) -> list[Any]:
     """A list of the values of a sequence, or of an array of any shape. `name` is that of their
-    type. A masked value is None. If the type is not read, a stand-in takes the place of each value
-    that is not missing."""
+    type. A masked value is None. If the type is not read, the list has stand-ins."""
     import numpy
 
     pandas = sys.modules.get("pandas")
@@ -201,12 +200,12 @@ def to_timedelta(
 
     With `errors="raise"` the first text that is refused raises a
     DurationError, whose `index` is the text's position in a column. So does a
-    text or an int of 2**63 nanoseconds or more, which is some 292 years, since
-    timedelta64 can't hold it. A number that `parse_ns` refuses, except NaN,
-    raises an error of the same type. Any other value in a column, such as
-    bytes, raises DurationTypeError, even if a text before it is refused. A
-    timedelta of 2**63 nanoseconds or more raises OverflowError. With
-    `errors="coerce"` all of these become NaT.
+    text or a number whose value is 2**63 nanoseconds or more, which is some
+    292 years, since timedelta64 can't hold it. A number that `parse_ns`
+    refuses, except NaN, raises an error of the same type. Any other value in a
+    column, such as bytes, raises DurationTypeError, even if a text before it
+    is refused. A timedelta of 2**63 nanoseconds or more raises OverflowError.
+    With `errors="coerce"` all of these become NaT.
     """
     raises = raises_errors(errors)
     reading = _native.reading(

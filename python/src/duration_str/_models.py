@@ -56,7 +56,8 @@ def _print(value: Any) -> str:
 
 class _Shown(dict[str, Any]):
     """A JSON schema, to which pydantic adds a field's default last. A default that is a timedelta
-    comes in ISO 8601, or as a number of seconds. This class replaces it by the duration's text.
+    comes in ISO 8601, or as a number of seconds. This class replaces it by the duration's text,
+    if it has one.
     """
 
     def __setitem__(self, key: str, value: Any) -> None:

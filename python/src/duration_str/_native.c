@@ -1,6 +1,6 @@
 /* The calls of duration_str.h for Python. They use the limited API, so that one module serves
- * CPython from 3.11 on. Interpreters without a global lock have no such API, and turn a lock on
- * when they load the module. */
+ * CPython from 3.11 on. Up to CPython 3.14, interpreters without a global lock have no such API.
+ * They turn a lock on when they load the module, unless a user forbids it. */
 #ifndef Py_GIL_DISABLED
 #define Py_LIMITED_API 0x030b0000
 #endif
@@ -524,7 +524,7 @@ static inline int take_int(struct state *state, PyObject *value, struct duration
     int overflow;
     const long long few = PyLong_AsLongLongAndOverflow(value, &overflow);
     if (overflow < 0) {
-        /* Python refuses to print an int of more than some thousand digits. */
+        /* Python can refuse to print an int of some thousand digits. */
         PyErr_SetString(
             PyExc_ValueError, "a negative duration has no text: below -2**63 nanoseconds");
         return -1;
@@ -882,10 +882,11 @@ static int raise_first(struct state *state, const struct list *list, PyObject *r
 
 /* read_list(values, nanos, reading, raises, first, function): reads the texts in a list into a
  * buffer of zeros, and also its numbers, if `reading` allows that. Returns a list of the positions
- * of the values that it refuses. These are refused texts and numbers, and values of other types.
+ * of the values that it refuses. These are refused texts and numbers, and without a function also
+ * values of other types.
  *
  * If `raises` is true, it raises an error instead: that of the first value of another type, or, if
- * there is none, that of the first refused text. The error counts positions from `first`.
+ * there is none, that of the first refused text or number. The error counts positions from `first`.
  *
  * If `function` is not None, the buffer gets numbers of timedelta64. None, NaN and a refused text
  * become NaT, and a timedelta is kept. For any other value the function returns the number. */
@@ -928,8 +929,8 @@ PyDoc_STRVAR(parse_ns_doc,
     "                seconds, `+` and `*` are not read\n\n"
     "You can give the default unit by any of its names, except for the Chinese ones.\n"
     "If you name one, even seconds, a whole number that is not a text is read as its\n"
-    "digits would be. It is an int (also NumPy's), or a float that is whole and\n"
-    "below 2**53.\n\n"
+    "digits would be. It is an int (also NumPy's, but no bool), or a float that is\n"
+    "whole and below 2**53.\n\n"
     "Raises DurationError if the text is refused, or with a default unit the\n"
     "number, such as -1, 1.5 or 2**64. Raises DurationTypeError for any other value,\n"
     "also for NaN and for a float of 2**53 or more. Raises ValueError for an int\n"

@@ -17,9 +17,9 @@ def pattern(
 ) -> str:
     """Returns a regular expression for JSON Schema, OpenAPI and other validators
     that check a text before your program reads it. It matches exactly the
-    texts that have no wrong syntax under these options. `parse` reads such a
-    text, unless a number, a term, a step or the value is too large, or `+` and
-    `*` are mixed.
+    texts that the grammar allows under these options. `parse` reads such a
+    text, unless a number, a term, a step or the value is too large, or a sum
+    and a product are mixed.
 
     It needs no flags, begins with `^` and ends with `$`. `docs/GRAMMAR.md` in
     the repository says in which languages you can use it.

@@ -52,7 +52,7 @@ class _Unsaid(int):
 UNSAID: Any = _Unsaid(0)
 
 
-#: The units of timedelta64 that have a length in nanoseconds
+#: The units of timedelta64 that are read, each with its length in nanoseconds
 _NANOS = {"W": 604_800 * 10**9, "D": 86_400 * 10**9, "h": 3_600 * 10**9, "m": 60 * 10**9}
 _NANOS |= {"s": 10**9, "ms": 10**6, "us": 1000, "ns": 1}
 
@@ -70,7 +70,7 @@ class Cause(enum.IntEnum):
     """A term, a step of the evaluation or the value is 2**64 nanoseconds or more. In `to_timedelta`
     it is also the cause if the value is 2**63 or more."""
     MIXED = 5
-    """`+` and `*` are mixed."""
+    """A sum and a product are mixed, as in `1m 2s*3`."""
     NOT_TEXT = 7
     """The text has a lone surrogate."""
 
@@ -111,22 +111,21 @@ class DurationError(ValueError):
     """
 
     text: str
-    """The whole text that was read."""
+    """The whole text."""
     cause: Cause
     """Why the text is refused."""
     place: int | None
     """The byte at which the fault is, in UTF-8 and from 0, or None if the fault has no place."""
     pos: int | None
     """The same place in characters. For a syntax fault `text[pos:]` begins with `found`, if that is
-    not None. The column in the line is one more, since columns count from 1."""
+    not None. The column that `str(error)` names is one more, since columns count from 1."""
     expected: Expected
     """What could stand at the place of a syntax fault. For other faults no flag is set."""
     found: str | None
     """The token at the place of a syntax fault. It is None at the end of the text, and for other
     faults."""
     index: int | None
-    """The position of the text in the column that was read, or None if the text was read by
-    itself."""
+    """The position of the text in its column, or None if it is in no column."""
     report: str
     """The report for a terminal: the text, a caret below the place, and the line. If the fault is
     no syntax fault, and for some texts, it is the line alone (docs/GRAMMAR.md in the repository
