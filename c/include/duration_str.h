@@ -360,8 +360,8 @@ size_t duration_str_one_line(
  * or 0 if the text is read.
  *
  * For some texts the report is the line alone (docs/GRAMMAR.md in the
- * repository says for which). Before the caret there are as many spaces as the
- * text before the place takes columns. */
+ * repository says for which). Before the caret stands one space for each column
+ * of the text before the place. */
 DURATION_STR_NONNULL(5)
 size_t duration_str_report(
     const char *text, size_t length, uint32_t options,
