@@ -37,8 +37,9 @@
 #ifndef DURATION_STR_H
 #define DURATION_STR_H
 
-/* For LuaJIT, PHP's FFI and Python's cffi, which read declarations and nothing
- * else, `cpp -P -DDURATION_STR_DECLARATIONS_ONLY duration_str.h` prints them. */
+/* LuaJIT, PHP's FFI and Python's cffi have no preprocessor. For them
+ * `cpp -P -DDURATION_STR_DECLARATIONS_ONLY duration_str.h` prints the
+ * declarations. */
 #ifndef DURATION_STR_DECLARATIONS_ONLY
 #include <stdbool.h>
 #include <stddef.h>
