@@ -37,8 +37,9 @@
 #ifndef DURATION_STR_H
 #define DURATION_STR_H
 
-/* For LuaJIT, PHP's FFI and Python's cffi, which read declarations and nothing
- * else, `cpp -P -DDURATION_STR_DECLARATIONS_ONLY duration_str.h` prints them. */
+/* LuaJIT, PHP's FFI and Python's cffi have no preprocessor. For them
+ * `cpp -P -DDURATION_STR_DECLARATIONS_ONLY duration_str.h` prints the
+ * declarations. */
 #ifndef DURATION_STR_DECLARATIONS_ONLY
 #include <stdbool.h>
 #include <stddef.h>
@@ -360,8 +361,8 @@ size_t duration_str_one_line(
  * or 0 if the text is read.
  *
  * For some texts the report is the line alone (docs/GRAMMAR.md in the
- * repository says for which). Before the caret there are as many spaces as the
- * text before the place takes columns. */
+ * repository says for which). Before the caret stands one space for each column
+ * of the text before the place. */
 DURATION_STR_NONNULL(5)
 size_t duration_str_report(
     const char *text, size_t length, uint32_t options,

@@ -8,8 +8,8 @@
 //!
 //! This module also reads the names of units that only humantime has: `M` is a month, and `secs`,
 //! `mins`, `hrs`, `millis` and `nanos` are units, and so are `yr`, `yrs`, `wk` and `wks` of
-//! humantime 2.4. Capitals and small letters differ. Other calls of this crate refuse these names,
-//! or read `1M` as a minute.
+//! humantime 2.4. Capitals and small letters differ. The rest of this crate, except for the module
+//! `humantime_serde`, refuses these names, or reads `1M` as a minute.
 //!
 //! This module prints what humantime prints, such as `1day 2h 3m`.
 //!

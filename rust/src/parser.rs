@@ -36,9 +36,9 @@ pub(crate) const FEATURES: Options = Options {
 };
 
 /// The options of [`parse_duration`], to which some calls that `duration-str` 0.19.0 does not have
-/// add others. Only the feature `cn_unit`, which adds names, affects these calls. The other
-/// features take something away. If they affected these calls, a crate that turns one on could
-/// break what the other crates of the program read.
+/// add others. The feature `cn_unit`, which adds names, affects these calls. The features `no_calc`
+/// and `lowercase` take something away. If they affected these calls, a crate that turns one on
+/// could break what the other crates of the program read.
 pub(crate) const ADDITIONS: Options = Options {
     cn_unit: FEATURES.cn_unit,
     ..Options::off()

@@ -130,7 +130,7 @@ fn refuses_maps_that_are_no_numbers() {
         let line = of_text(json).unwrap_err().to_string();
         assert!(line.starts_with(&map), "{json}: {line}");
     }
-    // An integer of 64 bits doesn't come as such a map, but would keep its digits.
+    // An integer of 64 bits doesn't come as such a map. If it did, it would keep its digits.
     let json = r#"{ "$serde_json::private::Number": "18446744073709551615" }"#;
     let line = of_text(json).unwrap_err().to_string();
     let start = "invalid value: integer `18446744073709551615`, expected ";

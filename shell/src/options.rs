@@ -80,7 +80,7 @@ pub struct Choices {
     /// Print nothing; the status says whether all texts were read
     #[arg(short, long)]
     pub quiet: bool,
-    /// End lines with NUL instead of a line feed
+    /// End lines with NUL instead of a line feed, except JSON objects
     #[arg(short, long)]
     pub zero_terminated: bool,
     /// Don't read capitals as small letters, so that 1M is refused

@@ -20,7 +20,7 @@ impl Refusal {
         }
     }
 
-    /// The first character of the text, if it is what can't stand there.
+    /// The first character of the text, if the syntax fault is there.
     pub fn first(&self) -> Option<char> {
         let found = self.found.as_ref().filter(|_| self.place == Some(0))?;
         found.chars().next()

@@ -184,9 +184,9 @@ Reorder =
     ≡ times_in n (map value_of_term (written_terms r others)))
     → IsRead r a nanos → IsRead r b nanos
 
--- A text of two terms joined by `*` is read exactly if both numbers, both terms and their product
--- are below 2^64, and it is read as that product. The product is that of the terms in seconds,
--- rounded down to nanoseconds. If the terms are exchanged, the text is read as the same value.
+-- A sentence of two terms joined by `*` is read exactly if both numbers, both terms and their
+-- product are below 2^64, and it is read as that product. The product is that of the terms in
+-- seconds, rounded down to nanoseconds. If the terms are exchanged, it is read as the same value.
 pub record TwoFactors : Type 0 where
   pub product : (r : Rules) (text : Characters) (lexemes : List Characters) (t u : Term) (nanos : ℕ)
       → IsSentenceOf r lexemes text → written_terms r lexemes ≡ t ∷ u ∷ [] → u.operator ≡ Star
@@ -210,14 +210,14 @@ counts_of (l ∷ lengths) nanos = nanos / l ∷ counts_of lengths (nanos % l)
 abbrev pub GreatestBreakdown : Type 0
 GreatestBreakdown = (nanos : ℕ) → IsGreatestBreakdown unit_lengths nanos (counts_of unit_lengths nanos)
 
--- Two durations print the same text in a style exactly if they are equal.
+-- Printed in full and in one style, two durations have the same text exactly if they are equal.
 abbrev pub EqualTexts : Type 0
 EqualTexts = (style : Style) (m n : ℕ) (a b : Characters) → FitsDuration m → FitsDuration n
     → IsPrintedIn style m a → IsPrintedIn style n b → (a ≡ b ↔ m ≡ n)
 
--- By the library's own table, a duration below 2^64 ns, printed in any style, is read back as
--- itself. The text of any other duration is refused as an overflow, from 585 years on in its first
--- term.
+-- By the library's own table, a duration below 2^64 ns that is printed in full, in any style, is
+-- read back as itself. The text of any other duration is refused as an overflow, from 585 years on
+-- in its first term.
 pub record ReadsBack : Type 0 where
   pub below : (default_unit : Option TimeUnit) (o : Options) (style : Style) (nanos : ℕ) (text : Characters)
       → nanos < 2 ^ 64

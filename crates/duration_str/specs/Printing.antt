@@ -76,7 +76,7 @@ joined_parts style u (part ∷ parts) = part ++ flat_map (λ p. between style ++
 abbrev pub printed_counts : Style → List ℕ → Characters
 printed_counts style counts = joined_parts style Second (printed_parts style units counts)
 
--- A duration of `nanos` nanoseconds prints in this style as this text.
+-- A duration of `nanos` nanoseconds prints in full and in this style as this text.
 abbrev pub IsPrintedIn : Style → ℕ → Characters → Type 0
 IsPrintedIn style nanos text =
     (counts : List ℕ) × IsGreatestBreakdown unit_lengths nanos counts × (text ≡ printed_counts style counts)

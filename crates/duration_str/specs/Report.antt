@@ -21,8 +21,8 @@ is_wide c = nat_le 0x2E80 c
 abbrev pub columns_of : Characters → ℕ
 columns_of text = length text + count_by is_wide text
 
--- the bytes of the report, given the bytes of the text that was read. The report is the line. For a
--- syntax fault in a text that can stand above a caret, the text and the caret are above the line
+-- the bytes of the report, given the bytes of the text that was read: the line, and for a syntax
+-- fault in a text that can stand above a caret, the text and the caret above the line
 abbrev pub report_of : Bytes → Cause → Bytes
 report_of text (Syntax place expected) =
     let line = one_line_of text (Syntax place expected) in

@@ -64,9 +64,9 @@ pub fn reorder()
     ensures { Reorder }
 {}
 
-/// A product of two terms is accepted exactly if both numbers, both terms and the product, rounded
-/// down to nanoseconds, are below 2^64. If its terms are exchanged, it is accepted too, and has the
-/// same value. So `1m*10ms` and `10ms*1m` are both 600 milliseconds.
+/// Unless `no_calc` is on, a product of two terms is accepted exactly if both numbers, both terms
+/// and the product, rounded down to nanoseconds, are below 2^64. If its terms are exchanged, it is
+/// accepted too, and has the same value. So `1m*10ms` and `10ms*1m` are both 600 milliseconds.
 #[tactic(auto, using(crate::proofs::LawProofs::TwoFactors::two_factors_hold))]
 pub fn two_factors()
     ensures { TwoFactors }

@@ -143,8 +143,8 @@ pub(crate) fn put_number(buffer: &mut [u8], at: usize, n: u64) -> usize
 }
 
 /// Writes a number of one or two digits. A single digit is written over a `0` that was written to
-/// its place, so that no branch on the number of digits is needed. (Such a branch can't be
-/// predicted.)
+/// its place, so that no branch on the number of digits is needed. (Such a branch is hard to
+/// predict.)
 #[inline(always)]
 #[tactic(auto, using(crate::proofs::Printer::DigitLemmas::put_steps))]
 fn put_tens(buffer: &mut [u8], at: usize, n: u64) -> usize
@@ -334,8 +334,8 @@ fn put_parts(
 }
 
 /// Writes a part and a space after it. If the count is 0, it returns `at`, so that the next part is
-/// written over this one. A part with the count 0 is written too, since a processor can't predict a
-/// branch that skips it.
+/// written over this one. A part with the count 0 is written too, since a branch that skips it is
+/// hard to predict.
 #[inline(always)]
 fn put_spaced(buffer: &mut [u8], at: usize, count: u32, unit: TimeUnit) -> usize
     requires short { count < 1000 }

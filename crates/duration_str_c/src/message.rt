@@ -36,8 +36,8 @@ pub fn duration_str_one_line(
     }
 }
 
-/// Does what `duration_str_one_line` does, but writes the report. The report is the line. For a
-/// syntax fault in a text that can stand above a caret, the text and the caret are above the line.
+/// Does what `duration_str_one_line` does, but writes the report: the line, and for a syntax fault
+/// in a text that can stand above a caret, the text and the caret above the line.
 pub fn duration_str_report(
     text: &[u8],
     options: u32,

@@ -189,7 +189,8 @@ fn leaves_rest(row: &Value, length: Duration, format: Format) -> bool {
 }
 
 /// Whether the text of a row is read as a duration that prints, in two styles, and breaks down as
-/// the row says. It is also true for a text that is refused, such as one of more than 584 years.
+/// the row says. It is also true for a text that is refused, such as one of 2^64 nanoseconds or
+/// more.
 fn prints_in_format(row: &Value, format: Format) -> bool {
     let Ok(length) = parse(text_at(row, 0)) else {
         return true;

@@ -108,8 +108,8 @@ fn chars_before(text: &str, place: usize) -> usize {
         .count()
 }
 
-/// Whether the fault prints its message. If the text has several lines, this is the byte and the
-/// last line.
+/// Whether the fault prints its message. If the text has a line feed, and the fault a place, this
+/// is the byte and the last line.
 fn prints_message(alloc: Global, fault: Fault<'_>) -> Result<bool, AllocError> {
     let line = message_line(fault.cause());
     match fault.cause().place() {

@@ -37,8 +37,8 @@ record IsEnding (r : Rules) (front : List Terminal) : Type 0 where
 
 module _ (one : OneSentence) (cut : OneCut) (law : PlaceAndKinds) (r : Rules) (u : TimeUnit) (named : NamesUnit r u)
   where
-    -- A sentence that begins with these terminals is completed by nothing after a word, by `s`
-    -- after a number, and by `0 s` after an operator.
+    -- Terminals that begin a sentence are completed by `s` after a number, and by `0 s` after an
+    -- operator. After a word they are a sentence already.
     ending_after : (front : List Terminal) (t : Terminal) (expected : Expected) → BeginsSentence r
         (front ++ t ∷ [])
         → IsTrue (allows expected t) → IsEnding r (front ++ t ∷ [])

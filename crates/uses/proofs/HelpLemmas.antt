@@ -1,5 +1,5 @@
 -- The computed answer to a text is the text's only answer, and a word that is near a name is
--- replaced by it.
+-- replaced by that name.
 use Rattle.std.proofs.Common.{encode_utf8_all, List, Result, Some, sym, ℕ, ◌∙◌, ◌≡◌}
 use Rattle.duration_str.specs.Laws.{NearWords}
 use Rattle.duration_str.specs.OneLine.{near_name}

@@ -38,10 +38,10 @@ impl Part {
 
 ghost use Rattle.uses.specs.Product.{MultipliesInEitherOrder};
 
-/// Returns the product of the two parts. Each text that multiplies them, in either order, is read
-/// as this duration, by all rules that read operators, with whatever default unit. The result is
-/// `None` if no such text is accepted. So a program can test for an overflow before it makes the
-/// text.
+/// Returns the product of the two parts. By the library's own units, and if operators are read,
+/// each text that multiplies them, in either order, is read as this duration, with whatever default
+/// unit. The result is `None` if no such text is accepted. So a program can test for an overflow
+/// before it makes the text.
 ///
 /// ```text
 /// let rate = Part { number: 10, unit: TimeUnit::MilliSecond };

@@ -186,8 +186,8 @@ impl fmt::Display for UnknownUnit {
 impl Error for UnknownUnit {}
 
 impl<'a> Fault<'a> {
-    /// Makes the fault of a text that is refused for a cause. Returns `None` if the cause's place
-    /// is neither at a character of the text nor at its end.
+    /// Makes the fault of a text that is refused for a cause. Returns `None` if the cause has a
+    /// place that is neither the start of a character of the text nor the text's end.
     ///
     /// ```
     /// use duration_str_core::{Cause, Fault};

@@ -15,8 +15,8 @@ struct Settings<T> {
     keep_alive: Option<T>,
 }
 
-/// Reads settings from this value and from its text, checks that both give the same, and returns
-/// it.
+/// Reads settings from this value and from its text, checks that the answers agree, and returns
+/// that for the value.
 fn settings<T>(value: Value) -> Result<Settings<T>, String>
 where
     T: for<'de> DeserializeDuration<'de> + Debug + PartialEq,

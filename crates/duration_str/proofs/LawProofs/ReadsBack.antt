@@ -1,4 +1,4 @@
--- The text of a duration below 2^64 nanoseconds is read back as that duration, and the text of any
+-- Printed in full, a duration below 2^64 nanoseconds is read back as itself, and the text of any
 -- other overflows.
 use Rattle.duration_str.proofs.Common.{[], arith, counts_of, drop, early, early_fault, eqb-true, false, false_from_ne_true, FitsDuration, IsPrintedIn, IsRead, IsRefused, le-ltb, List, lt-ltb, map, nanos_of, None, nonzero, number, Option, Options, Overflow, Plus, ReadsBack, refl, rules, rules_with, Some, Style, sum_of, sym, Terminal, terminal_of, terms_of, TimeUnit, unit_lengths, units, word, written_terms, Year, ℕ, ◌*◌, ◌+◌, ◌/◌, ◌<◌, ◌==◌, ◌^◌, ◌∙◌, ◌∷◌, ◌≡◌, ◌≤◌}
 use Rattle.duration_str.proofs.Sentences.AnswerLemmas.{EachFits, sentence_refused, sum_fits_each, sum_overflows, sum_read}

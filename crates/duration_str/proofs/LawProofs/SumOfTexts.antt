@@ -1,5 +1,5 @@
--- Two accepted texts without `*`, joined by a plus, have the sum of their values, or are refused as
--- an overflow.
+-- If `no_calc` is off, two accepted texts without `*`, joined by a plus, have the sum of their
+-- values, or are refused as an overflow.
 use Rattle.duration_str.proofs.Common.{[], AllPlus, and_from, append_assoc, arith, cases_Bool, codes, CondUnit, false, HasNoStar, inl, inr, IsBlank, IsRead, IsSentence, List, list_all-append, map, map-append, nat_tests, not, number, operator, Plus, refl, Rules, rules, Some, Spells, sum_of, SumOfTexts, Term, Terminal, terminal_of, terms_after, terms_of, word, written_terms, ℕ, ◌++◌, ◌+◌, ◌==◌, ◌∙◌, ◌∷◌, ◌≡◌, common_steps}
 use Rattle.duration_str.proofs.Cutting.SortLemmas.{terminal_cases}
 use Rattle.duration_str.proofs.Sentences.SpellingLemmas.{begins_with, EachPasses, lexemes_pass}

@@ -1,5 +1,5 @@
--- A product of two terms is accepted exactly if both numbers, both terms and their product are
--- below 2^64, also with the terms exchanged.
+-- A sentence that multiplies two terms is accepted exactly if both numbers, both terms and their
+-- product are below 2^64, also with the terms exchanged.
 use Rattle.duration_str.proofs.Common.{[], arith, IsRead, IsSentenceOf, List, mul-div_cancel, mul_comm, refl, Rules, one_second, Some, Star, Term, TwoFactors, value_of, value_of_term, written_terms, ℕ, ◌*◌, ◌/◌, ◌<◌, ◌^◌, ◌↔◌, ◌∷◌, ◌≡◌}
 use Rattle.duration_str.proofs.Sentences.SumLemmas.{no_fault}
 use Rattle.duration_str.proofs.Sentences.AnswerLemmas.{read_sentence}

@@ -1,4 +1,4 @@
--- A printed text is spelled by a sum whose total is the duration.
+-- A text that is printed in full is spelled by a sum whose total is the duration.
 use Rattle.duration_str.proofs.Common.{[], AllPlus, append-nil, ap₂, arith, between, Bool, cases_Bool, common_steps, counts_of, decimal, drop, eqb-true, FitsDuration, flat_map, inl, inr, IsBlank, IsPrintedIn, IsSentence, joined_parts, List, map, name_in, nanos_of, nonzero, number, Option, Options, printed_counts, printed_part, refl, Rules, rules, rules_with, Second, Some, Spells, Style, sum_of, Terminal, terminal_of, terms_of, TimeUnit, unit_lengths, units, weighted_sum, word, written_terms, Year, ℕ, ⊤, ◌%◌, ◌++◌, ◌<◌, ◌==◌, ◌^◌, ◌∷◌, ◌≡◌}
 use Rattle.duration_str.proofs.Characters.NumberLemmas.{decimal_terminal}
 use Rattle.duration_str.proofs.LawProofs.GreatestBreakdown.{greatest_breakdown_holds, one_greatest}

@@ -68,7 +68,7 @@ trimmed bytes = take (length bytes - suffix_len is_ascii_whitespace bytes) bytes
 abbrev pub is_megabyte : Bytes → Bool
 is_megabyte word = is_among small_words (map to_ascii_lowercase word) && not (is_among small_words word)
 
--- whether a word is the word in a row of the table, which is filled up with spaces, if ASCII
+-- whether a word is that in a row of the table, without the spaces at the row's end, if ASCII
 -- capitals are read as small letters
 abbrev pub is_near : Bytes → Bytes → Bool
 is_near near word = bytes_eq (map to_ascii_lowercase word) (map to_ascii_lowercase (trimmed near))
