@@ -155,7 +155,7 @@ enum duration_str_cause {
     /* a term, a step of the evaluation or the value is 2^64 nanoseconds or
      * more */
     DURATION_STR_CAUSE_OVERFLOW = 4,
-    /* `+` and `*` are mixed */
+    /* a sum and a product are mixed */
     DURATION_STR_CAUSE_MIXED = 5,
     /* the bytes are not UTF-8 */
     DURATION_STR_CAUSE_NOT_TEXT = 7,

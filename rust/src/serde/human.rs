@@ -9,7 +9,7 @@
 //!   that don't store the types of their values, such as bincode, are read too.
 //!   [`human_or_seconds`](crate::human_or_seconds) and
 //!   [`human_or_millis`](crate::human_or_millis) also read numbers.
-//! - The empty text is refused.
+//! - The empty text is refused, except if the format takes it for null, such as csv in an `Option`.
 //! - In a format that has null, `None` is null. With `#[serde(default)]` a missing field is `None`
 //!   too.
 //! - If a text is refused, the error's message is `invalid duration: ` and the line of the fault, to
