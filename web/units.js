@@ -3,8 +3,8 @@
 import { UNITS as LISTED } from "./lists.js";
 import { formatNs, parseNs } from "../js/dist/duration-str.js";
 
-/** A text with more UTF-16 units than this is marked in an excerpt instead of the input, and the
- * link doesn't contain it. */
+/** A text with more UTF-16 units than this is marked in an excerpt instead of the input, and isn't
+ * written into the link. */
 export const LONG = 2_000;
 
 /** The units of the list, also with their lengths in nanoseconds and in words, and with their

@@ -192,7 +192,7 @@ fn peer(printing: &str) {
     );
 }
 
-/// Reads the lines of a file in threads, and prints the sum of their nanoseconds.
+/// Reads the lines of a file in threads, and prints the sum of their nanoseconds modulo 2^64.
 fn column(file: &str, threads: usize) {
     let lines = std::fs::read_to_string(file).expect("a file of texts");
     let mut rest = lines.as_str();

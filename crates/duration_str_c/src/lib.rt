@@ -64,8 +64,8 @@ pub(crate) fn are_options(bits: u32) -> bool
             || number as usize <= UNITS.len() && bits & NO_CALC != 0 && bits & REQUIRE_UNIT == 0)
 }
 
-/// The default unit. There is none if the bit that requires a unit is set. It is the second if the
-/// bits hold no unit.
+/// The default unit. There is none if the bit that requires a unit is set. Otherwise it is the
+/// second if the bits hold no unit.
 fn default_unit_of_bits(bits: u32) -> Option<TimeUnit>
     ensures { result ≡ default_unit_of_bits bits }
 {

@@ -79,8 +79,8 @@ def _lengths(values: Any) -> Any:
 
 
 def _like(values: Any, result: Any) -> Any:
-    """Turns a flat array of results into the type that the values have: a Series, an Index, or an
-    array of their shape."""
+    """Turns a flat array of results into a Series or an Index like the values, or otherwise into an
+    array, which has their shape if they have one."""
     pandas = sys.modules.get("pandas")
     if pandas is not None and isinstance(values, pandas.Series):
         return pandas.Series(result, index=values.index, name=values.name)

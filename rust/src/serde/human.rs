@@ -180,7 +180,8 @@ const fn unit_of_numbers(how: u8) -> Option<TimeUnit> {
 /// comes as a map from this key to the number's text.
 const NUMBER_KEY: &str = "$serde_json::private::Number";
 
-/// The text of such a number, or `None` for any other map, even if something is wrong in it.
+/// The text beside this key, or `None` for a map with another key or with more than one, and for a
+/// map that can't be read.
 fn text_of_number<'de, A: MapAccess<'de>>(mut map: A) -> Option<String> {
     if map.next_key::<String>().ok()?? != NUMBER_KEY {
         return None;
