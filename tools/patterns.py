@@ -1,8 +1,8 @@
 """Makes the regular expressions of the sentences of docs/GRAMMAR.md from the table of units.
 
-They need no flags, and use only what ECMA 262, RE2, PCRE, Python, Perl and Java have in common. At
-each character only one way to go on fits, so an engine that goes back after a mismatch takes no
-more steps than some multiple of the text's length.
+They need no flags, except PCRE's flag for UTF-8. They use only what ECMA 262, RE2, PCRE, Python,
+Perl and Java have in common. At each character only one way to go on fits, so an engine that goes
+back after a mismatch takes no more steps than some multiple of the text's length.
 """
 import units
 
