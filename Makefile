@@ -162,8 +162,9 @@ installed = $(addprefix $(bindir)/,durstr duration) $(addprefix $(mandir)/man1/,
 
 # `put FROM TO` installs a file as TO, and `put_program FROM TO` a program. `put_text TO` installs
 # its input, since without /proc there is no /dev/stdin. $$said has the output of `install`. It
-# names the folders that were made, which $(folders) keeps for uninstalling. At the end $(owned)
-# gives what root has built to the owner of the checkout, who could otherwise not build here again.
+# names the folders that were made, which $(folders) keeps for uninstalling, except below DESTDIR.
+# At the end $(owned) gives what root has built to the owner of the checkout, who could otherwise
+# not build here again.
 owned = [ -O . ] || [ ! -e out ] || [ "$$(id -u)" != 0 ] || chown -hR --reference=. out
 put = said=$$(mktemp) && trap 'rm -f "$$said"*; $(owned)' EXIT; \
     put() { LC_ALL=C $(INSTALL_DATA) -v -D "$$1" "$$DESTDIR$$2" >>"$$said"; }; \
@@ -205,6 +206,10 @@ installable:
 	done
 	case "$(target)" in wasm*)
 	    echo 'install: WebAssembly modules are not installed' >&2
+	    exit 1
+	    ;;
+	*-none | *-none-*)
+	    echo 'install: needs an operating system; make library makes an archive for $(target)' >&2
 	    exit 1
 	    ;;
 	esac
