@@ -3,11 +3,11 @@
 - A link leads to a file or folder of the repository, and to a heading if it names one. Links to
   other hosts are not followed. A path in backquotes exists. A name in backquotes occurs in a
   source, except in CHANGELOG and MIGRATING.
-- What is proved stands in docs/PROMISES.md. Each promise there names the contract, law or test that
-  shows it, and has a hardest case: a text with its answer, or the name of a test, a row or a wrong
-  body. The section of README.md has only sentences of that page. The documents of the packages have
-  one sentence that leads there, and no other about proofs. Those about texts, other programs and
-  speed have none.
+- What is proved stands in docs/PROMISES.md. Each promise there says what shows it, such as a
+  contract, a law or a test, and has a hardest case: a text with its answer, or the name of a test,
+  a row or a wrong body. The section of README.md has only sentences of that page. The documents of
+  the packages have one sentence that leads there, and no other about proofs. Those about texts,
+  other programs and speed have none.
 - Each help in docs/GRAMMAR.md ends a line of the vectors. In tables of README.md, GRAMMAR.md and
   MIGRATING.md each text is answered as the reference parser answers it, and each duration printed
   as it prints it. The same holds of the hardest cases. (tests/peers asks other libraries, and the

@@ -1,9 +1,9 @@
 # shellcheck shell=bash disable=SC2034 # the scripts read what is set here
 #
 # The functions that the checks in shell share. `. tests/steps.sh NAME` sets $room, a temporary
-# folder that is removed when the script ends, and $status, which is 1 once a step has failed, and
-# with which the script exits. Messages begin with NAME. A script goes on after a step that failed.
-# If the next steps need it, the script has `runs .. || exit`.
+# folder that is removed when the script ends, and $status, which is 1 once one of the steps below
+# has failed. Most scripts end with `exit "$status"`. Messages begin with NAME. A script goes on
+# after a step that failed. If the next steps need it, the script has `runs .. || exit`.
 steps=$1
 status=0
 rows=0

@@ -6,8 +6,8 @@
 //! - `bench times`: prints the nanoseconds of a call over the expressions, in a line with WHAT,
 //!   OURS and THEIRS for reading and for each way to print. In all such lines tabs separate the
 //!   words.
-//! - `bench styles`: prints the nanoseconds that printing takes in formats, in a line with WHAT, the
-//!   figure for values below a day, and the figure for all values.
+//! - `bench styles`: prints a line for each of some formats: its name, and the nanoseconds that
+//!   printing takes for values below a day and for all values.
 //! - `bench peer human_format` or `to_string`: prints the figures that `bench/peers` needs, for the
 //!   texts of the standard input.
 //! - `bench column FILE THREADS`: reads each line of a file, in threads that share the lines, and

@@ -381,7 +381,8 @@ def try_units(page):
 
 
 def shows(page, what, code):
-    """Checks that the page shows this code, by the name of its language, or none."""
+    """Checks that the page shows this code, which is listed by its language, or no code in a
+    language for which None is listed."""
     for name, part in code.items():
         text = page.text_of(name)
         is_so = text is None if part is None else part in (text or "")
