@@ -2,7 +2,7 @@
 
 - A link leads to a file or folder of the repository, and to a heading if it names one. Links to
   other hosts are not followed. A path in backquotes exists. A name in backquotes occurs in a
-  source, except in CHANGELOG and MIGRATING.
+  source, except in CHANGELOG and MIGRATING. If a path is named with it, it occurs there.
 - What is proved stands in docs/PROMISES.md. Each promise there says what shows it, such as a
   contract, a law or a test, and has a hardest case: a text with its answer, or the name of a test,
   a row or a wrong body. The section of README.md has only sentences of that page. The documents of
@@ -72,11 +72,27 @@ def wrong_links(name):
             yield f"{name}: leads nowhere: {target}"
 
 
-def wrong_paths(name, folders):
+def named_path(name, path):
+    """The path that a document names, from the top, from its folder or in the library's crate."""
     near = (ROOT, (ROOT / name).parent, CRATE)
+    return next((folder / path for folder in near if (folder / path).exists()), None)
+
+
+def wrong_paths(name, folders):
     for path in re.findall(rf"`((?:{'|'.join(folders)})/[\w./-]*)`", prose(name)):
-        if not any((folder / path).exists() for folder in near):
+        if not named_path(name, path):
             yield f"{name}: names a path that is not there: {path}"
+
+
+def names_elsewhere(name):
+    """The names that a document has in the form "`name` in `path`", and that are not there."""
+    placed = re.findall(r"((?:`\w+`,? )+)in `([\w./-]+)`", " ".join(prose(name).split()))
+    for names, path in placed:
+        if place := named_path(name, path):
+            files = [file for file in (place, *place.glob("**/*")) if file.is_file()]
+            words = re.findall(r"\w+", " ".join(file.read_text(encoding="utf-8") for file in files))
+            for each in set(re.findall(r"\w+", names)) - set(words):
+                yield f"{name}: names {each} in {path}, which does not have it"
 
 
 def code_in_prose(name):
@@ -396,6 +412,7 @@ def problems():
     for name in tracked_files("*.md"):
         yield from wrong_links(name)
         yield from wrong_paths(name, folders)
+        yield from names_elsewhere(name)
     yield from code_in_prose("docs/MIGRATING.md")
     for each in (
         wrong_promises,
