@@ -12,7 +12,6 @@ struct Requests {
 }
 
 impl Requests {
-    /// Counts a request, and returns whether it is the one that is refused.
     fn refuse_next(&self) -> bool {
         self.made.set(self.made.get().wrapping_add(1));
         self.made.get() == self.refused

@@ -64,14 +64,12 @@ pub fn keeps_value_without_humantime(text: &str, o: Options) -> bool
     }
 }
 
-/// Whether each character means the same under both choices of options.
 fn are_unaffected(text: &str, before: Options, after: Options) -> bool
     ensures { result ≡ list_all (is_unaffected before after) (chars text.now) }
 {
     text.chars().all(|c| is_unaffected(c, before, after))
 }
 
-/// Whether a character means the same under both choices of options.
 fn is_unaffected(c: char, before: Options, after: Options) -> bool
     ensures { result ≡ is_unaffected before after c }
 {
@@ -80,7 +78,6 @@ fn is_unaffected(c: char, before: Options, after: Options) -> bool
         && (before.cn_unit == after.cn_unit || !is_chinese(c))
 }
 
-/// Whether a character is a letter of the Chinese names of units.
 fn is_chinese(c: char) -> bool
     ensures { result ≡ is_chinese c }
 {

@@ -1,4 +1,3 @@
-// Runs with readers and writers in memory.
 ghost use Rattle.std.specs.Prelude.{◌≤◌};
 
 use super::run;
