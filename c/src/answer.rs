@@ -35,20 +35,20 @@ pub struct Answer {
     pub nanos: u64,
     /// The byte offset of the fault, if it has a place.
     pub place: usize,
-    /// For a syntax fault: the length in bytes of the token at the place, or 0 at the end of the
+    /// The length in bytes of the token at the place of a syntax fault. It is 0 at the end of the
     /// text.
     pub found_length: usize,
     /// 0 if the text is read. Otherwise it is the number of the cause, from 1 for `Empty` to 7 for
     /// `NotText`, or 8 if the bits are not options.
     pub cause: u32,
-    /// For a syntax fault: what could stand at the place, as bits. 1 is a number, 2 a unit, 4 an
+    /// What could stand at the place of a syntax fault, as bits: 1 is a number, 2 a unit, 4 an
     /// operator, and 8 the end.
     pub expected: u32,
     /// 1 if the fault has a place, otherwise 0.
     pub has_place: u8,
-    /// For mixed operators: the operator that came first, as its character.
+    /// If operators are mixed, the character of the one that came first.
     pub first_operator: u8,
-    /// For mixed operators: the operator that came later, as its character.
+    /// If operators are mixed, the character of the one that came later.
     pub later_operator: u8,
 }
 

@@ -122,8 +122,8 @@ refusal_answer cause found_length = record {
   later_operator = later_sign cause;
 }
 
--- The answer says that the bytes are refused for this cause. If the cause has a place, it is a
--- character boundary.
+-- The answer says that the bytes are refused for this cause. The cause's place, if there is one, is
+-- a character boundary.
 abbrev pub TellsFault : Options → List ℕ → Cause → Answer → Type 0
 TellsFault o bytes cause answer =
     (answer ≡ refusal_answer cause (token_length (found_token o (chars bytes) cause)))

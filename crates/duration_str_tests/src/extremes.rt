@@ -237,9 +237,9 @@ fn run_into(heap: &Refusing<Global>, mut room: &mut [u8]) -> Result<bool, RunFau
 
 static WRITTEN: [u8; 49] = *b"211000000000 3min 31s\nEmpty input\noverflow error\n";
 
-/// How many requests for memory that run makes if this request is refused. The result is `None` if
-/// it writes something else, if it goes on after the refusal, or if it has written something before
-/// it.
+/// How many requests for memory `run_into` makes if this request is refused. The result is `None`
+/// if it writes something else, if it goes on after the refusal, or if it has written something
+/// before it.
 fn requests(alloc: Global, refused: u64) -> Option<u64> {
     let heap = Refusing::nth(alloc, refused);
     let mut held = [0; 49];
@@ -252,8 +252,7 @@ fn requests(alloc: Global, refused: u64) -> Option<u64> {
     is_right.then_some(heap.made())
 }
 
-/// The run makes six requests: for an input of 8 and of 16 bytes, and for an output of 12, 24, 48
-/// and 96.
+/// The run makes six requests.
 #[test]
 fn fails_wherever_a_request_is_refused(rt: HostRuntime) {
     for refused in 1..=7u64 {

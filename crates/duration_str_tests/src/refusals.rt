@@ -22,7 +22,7 @@ fn is_refused(text: &str, fault: Fault<'_>) -> bool {
         && is_fault(parse_time(text), fault)
 }
 
-/// Returns `None` if one of the calls reads the text, or refuses it with another fault.
+/// Returns `None` if a call reads the text, or refuses it with another fault.
 fn refusal(text: &str, o: Options, cause: Cause) -> Option<Fault<'_>> {
     let fault = parse_with(text, o).err()?;
     let is_caused = fault.text() == text && fault.cause() == cause;
@@ -55,7 +55,7 @@ pub fn names_token(text: &str, o: Options, cause: Cause, token: &str) -> bool {
     }
 }
 
-/// If the cause has a place, the fault prints the text, a caret after this many blanks, and the
+/// If the cause has a place, the fault must print the text, a caret after this many blanks, and the
 /// line.
 pub fn is_caused(
     alloc: Global,

@@ -14,7 +14,6 @@ pub record IsSplit (o : Options) (at end : ℕ) (text : List ℕ) (tokens : List
   pub are : AreTokens o at front (take n tokens)
 
 module _ (o : Options) where
-
   ends_at_blank : (cs rest more : List ℕ) → EndsRun o cs rest → EndsRun o cs (rest ++ 32 ∷ more)
   ends_at_blank [] rest more h = tt
   ends_at_blank (c ∷ cs) [] more h = false_from_ne_true _ (λ run. cc (run-not_blank o c 32 run))

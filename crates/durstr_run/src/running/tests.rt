@@ -136,7 +136,7 @@ impl Write for Sink {
 }
 
 /// Whether a run with all options off ends with this answer, has written this text, and has flushed
-/// it if no call failed. After a call failed, the run may make no other.
+/// it once if the answer is no error. After a call failed, the run may make no other.
 fn ends(
     alloc: Global,
     mut source: Source<'_>,
