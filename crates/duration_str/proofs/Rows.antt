@@ -332,7 +332,7 @@ pub record LimitedTexts : Type 0 where
   pub years_and_milliseconds-long : limited (record (only (Year ∷ MilliSecond ∷ [])) { style = Long })
       31_536_000_001_000_000 ≡ codes "1 year 1 millisecond"
   pub none : limited (only []) 34_560_000_000_000_000 ≡ codes "0s"
-  -- ---- No choice brings a unit back
+  -- ---- Sets of units, and their bits
   pub taken_out : intersection (without_unit Week ALL) (set_of (Week ∷ Day ∷ [])) ≡ set_of (Day ∷ [])
   pub number_of_all : set_of units ≡ ALL
   pub number_of_year : set_of (Year ∷ []) ≡ record { bits = 1 }

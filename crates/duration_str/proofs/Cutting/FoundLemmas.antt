@@ -1,4 +1,4 @@
--- The token at a place is found by cutting the text from a character before the place.
+-- Lemmas about finding the token at a place without cutting the whole text.
 use Rattle.duration_str.proofs.Common.{[], add-zero, add_assoc, ap, arith, Bor, byte_len, cases_Bool, chars, chars-append, common_steps, drop, drop-drop, false, goes_on, IsCharBoundary, IsSliceOf, IsUtf8, IsUtf8-take, length-take-le, List, map, nat_tests, None, Option, option_map, Options, refl, rules, rules_of, Some, sym, take, take-append-drop, Token, token_at, tokens_from, tokens_of, true, width, with_first_character, ℕ, ◌++◌, ◌+◌, ◌-◌, ◌<◌, ◌==◌, ◌∙◌, ◌∷◌, ◌≡◌, ◌≤◌}
 use Rattle.duration_str.proofs.Characters.CharacterLemmas.{run-not_blank, width_some}
 use Rattle.duration_str.proofs.OnePass.PlaceLemmas.{byte_count}

@@ -3,7 +3,7 @@ use Rattle.duration_str.proofs.Characters.UnitLemmas.{named_passes}
 use Rattle.duration_str.proofs.Sentences.SpellingLemmas.{EachPasses, lexemes_pass, tokens_spell}
 use Rattle.duration_str.proofs.Sentences.AnswerLemmas.{answer_read, answer_refused}
 
--- ---- Options that give the same tokens and terminals give the same answer
+-- ---- Options that agree on the grammar, the tokens and the terminals
 
 abbrev under : Rules → Options → Rules
 under r o = record r { options = o }
@@ -38,7 +38,7 @@ idle : (choice : Bool → Rules) (text : List ℕ) → answer (choice true) text
     → IsIdle choice text
 idle choice text same = search (rules, read_alike, refused_alike)
 
--- ---- Options that agree on characters and words give the same tokens and terminals
+-- ---- Options that agree on characters and words
 
 record Agree (r : Rules) (test : ℕ → Bool) (o p : Options) : Type 0 where
   letter : (c : ℕ) → test c ≡ true → is_unit_letter o c ≡ is_unit_letter p c

@@ -211,7 +211,7 @@ answer_refused r text cause =
 pub answer_is_reading_holds : AnswerIsReading
 answer_is_reading_holds = record { read = answer_read; refused = answer_refused }
 
--- ---- A text that a sum spells is read as the sum, or overflows if that is 2^64 or more
+-- ---- Texts that a sum spells
 
 pub record IsSumOf (r : Rules) (lexemes : List (List ℕ)) (text : List ℕ) : Type 0 where
   pub sentence : IsSentenceOf r lexemes text

@@ -32,7 +32,7 @@ pub whole_complete : (r : Rules) (front : List Terminal) → CanEnd r None front
 whole_complete r front h = search (rules, no_number_last)
 
 module _ (r : Rules) where
-  -- ---- A sentence begins with exactly what the table allows
+  -- ---- The beginnings of sentences
 
   pub sentence_allowed : (terminals : List Terminal) → IsSentence r terminals
       → AreAllowed r None terminals

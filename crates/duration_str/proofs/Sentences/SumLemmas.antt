@@ -72,7 +72,7 @@ sum_fits_each [] l h = tt
 sum_fits_each (t ∷ terms) l h =
     (number_below t l.0 (omega arith), omega arith, sum_fits_each terms l.1 (omega arith))
 
--- ---- The only fault of terms that fit is that of their sum
+-- ---- The fault of a sum whose terms fit
 
 abbrev pub overflow : ℕ → Option Cause
 overflow n = unless (fits n) (Overflow None)
