@@ -71,8 +71,8 @@ impl Read for Blanks {
 /// The bytes that a `Sink` can hold.
 const ROOM: usize = 2_048;
 
-/// A writer that takes at most `step` bytes per call into a fixed buffer, and counts the flushes.
-/// The call after `calls` calls fails, and so does the first flush if `flushes` is not set. Later
+/// A writer that takes at most `step` bytes per write into a fixed buffer, and counts the flushes.
+/// The write after `calls` writes fails, and so does the first flush if `flushes` is not set. Later
 /// calls work again.
 #[derive(Drop)]
 struct Sink {
