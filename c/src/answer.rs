@@ -35,25 +35,24 @@ pub struct Answer {
     pub nanos: u64,
     /// The byte offset of the fault, if it has a place.
     pub place: usize,
-    /// For a syntax fault: the length in bytes of the token at the place, or 0 at the end of the
+    /// The length in bytes of the token at the place of a syntax fault. It is 0 at the end of the
     /// text.
     pub found_length: usize,
     /// 0 if the text is read. Otherwise it is the number of the cause, from 1 for `Empty` to 7 for
     /// `NotText`, or 8 if the bits are not options.
     pub cause: u32,
-    /// For a syntax fault: what could stand at the place, as bits. 1 is a number, 2 a unit, 4 an
+    /// What could stand at the place of a syntax fault, as bits: 1 is a number, 2 a unit, 4 an
     /// operator, and 8 the end.
     pub expected: u32,
     /// 1 if the fault has a place, otherwise 0.
     pub has_place: u8,
-    /// For mixed operators: the operator that came first, as its character.
+    /// If operators are mixed, the character of the one that came first.
     pub first_operator: u8,
-    /// For mixed operators: the operator that came later, as its character.
+    /// If operators are mixed, the character of the one that came later.
     pub later_operator: u8,
 }
 
 impl Answer {
-    /// The answer with a value.
     pub(crate) fn value(nanos: u64) -> Answer {
         Answer {
             nanos,
@@ -67,7 +66,6 @@ impl Answer {
         }
     }
 
-    /// The answer if the bits are not options.
     pub(crate) fn unknown_option() -> Answer {
         Answer {
             cause: UNKNOWN_OPTION,
@@ -75,7 +73,6 @@ impl Answer {
         }
     }
 
-    /// The answer with a refusal, and the length of the token at its place.
     pub(crate) fn refusal(cause: Cause, found_length: usize) -> Answer {
         let place = cause.place();
         let (first_operator, later_operator) = signs_of(cause);
@@ -92,12 +89,10 @@ impl Answer {
     }
 }
 
-/// The answer with the fault for which a text is refused under these options.
 pub(crate) fn refused(fault: &Fault<'_>, options: Options) -> Answer {
     Answer::refusal(fault.cause(), found_length(fault, options))
 }
 
-/// The length in bytes of the token at the place of a syntax fault, or 0 if there is none.
 fn found_length(fault: &Fault<'_>, options: Options) -> usize {
     match fault.found(options) {
         Some(token) => token.len(),
@@ -105,7 +100,6 @@ fn found_length(fault: &Fault<'_>, options: Options) -> usize {
     }
 }
 
-/// The number of a cause.
 pub(crate) fn cause_number(cause: Cause) -> u32 {
     match cause {
         Cause::Empty => EMPTY,
@@ -118,7 +112,6 @@ pub(crate) fn cause_number(cause: Cause) -> u32 {
     }
 }
 
-/// The bits of the kinds that could stand at the place of a syntax fault, or 0 for other causes.
 fn expected_bits(cause: Cause) -> u32 {
     match cause {
         Cause::Syntax { expected, .. } => bits_of(expected),
@@ -126,7 +119,6 @@ fn expected_bits(cause: Cause) -> u32 {
     }
 }
 
-/// The bits of the kinds that could stand at a place.
 fn bits_of(expected: Expected) -> u32 {
     let number = if expected.number { NUMBER } else { 0 };
     let unit = if expected.unit_word { UNIT } else { 0 };
@@ -135,7 +127,6 @@ fn bits_of(expected: Expected) -> u32 {
     number + unit + operator + end
 }
 
-/// The characters of the first and the later operator if operators are mixed, and otherwise 0.
 fn signs_of(cause: Cause) -> (u8, u8) {
     match cause {
         Cause::Mixed { first, later } => (sign_code(first), sign_code(later)),
@@ -143,7 +134,6 @@ fn signs_of(cause: Cause) -> (u8, u8) {
     }
 }
 
-/// The character of an operator.
 fn sign_code(operator: CondUnit) -> u8 {
     match operator {
         CondUnit::Plus => b'+',

@@ -41,8 +41,6 @@ pub fn duration_str_breakdown(
     true
 }
 
-/// Takes the parts that are left, and returns the counts of all units among them, that of the
-/// longest unit first. It is `None` if a count needs more than 64 bits.
 fn counts_of(parts: &mut Breakdown) -> Option<[u64; UNIT_COUNT]> {
     let mut counts = [0; UNIT_COUNT];
     while let Some((unit, count)) = parts.next() {
@@ -51,7 +49,6 @@ fn counts_of(parts: &mut Breakdown) -> Option<[u64; UNIT_COUNT]> {
     Some(counts)
 }
 
-/// The index of a unit in `UNITS`.
 fn rank(unit: TimeUnit) -> usize {
     unit as usize
 }

@@ -31,24 +31,17 @@ pub fn duration_str_format_with(
     }
 }
 
-/// The format with the units of these bits, at most `parts` parts, and the style with this number.
-/// It is `None` if no bit is set, if a bit is above that of the last unit, or if no style has this
-/// number.
 fn format_of(units: u32, parts: u32, style: u32) -> Option<Format> {
     let style = style_numbered(style)?;
     Some(short_format_of(units, parts)?.style(style))
 }
 
-/// The format with the units of these bits, at most `parts` parts, and the short style. It is
-/// `None` if no bit is set, or if a bit is above that of the last unit.
 pub(crate) fn short_format_of(units: u32, parts: u32) -> Option<Format> {
     let mut format = Format::whole().parts(parts as usize);
     format.units = units_of(units)?;
     Some(format)
 }
 
-/// The set of the units of these bits, or `None` if no bit is set, or if a bit is above that of the
-/// last unit.
 fn units_of(bits: u32) -> Option<Units> {
     if bits == 0 {
         return None;
@@ -59,7 +52,6 @@ fn units_of(bits: u32) -> Option<Units> {
     }
 }
 
-/// The style with this number: 0 short, 1 compact, 2 long.
 fn style_numbered(number: u32) -> Option<Style> {
     match number {
         0 => Some(Style::Short),

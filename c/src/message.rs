@@ -35,8 +35,7 @@ pub fn duration_str_report(
     }
 }
 
-/// Reads a text and writes the answer. Returns the fault; or, if the text has none, the line to
-/// show, which is empty if the text is read.
+/// If there is no fault, the error is the line to show, which is empty if the text is read.
 #[inline(always)]
 pub(crate) fn refusal_of<'a>(
     bytes: &'a [u8],
@@ -63,19 +62,16 @@ pub(crate) fn refusal_of<'a>(
     }
 }
 
-/// Writes the fault in one line and a zero byte, and returns the line's length in bytes.
 fn show_one_line(fault: &Fault<'_>, buffer: &mut [u8; ONE_LINE_BUFFER_SIZE]) -> usize {
     let mut line = [0; ONE_LINE_BUFFER_SIZE];
     put(fault.write_one_line(&mut line), buffer)
 }
 
-/// Writes the fault's report and a zero byte, and returns the report's length in bytes.
 fn show_report(fault: &Fault<'_>, buffer: &mut [u8; REPORT_BUFFER_SIZE]) -> usize {
     let mut report = [0; REPORT_BUFFER_SIZE];
     put(fault.write_report(&mut report), buffer)
 }
 
-/// Writes a text and a zero byte if there is room, and returns the text's length in bytes.
 fn show(text: &str, buffer: &mut [u8]) -> usize {
     if text.len() < buffer.len() {
         return put(text, buffer);

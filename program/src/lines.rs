@@ -1,12 +1,10 @@
 // Made by tools/erase of crates/durstr_run/src/lines.rt.
 //! Cutting bytes into lines.
 
-/// The offset of the first line feed.
 fn line_end(bytes: &[u8]) -> Option<usize> {
     bytes.iter().position(|b| *b == b'\n')
 }
 
-/// Returns the first line, and the bytes after its line feed.
 pub(crate) fn first_line(bytes: &[u8]) -> (&[u8], &[u8]) {
     match line_end(bytes) {
         Some(end) => (&bytes[..end], &bytes[end + 1..]),

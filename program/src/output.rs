@@ -8,8 +8,7 @@ use crate::outside::{AllocError, Allocator, String};
 use std::io::Write;
 use std::time::Duration;
 
-/// Returns the bytes as a text if they are UTF-8. Most texts are ASCII, which takes less time to
-/// test.
+/// Most texts are ASCII, which takes less time to test than UTF-8.
 fn text_of(bytes: &[u8]) -> Option<&str> {
     if bytes.is_ascii() {
         // SAFETY: ASCII is UTF-8.
@@ -18,7 +17,6 @@ fn text_of(bytes: &[u8]) -> Option<&str> {
     core::str::from_utf8(bytes).ok()
 }
 
-/// Adds a duration in nanoseconds, a space, the printed duration and a line feed.
 fn push_value<A: Allocator>(out: &mut String<A>, duration: Duration) -> Result<(), AllocError> {
     let nanos = duration.as_nanos() as u64;
     let mut buffer = [0; HUMAN_BUFFER_SIZE];
@@ -27,7 +25,6 @@ fn push_value<A: Allocator>(out: &mut String<A>, duration: Duration) -> Result<(
     Ok(())
 }
 
-/// Adds the output for one line and a line feed, and returns whether the line was accepted.
 fn push_line<A: Allocator>(
     out: &mut String<A>,
     line: &[u8],

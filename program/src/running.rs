@@ -1,5 +1,5 @@
 // Made by tools/erase of crates/durstr_run/src/running.rt.
-//! From a reader to a writer.
+//! A run, from a reader to a writer.
 
 use crate::fault::RunFault;
 use crate::input::read_all;

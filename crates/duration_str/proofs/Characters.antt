@@ -1,4 +1,3 @@
--- The lemmas about characters, numbers, and the names of units.
 pub mod UnitLemmas
 pub mod NumberLemmas
 pub mod PackedLemmas

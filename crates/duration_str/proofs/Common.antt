@@ -1,5 +1,3 @@
--- Exports definitions, and names of the standard library, that many proofs use. It declares
--- nothing.
 pub use Rattle.std.proofs.Common.{add-zero, add_assoc, ap, append-nil, append_assoc, ap₂, arith, Bool, Bor, bytes_eq, chars, codes, decimal, div-add-mod', div-le_self, drop, drop-cons, drop-drop, drop_at, encode_utf8, encode_utf8_all, eq-eqb, eqb, eqb-true, Err, false, find, flat_map, get_or, IfOk, IfSome, if◌then◌else◌, inl, inr, is_some, IsCharBoundary, IsNone, IsSome, IsTrue, IsUtf8, le-div_iff_mul-le, le-ltb, le_antisymm, le_of_suc-le-suc, leb, leb-true, length, length-append, length-drop, length-take-le, List, lit<, lt-ltb, ltb, ltb-true, map, mul-div_cancel, mul-pos, mul_comm, nat_le, nat_lt, ne_eqb, None, not, Ok, ok_or, OkIff, Option, option_map, pow-suc, refl, replicate, Result, rules, slice_range, Some, subst, suc, suc-le-suc, sym, take, take-append-drop, take_at, true, true≢false, unwrap_or, zero, zero-le, [], ℕ, ◌%◌, ◌&&◌, ◌*◌, ◌++◌, ◌+◌, ◌-◌, ◌/◌, ◌<◌, ◌==◌, ◌^◌, ◌||◌, ◌↔◌, ◌∙◌, ◌∷◌, ◌≡◌, ◌≢◌, ◌≤◌, ◌⊎◌}
 pub use Rattle.std.proofs.Math.Nat.{div-eq_of_lt-le, le-mul_of_pos_right, mod-le, pow-le-pow_right, pow-succ', zero-div}
 pub use Rattle.std.proofs.lemmas.Bool.{and_from, and_parts, cases_Bool, cases_lt, cond-true, false_from_ne_true, not-true, not_from_false, not_from_true, or_cases, or_from, or_parts, or_right}

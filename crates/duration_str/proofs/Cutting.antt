@@ -1,4 +1,3 @@
--- The lemmas about cutting a text into tokens.
 pub mod PositionLemmas
 pub mod TokenLemmas
 pub mod SortLemmas

@@ -1,4 +1,3 @@
--- The proofs of the laws.
 pub mod OneSentence
 pub mod PlaceAndKinds
 pub mod NoCalcAgrees

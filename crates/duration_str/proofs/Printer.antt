@@ -1,4 +1,3 @@
--- The lemmas that show that the printer writes what the definitions say.
 pub mod MessageLemmas
 pub mod OneLineLemmas
 pub mod ReportLemmas

@@ -1,5 +1,5 @@
--- Examples that were worked out by hand, and are computed here: the values of texts, the causes for
--- which others are refused, and the texts of durations.
+-- Examples that were worked out by hand, and are computed here, such as the values of texts, the
+-- causes for which others are refused, and the texts of durations.
 use Rattle.duration_str.proofs.Common.{[], ALL, answer, Bool, Cause, codes, Compact, counts_of, Empty, encode_utf8_all, Err, Expected, false, flat_map, if◌then◌else◌, length, List, Long, map, MAX_LONG_LEN, MAX_PRINTED_LEN, message_of, Mixed, nanos_of, nat_lt, None, nonzero, NumberTooLarge, off, Ok, older_row_of, older_rules, Options, OutOfRange, Overflow, Plus, printed_counts, Quarter, refl, replicate, Result, row_of, rules_of, rules_with, Short, Some, Star, Style, Syntax, TimeUnit, true, unit_lengths, unit_of_word, units, units_within, ℕ, ◌++◌, ◌∷◌, ◌≡◌}
 use Rattle.duration_str.specs.declared.format.Format.{Format}
 use Rattle.duration_str.specs.declared.unit.TimeUnit.TheVariants.{Day, Hour, MicroSecond, MilliSecond, Minute, Month, NanoSecond, Second, Week, Year}
@@ -131,7 +131,6 @@ pub record Answers : Type 0 where
   pub capital_quarters-read : answer (rules_of off) (codes "2 Quarters") ≡ Ok 15_724_800_000_000_000
   pub capital_quarter-lowercase_refused : answer (rules_of with_lowercase) (codes "1Q") ≡ Err (Syntax 1 after_number)
   pub longer_word_than_quarter-refused : answer (rules_of off) (codes "1qs") ≡ Err (Syntax 1 after_number)
-  -- Before the quarter was added, its names named no unit.
   pub quarter_was_no_unit : map (unit_of_word (older_rules off)) (row_of Quarter).names ≡ None ∷ None ∷ None ∷ []
 
 pub answers : Answers
@@ -203,7 +202,6 @@ pub record PrintedTexts : Type 0 where
   pub printed-first_that_overflows : printed 18_446_744_073_709_551_616 ≡ first_that_overflows
   pub printed-greatest_duration : printed 18_446_744_073_709_551_615_999_999_999 ≡ greatest_duration
   pub printed-longest : printed 3_153_600_000_031_190_399_999_999_999 ≡ longest
-  -- A printed text reaches the bound on the number of bytes.
   pub longest-bytes : length (encode_utf8_all longest) ≡ MAX_PRINTED_LEN
   pub overflows-greatest_duration : answer (rules_of off) greatest_duration ≡ Err (Overflow (Some 0))
 
@@ -260,10 +258,9 @@ abbrev as_humantime : List ℕ → Result ℕ Cause
 as_humantime = answer (humantime_rules with_lowercase)
 
 pub record HumantimeUnits : Type 0 where
-  -- how many names each unit has
   pub names-counted : map (λ u. length (humantime_row_of u).names) units
       ≡ 5 ∷ 3 ∷ 4 ∷ 5 ∷ 3 ∷ 5 ∷ 5 ∷ 5 ∷ 5 ∷ 8 ∷ 5 ∷ []
-  -- each name of humantime, by the length of its unit
+  -- humantime's own names, by the length of their units
   pub names-below_second : as_humantime (codes "1nanos1nsec1ns1usec1us1µs1millis1msec1ms") ≡ Ok 3_003_003
   pub names-seconds : as_humantime (codes "1seconds1second1secs1sec1s") ≡ Ok 5_000_000_000
   pub names-minutes : as_humantime (codes "1minutes1minute1min1mins1m") ≡ Ok 300_000_000_000
@@ -272,7 +269,7 @@ pub record HumantimeUnits : Type 0 where
   pub names-weeks : as_humantime (codes "1weeks1week1wk1wks1w") ≡ Ok 3_024_000_000_000_000
   pub names-months : as_humantime (codes "1months1month1M") ≡ Ok 7_890_048_000_000_000
   pub names-years : as_humantime (codes "1years1year1yr1yrs1y") ≡ Ok 157_788_000_000_000_000
-  -- names that only the library has
+  -- the library's own names are read too
   pub own-quarter_and_month : as_humantime (codes "1q 1mon") ≡ Ok 10_492_416_000_000_000
   pub capital_and_small : as_humantime (codes "1M + 1m") ≡ Ok 2_630_076_000_000_000
   pub product : as_humantime (codes "5mins * 2s") ≡ Ok 600_000_000_000
@@ -280,7 +277,7 @@ pub record HumantimeUnits : Type 0 where
   pub printed-365_days : as_humantime (codes "11months 30days 3h 50m 24s") ≡ Ok 31_536_000_000_000_000
   pub year-greatest : as_humantime (codes "584y") ≡ Ok 18_429_638_400_000_000_000
   pub year-overflow : as_humantime (codes "585y") ≡ Err (Overflow (Some 0))
-  -- by the library's own lengths these are read
+  -- by the library's own lengths, 7,100 months are read
   pub month-overflow : as_humantime (codes "7100mon") ≡ Err (Overflow (Some 0))
   pub months-overflow : as_humantime (codes "7000mon 100mon") ≡ Err (Overflow None)
   pub other_capital-refused : as_humantime (codes "1H") ≡ Err (Syntax 1 unit_alone)
@@ -290,7 +287,6 @@ pub record HumantimeUnits : Type 0 where
       ≡ Ok 34_187_616_000_000_000
   -- if capitals are read as small letters, `M` is a minute
   pub folded : answer (humantime_rules off) (codes "1M 1MINS") ≡ Ok 120_000_000_000
-  -- names that only humantime has are no names elsewhere
   pub elsewhere-refused : map (answer (rules_of with_lowercase)) (codes "1mins" ∷ codes "1M" ∷ codes "1yr" ∷ [])
       ≡ Err (Syntax 1 after_number) ∷ Err (Syntax 1 after_number) ∷ Err (Syntax 1 after_number) ∷ []
 
@@ -299,15 +295,12 @@ humantime_units = assumption
 
 -- ---- In a format
 
--- the text of this many nanoseconds in a format
 abbrev limited : Format → ℕ → List ℕ
 limited format nanos = text_within format (counts_within (lengths_within format) format.parts nanos)
 
--- the format with only these units
 abbrev only : List TimeUnit → Format
 only us = record whole_format { units = intersection ALL (set_of us) }
 
--- the format without the quarter and the week
 abbrev usual : Format
 usual = record whole_format { units = without_unit Week (without_unit Quarter ALL) }
 
@@ -339,7 +332,7 @@ pub record LimitedTexts : Type 0 where
   pub years_and_milliseconds-long : limited (record (only (Year ∷ MilliSecond ∷ [])) { style = Long })
       31_536_000_001_000_000 ≡ codes "1 year 1 millisecond"
   pub none : limited (only []) 34_560_000_000_000_000 ≡ codes "0s"
-  -- ---- No choice brings a unit back
+  -- ---- Sets of units, and their bits
   pub taken_out : intersection (without_unit Week ALL) (set_of (Week ∷ Day ∷ [])) ≡ set_of (Day ∷ [])
   pub number_of_all : set_of units ≡ ALL
   pub number_of_year : set_of (Year ∷ []) ≡ record { bits = 1 }
@@ -357,7 +350,6 @@ limited_texts = assumption
 
 -- ---- The parts as numbers
 
--- the parts of this many nanoseconds in a format
 abbrev parts_of : Format → ℕ → List (TimeUnit × ℕ)
 parts_of format nanos = nonzero (units_within format) (counts_within (lengths_within format) format.parts nanos)
 
@@ -381,12 +373,10 @@ pub parts_as_numbers : PartsAsNumbers
 unfolding chosen is_in
 parts_as_numbers = assumption
 
--- these units, from the first one that is not longer than the largest
 abbrev units_from : TimeUnit → List TimeUnit → List TimeUnit
 units_from largest [] = []
 units_from largest (u ∷ us) = if nat_lt (nanos_of largest) (nanos_of u) then units_from largest us else u ∷ us
 
--- these units, up to the last one that is not shorter than the smallest
 abbrev units_down_to : TimeUnit → List TimeUnit → List TimeUnit
 units_down_to smallest [] = []
 units_down_to smallest (u ∷ us) = if nat_lt (nanos_of u) (nanos_of smallest) then [] else u ∷ units_down_to smallest us
@@ -400,13 +390,12 @@ unfolding chosen is_in
 each_range Year = assumption
 each_range largest = assumption
 
--- The units that a largest and a smallest unit leave are the units from the one to the other.
 pub ranges : (largest smallest : TimeUnit) → IsRange largest smallest
 ranges largest = each_unit (IsRange largest) (each_range largest)
 
 -- ---- Faults in one line
 
--- 41 characters of four bytes, which are letters in a line
+-- 41 characters of four bytes each
 abbrev long_word : List ℕ
 long_word = replicate 41 0x1F600
 
@@ -550,7 +539,7 @@ pub record Classes : Type 0 where
       ∷ 0x180A ∷ 0x1810 ∷ 0x1FFF ∷ 0x2010 ∷ 0x2027 ∷ 0x2030 ∷ 0x205E ∷ 0x2070 ∷ 0x27FF ∷ 0x2801 ∷ 0x2FFF ∷ 0x3001 ∷ 0x3163
       ∷ 0x3165 ∷ 0xFDFF ∷ 0xFE10 ∷ 0xFEFE ∷ 0xFF00 ∷ 0xFF9F ∷ 0xFFA1 ∷ 0xFFEF ∷ 0xFFFC ∷ 0x1BC9F ∷ 0x1BCA4 ∷ 0x1D172
       ∷ 0x1D17B ∷ 0xDFFFF ∷ 0xE1000 ∷ []) ≡ true
-  -- the first and the last of each range of signs, and the letters beside them
+  -- the ends of the ranges of signs, and letters near them
   pub signs : list_any is_letter (
       0x40 ∷ 0x5B ∷ 0x60 ∷ 0x7B ∷ 0xA1 ∷ 0xB4 ∷ 0xB6 ∷ 0xBF ∷ 0xD7 ∷ 0xF7 ∷ 0x2010 ∷ 0x2BFF ∷ 0x3001 ∷ 0x303F
       ∷ 0xFF00 ∷ 0xFF20 ∷ []) ≡ false
@@ -595,12 +584,10 @@ reports = assumption
 
 -- ---- The names of the units
 
--- Each of the names is read as the unit.
 abbrev AreNamesOf : Options → TimeUnit → List (List ℕ) → Type 0
 AreNamesOf o u names = map (unit_of_word (rules_of o)) names ≡ map (λ name. Some u) names
 
--- Each name of each unit is read as the unit, with and without `lowercase`, and each Chinese name
--- with `cn_unit`. So no two units share a name.
+-- No two units share a name, since each name is read as its unit.
 pub names_of_one_unit : Each (λ u.
     AreNamesOf off u (row_of u).names × AreNamesOf with_lowercase u (row_of u).names
     × AreNamesOf with_cn_unit u ((row_of u).names ++ (row_of u).chinese)) units
@@ -613,11 +600,9 @@ forty_three_names = refl
 abbrev older_names : List (List ℕ)
 older_names = flat_map (λ u. option_map_or (λ row. row.names ++ row.chinese) (older_row_of u) []) units
 
--- There were 51 names, each of which occurred once.
 pub fifty_one_older_names : map (λ name. count_by (bytes_eq name) older_names) older_names ≡ replicate 51 1
 fifty_one_older_names = refl
 
--- Each name from before the quarter named its unit, each Chinese name with `cn_unit`.
 pub older_names_of_one_unit : Each (λ u.
     map (unit_of_word (older_rules with_cn_unit)) (option_map_or (λ row. row.names ++ row.chinese) (older_row_of u) [])
     ≡ option_map_or (λ row. map (λ name. Some u) (row.names ++ row.chinese)) (older_row_of u) []) units

@@ -11,8 +11,6 @@ use Rattle.duration_str_c.specs.declared.answer.Answer.{Answer}
 use Rattle.duration_str_c.specs.Answers.{AreOptions, IsAnswerTo, options_of_bits, rules_of_bits, TellsFault, value_answer}
 use Rattle.duration_str_c.specs.Messages.{IsSaidOf, IsShown, ShowsRefusal}
 
--- ---- An answer to one text is right for an equal text
-
 pub value_answers : (bits nanos : ℕ) (bytes same : List ℕ) (answer : Answer) → AreOptions bits → IsUtf8 same
     → bytes ≡ same → IsRead (rules_of_bits bits) (chars bytes) nanos → answer ≡ value_answer nanos → IsAnswerTo bits same answer
 value_answers bits nanos bytes same answer known utf8 e read is = inr (inr (inl (known, utf8, nanos, rw e at read, is)))
@@ -30,8 +28,6 @@ refusal_answers o bits bytes same cause answer known utf8 e f refused tells =
           (subst (λ (q : Options). TellsFault q bytes cause answer) e tells),
     )))
 
--- ---- The line if the text has no fault
-
 pub said_shown : (bits : ℕ) {len : ℕ} {bytes line old new : List ℕ} (shown : Cause → List ℕ)
     → IsSaidOf bits bytes line → IsShown line old len new → ShowsRefusal shown bits bytes old len new
 said_shown bits shown (inl (unknown, is)) h = inl (unknown, rw is at h)
@@ -46,8 +42,6 @@ said_short bits (inl (unknown, is)) h = omega (arith, rw is at h.0)
 said_short bits (inr (inl (known, no_text, is))) h = omega (arith, rw is at h.0)
 said_short bits (inr (inr (inl (known, utf8, nanos, read, is)))) h = omega (arith, rw is at h.0)
 said_short bits (inr (inr (inr (known, utf8, cause, refused, none)))) h = absurd none
-
--- ---- The unit at a place
 
 none_at : (us : List TimeUnit) (i : ℕ) → length us ≤ i → None ≡ slice_get us i
 none_at [] i beyond = refl

@@ -15,7 +15,7 @@ use Rattle.duration_str.specs.declared.unit.TimeUnit.{TimeUnit}
 use Rattle.duration_str.specs.declared.unit.TimeUnit.TheVariants.{Year, Quarter, Month, Week, Day, Hour, Minute, Second, MilliSecond, MicroSecond, NanoSecond}
 use Rattle.duration_str_c.specs.Breakdown.{count_of, counts_of, IsTooLarge}
 
--- ---- The parts come in the order of their units, so each unit has at most one part
+-- ---- The parts come in the order of their units
 
 -- Each unit has a higher rank than the one before it, and the first has at least this rank.
 abbrev AreFrom : ℕ → List TimeUnit → Type 0
@@ -83,7 +83,6 @@ large_at f MilliSecond h = (8, f MilliSecond, omega arith, refl, h)
 large_at f MicroSecond h = (9, f MicroSecond, omega arith, refl, h)
 large_at f NanoSecond h = (10, f NanoSecond, omega arith, refl, h)
 
--- If a part's count is 2^64 or more, so is one of the counts of all units.
 pub large_count : (before after parts : List (TimeUnit × ℕ)) (u : TimeUnit) (n : ℕ)
     → parts ≡ before ++ ((u, n) ∷ after) → PartsFrom 0 parts → 2 ^ 64 ≤ n → Any (λ n. 2 ^ 64 ≤ n) (counts_of parts)
 large_count before after parts u n same are large =
@@ -92,7 +91,7 @@ large_count before after parts u n same are large =
 
 -- ---- The counts, written one after another
 
--- the counts after those of the parts are written over them
+-- the counts, with those of the parts written over them
 abbrev pub with_counts : List ℕ → List (TimeUnit × ℕ) → List ℕ
 with_counts counts [] = counts
 with_counts counts ((u, n) ∷ parts) = with_counts (slice_set counts (rank_of u) n) parts
@@ -129,7 +128,6 @@ with_counts_after f k ((u, n) ∷ parts) none (from, are) =
     ∙ same_values (λ v. with_value f u n v + count_of parts v) (λ v. f v + count_of ((u, n) ∷ parts) v) units
     (value_and_count f k u n parts none from are)
 
--- Written over zeros, the counts of the parts give the counts of all units.
 pub with_counts_all : (parts : List (TimeUnit × ℕ)) → PartsFrom 0 parts
     → with_counts (map (λ u. 0) units) parts ≡ counts_of parts
 with_counts_all parts are =

@@ -1,4 +1,3 @@
--- The lemmas of this crate.
 pub mod AnswerLemmas
 pub mod BreakdownLemmas
 pub mod Rows

@@ -1,5 +1,4 @@
--- Examples that are computed: which bits are options, which default unit they stand for, the
--- numbers of units, and the counts of units.
+-- Examples that are computed, such as which bits are options, and the counts of units.
 use Rattle.std.proofs.Common.{◌≡◌, ◌+◌, ◌∷◌, [], codes, false, negsuc, None, pos, Some, true}
 use Rattle.duration_str.specs.Options.{off}
 use Rattle.duration_str.specs.declared.unit.TimeUnit.TheVariants.{Day, Hour, MilliSecond, NanoSecond, Second, Year}

@@ -19,11 +19,11 @@ use Rattle.duration_str.specs.Rules.{Rules, rules_with}
 use Rattle.duration_str.specs.Reading.{IsRead, IsRefused}
 use Rattle.duration_str_c.specs.declared.answer.Answer.{Answer}
 
--- whether the bits have this flag
 abbrev pub has_flag : ℕ → ℕ → Bool
 has_flag bits flag = not (bit_and bits flag == 0)
 
--- the number in the bits from bit 16 on. It is 0, or the default unit's index in `units` plus 1
+-- the number in the bits from bit 16 on. In options it is 0, or the default unit's index in `units`
+-- plus 1
 abbrev pub unit_field : ℕ → ℕ
 unit_field bits = bits / 2 ^ 16
 
@@ -36,27 +36,21 @@ are_options bits =
     && (unit_field bits == 0
     || (nat_le (unit_field bits) (length units) && has_flag bits 1 && not (has_flag bits 8)))
 
--- The bits are options: `are_options` says which are.
 abbrev pub AreOptions : ℕ → Type 0
 AreOptions bits = IsTrue (are_options bits)
 
--- the options whose bits are set
 abbrev pub options_of_bits : ℕ → Options
 options_of_bits bits = record { no_calc = has_flag bits 1; lowercase = has_flag bits 2; cn_unit = has_flag bits 4 }
 
--- the default unit. There is none if the flag 8 is set. Otherwise it is the one in the bits from
--- bit 16 on, or the second if they are 0
 abbrev pub default_unit_of_bits : ℕ → Option TimeUnit
 default_unit_of_bits bits =
     if has_flag bits 8 then None
     else if unit_field bits == 0 then Some Second
     else slice_get units (unit_field bits - 1)
 
--- the rules that the bits stand for
 abbrev pub rules_of_bits : ℕ → Rules
 rules_of_bits bits = rules_with (options_of_bits bits) (default_unit_of_bits bits)
 
--- the number of a cause
 abbrev pub cause_number : Cause → ℕ
 cause_number Empty = 1
 cause_number (Syntax place expected) = 2
@@ -66,38 +60,32 @@ cause_number (Mixed first later) = 5
 cause_number OutOfRange = 6
 cause_number (NotText optional) = 7
 
--- the bits of the kinds that could stand at a place
 abbrev pub bits_of : Expected → ℕ
 bits_of e =
     (if e.number then 1 else 0) + (if e.unit_word then 2 else 0) + (if e.operator then 4 else 0)
     + (if e.text_end then 8 else 0)
 
--- the bits of the kinds that could stand at the place of a syntax fault, or 0 for other causes
 abbrev pub expected_bits : Cause → ℕ
 expected_bits (Syntax place expected) = bits_of expected
 expected_bits _ = 0
 
--- the character of an operator, by its code
+-- the code of an operator's character
 abbrev pub sign_code : CondUnit → ℕ
 sign_code Plus = 43
 sign_code Star = 42
 
--- the character of the first operator if operators are mixed, and otherwise 0
 abbrev pub first_sign : Cause → ℕ
 first_sign (Mixed first later) = sign_code first
 first_sign _ = 0
 
--- the character of the later operator if operators are mixed, and otherwise 0
 abbrev pub later_sign : Cause → ℕ
 later_sign (Mixed first later) = sign_code later
 later_sign _ = 0
 
--- the length of a token in bytes, or 0 if there is none
 abbrev pub token_length : Option Token → ℕ
 token_length None = 0
 token_length (Some token) = byte_len token.characters
 
--- the answer with a value
 abbrev pub value_answer : ℕ → Answer
 value_answer nanos = record {
   nanos = nanos;
@@ -110,7 +98,6 @@ value_answer nanos = record {
   later_operator = 0;
 }
 
--- the answer if the bits are not options
 abbrev pub unknown_option_answer : Answer
 unknown_option_answer = record {
   nanos = 0;
@@ -123,7 +110,6 @@ unknown_option_answer = record {
   later_operator = 0;
 }
 
--- the answer with a refusal, and the length of the token at its place
 abbrev pub refusal_answer : Cause → ℕ → Answer
 refusal_answer cause found_length = record {
   nanos = 0;
@@ -136,16 +122,14 @@ refusal_answer cause found_length = record {
   later_operator = later_sign cause;
 }
 
--- The answer says that the bytes are refused for this cause. The cause's place is a character
--- boundary within the bytes.
+-- The answer says that the bytes are refused for this cause. The cause's place, if there is one, is
+-- a character boundary.
 abbrev pub TellsFault : Options → List ℕ → Cause → Answer → Type 0
 TellsFault o bytes cause answer =
     (answer ≡ refusal_answer cause (token_length (found_token o (chars bytes) cause)))
     × ForSome (place_of cause) (IsCharBoundary bytes)
 
--- One of four cases applies, and the proposition for it holds. The bits are not options; or the
--- bytes are not UTF-8; or they are read as a value under the options whose bits are set; or they
--- are refused for a cause.
+-- One of four cases applies, and the proposition for it holds.
 abbrev pub IsTold : Type 0 → Type 0 → (ℕ → Type 0) → (Cause → Type 0) → ℕ → List ℕ → Type 0
 IsTold Unknown NotUtf8 Value Refusal bits bytes =
     ((AreOptions bits → ⊥) × Unknown)
@@ -153,7 +137,7 @@ IsTold Unknown NotUtf8 Value Refusal bits bytes =
     ⊎ (AreOptions bits × IsUtf8 bytes × (nanos : ℕ) × IsRead (rules_of_bits bits) (chars bytes) nanos × Value nanos)
     ⊎ (AreOptions bits × IsUtf8 bytes × (cause : Cause) × IsRefused (rules_of_bits bits) (chars bytes) cause × Refusal cause)
 
--- The answer is right for the bytes: it says which of the four cases applies.
+-- The answer says which of the four cases applies.
 abbrev pub IsAnswerTo : ℕ → List ℕ → Answer → Type 0
 IsAnswerTo bits bytes answer =
     IsTold (answer ≡ unknown_option_answer) (answer ≡ refusal_answer (NotText false) 0)

@@ -5,7 +5,6 @@ use Rattle.duration_str.specs.declared.unit.TimeUnit.{TimeUnit}
 use Rattle.duration_str.specs.Breakdown.{AreParts, sum_of_parts}
 use Rattle.duration_str.specs.Units.{nanos_of, units}
 
--- the count of a unit among these parts, or 0 if no part has the unit
 abbrev pub count_of : List (TimeUnit × ℕ) → TimeUnit → ℕ
 count_of [] u = 0
 count_of ((v, n) ∷ parts) u = if nanos_of v == nanos_of u then n else count_of parts u

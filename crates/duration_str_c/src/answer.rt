@@ -38,25 +38,24 @@ pub struct Answer {
     pub nanos: u64,
     /// The byte offset of the fault, if it has a place.
     pub place: usize,
-    /// For a syntax fault: the length in bytes of the token at the place, or 0 at the end of the
+    /// The length in bytes of the token at the place of a syntax fault. It is 0 at the end of the
     /// text.
     pub found_length: usize,
     /// 0 if the text is read. Otherwise it is the number of the cause, from 1 for `Empty` to 7 for
     /// `NotText`, or 8 if the bits are not options.
     pub cause: u32,
-    /// For a syntax fault: what could stand at the place, as bits. 1 is a number, 2 a unit, 4 an
+    /// What could stand at the place of a syntax fault, as bits: 1 is a number, 2 a unit, 4 an
     /// operator, and 8 the end.
     pub expected: u32,
     /// 1 if the fault has a place, otherwise 0.
     pub has_place: u8,
-    /// For mixed operators: the operator that came first, as its character.
+    /// If operators are mixed, the character of the one that came first.
     pub first_operator: u8,
-    /// For mixed operators: the operator that came later, as its character.
+    /// If operators are mixed, the character of the one that came later.
     pub later_operator: u8,
 }
 
 impl Answer {
-    /// The answer with a value.
     pub(crate) fn value(nanos: u64) -> Answer
         ensures { result ≡ value_answer nanos }
     {
@@ -72,7 +71,6 @@ impl Answer {
         }
     }
 
-    /// The answer if the bits are not options.
     pub(crate) fn unknown_option() -> Answer
         ensures { result ≡ unknown_option_answer }
     {
@@ -82,7 +80,6 @@ impl Answer {
         }
     }
 
-    /// The answer with a refusal, and the length of the token at its place.
     pub(crate) fn refusal(cause: Cause, found_length: usize) -> Answer
         ensures { result ≡ refusal_answer cause found_length }
     {
@@ -101,14 +98,12 @@ impl Answer {
     }
 }
 
-/// The answer with the fault for which a text is refused under these options.
 pub(crate) fn refused(fault: &Fault<'_>, options: Options) -> Answer
     ensures { TellsFault options fault.now.text.now fault.now.cause result }
 {
     Answer::refusal(fault.cause(), found_length(fault, options))
 }
 
-/// The length in bytes of the token at the place of a syntax fault, or 0 if there is none.
 fn found_length(fault: &Fault<'_>, options: Options) -> usize
     ensures { result ≡ token_length
         (found_token options (chars fault.now.text.now) fault.now.cause) }
@@ -119,7 +114,6 @@ fn found_length(fault: &Fault<'_>, options: Options) -> usize
     }
 }
 
-/// The number of a cause.
 pub(crate) fn cause_number(cause: Cause) -> u32
     ensures { result ≡ cause_number cause }
 {
@@ -134,7 +128,6 @@ pub(crate) fn cause_number(cause: Cause) -> u32
     }
 }
 
-/// The bits of the kinds that could stand at the place of a syntax fault, or 0 for other causes.
 fn expected_bits(cause: Cause) -> u32
     ensures { result ≡ expected_bits cause }
 {
@@ -144,7 +137,6 @@ fn expected_bits(cause: Cause) -> u32
     }
 }
 
-/// The bits of the kinds that could stand at a place.
 fn bits_of(expected: Expected) -> u32
     ensures { result ≡ bits_of expected }
 {
@@ -155,7 +147,6 @@ fn bits_of(expected: Expected) -> u32
     number + unit + operator + end
 }
 
-/// The characters of the first and the later operator if operators are mixed, and otherwise 0.
 fn signs_of(cause: Cause) -> (u8, u8)
     ensures first { result.0 ≡ first_sign cause }
     ensures later { result.1 ≡ later_sign cause }
@@ -166,7 +157,6 @@ fn signs_of(cause: Cause) -> (u8, u8)
     }
 }
 
-/// The character of an operator.
 fn sign_code(operator: CondUnit) -> u8
     ensures { result ≡ sign_code operator }
 {

@@ -54,8 +54,6 @@ pub fn duration_str_breakdown(
     true
 }
 
-/// Takes the parts that are left, and returns the counts of all units among them, that of the
-/// longest unit first. It is `None` if a count needs more than 64 bits.
 fn counts_of(parts: &mut Breakdown) -> Option<[u64; UNIT_COUNT]>
     ensures some { IfSome result (λ counts. (counts ≡ counts_of (parts_left parts.old))
         × (nanos_left parts.old ≡ sum_of_parts (parts_left parts.old) + nanos_left parts.new)) }
@@ -68,7 +66,6 @@ fn counts_of(parts: &mut Breakdown) -> Option<[u64; UNIT_COUNT]>
     Some(counts)
 }
 
-/// The index of a unit in `UNITS`.
 fn rank(unit: TimeUnit) -> usize
     ensures value { result ≡ rank_of unit }
     ensures inside { result < UNIT_COUNT }

@@ -44,9 +44,6 @@ pub fn duration_str_format_with(
     }
 }
 
-/// The format with the units of these bits, at most `parts` parts, and the style with this number.
-/// It is `None` if no bit is set, if a bit is above that of the last unit, or if no style has this
-/// number.
 fn format_of(units: u32, parts: u32, style: u32) -> Option<Format>
     ensures format { IfSome result (λ format. (0 < units) × (units < 2048) × (style ≤ 2)
         × (format ≡ format_of units parts (style_numbered style))) }
@@ -56,8 +53,6 @@ fn format_of(units: u32, parts: u32, style: u32) -> Option<Format>
     Some(short_format_of(units, parts)?.style(style))
 }
 
-/// The format with the units of these bits, at most `parts` parts, and the short style. It is
-/// `None` if no bit is set, or if a bit is above that of the last unit.
 pub(crate) fn short_format_of(units: u32, parts: u32) -> Option<Format>
     ensures format { IfSome result (λ format. (0 < units) × (units < 2048)
         × (format ≡ format_of units parts Short)) }
@@ -68,8 +63,6 @@ pub(crate) fn short_format_of(units: u32, parts: u32) -> Option<Format>
     Some(format)
 }
 
-/// The set of the units of these bits, or `None` if no bit is set, or if a bit is above that of the
-/// last unit.
 fn units_of(bits: u32) -> Option<Units>
     ensures some { IfSome result (λ units. (0 < bits) × (bits < 2048) × (units ≡ units_of bits)) }
     ensures none { IfNone result ((bits ≡ 0) ⊎ (2048 ≤ bits)) }
@@ -83,7 +76,6 @@ fn units_of(bits: u32) -> Option<Units>
     }
 }
 
-/// The style with this number: 0 short, 1 compact, 2 long.
 fn style_numbered(number: u32) -> Option<Style>
     ensures style { IfSome result (λ style. (number ≤ 2) × (style ≡ style_numbered number)) }
     ensures none { IfNone result (2 < number) }

@@ -1,4 +1,4 @@
-//! The calls that `include/duration_str.h` declares for C, with slices in place of pointers.
+//! The calls of the library for C, with slices in place of pointers.
 //!
 //! They allocate nothing. Those that read bytes refuse them if they are not UTF-8.
 #![tactic(auto)]
@@ -39,10 +39,8 @@ const REQUIRE_UNIT: u32 = 8;
 /// The bits from bit 16 on hold 0, or the default unit's index in `UNITS` plus 1.
 const DEFAULT_UNIT: u32 = 16;
 
-/// The bits of all options.
 const OPTIONS: u32 = 0xF_000F;
 
-/// The options whose bits are set.
 pub(crate) fn options_of_bits(bits: u32) -> Options
     ensures { result ≡ options_of_bits bits }
 {
@@ -53,8 +51,6 @@ pub(crate) fn options_of_bits(bits: u32) -> Options
     }
 }
 
-/// Whether the bits are options. Each bit that is set must belong to an option. If the bits hold a
-/// default unit, it must be one of `UNITS`, operators must be off, and units must not be required.
 pub(crate) fn are_options(bits: u32) -> bool
     ensures { result ≡ are_options bits }
 {
@@ -64,8 +60,6 @@ pub(crate) fn are_options(bits: u32) -> bool
             || number as usize <= UNITS.len() && bits & NO_CALC != 0 && bits & REQUIRE_UNIT == 0)
 }
 
-/// The default unit. There is none if the bit that requires a unit is set. Otherwise it is the
-/// second if the bits hold no unit.
 fn default_unit_of_bits(bits: u32) -> Option<TimeUnit>
     ensures { result ≡ default_unit_of_bits bits }
 {
@@ -115,7 +109,6 @@ pub fn duration_str_format(nanos: u64, buffer: &mut [u8; HUMAN_BUFFER_SIZE]) -> 
     )
 }
 
-/// Writes a text and a zero byte to the start of the buffer, and returns the length of the text.
 #[inline(always)]
 pub(crate) fn put(text: &str, buffer: &mut [u8]) -> usize
     requires room { length text.now < length buffer.old }
@@ -139,8 +132,6 @@ pub fn duration_str_parse_with(text: &[u8], options: u32, answer: &mut Answer) -
     answer.cause == 0
 }
 
-/// Reads a text under the options whose bits are set. Returns its value in nanoseconds, or its
-/// fault.
 #[inline(always)]
 pub(crate) fn read_by(text: &str, bits: u32) -> Result<u64, Fault<'_>>
     ensures { Reads (rules_of_bits bits) text.now result }
@@ -156,8 +147,7 @@ pub fn duration_str_version() -> u32
     19_000
 }
 
-/// Returns the bytes as a text if they are UTF-8. Most texts are ASCII, which takes less time to
-/// test.
+/// Most texts are ASCII, which takes less time to test than UTF-8.
 #[inline(always)]
 pub(crate) fn text_of(bytes: &[u8]) -> Option<&str>
     ensures text { IfSome result (λ text. (text.now ≡ bytes.now) × IsUtf8 bytes.now) }
@@ -171,7 +161,6 @@ pub(crate) fn text_of(bytes: &[u8]) -> Option<&str>
     }
 }
 
-/// Whether the bytes are UTF-8.
 #[cold]
 #[inline(never)]
 fn is_utf8(bytes: &[u8]) -> bool

@@ -57,8 +57,7 @@ pub fn duration_str_report(
     }
 }
 
-/// Reads a text and writes the answer. Returns the fault; or, if the text has none, the line to
-/// show, which is empty if the text is read.
+/// If there is no fault, the error is the line to show, which is empty if the text is read.
 #[inline(always)]
 pub(crate) fn refusal_of<'a>(
     bytes: &'a [u8],
@@ -91,7 +90,6 @@ pub(crate) fn refusal_of<'a>(
     }
 }
 
-/// Writes the fault in one line and a zero byte, and returns the line's length in bytes.
 fn show_one_line(fault: &Fault<'_>, buffer: &mut [u8; ONE_LINE_BUFFER_SIZE]) -> usize
     ensures shown { IsShown (one_line_of fault.now.text.now fault.now.cause)
         buffer.old result buffer.new }
@@ -102,7 +100,6 @@ fn show_one_line(fault: &Fault<'_>, buffer: &mut [u8; ONE_LINE_BUFFER_SIZE]) -> 
     put(fault.write_one_line(&mut line), buffer)
 }
 
-/// Writes the fault's report and a zero byte, and returns the report's length in bytes.
 fn show_report(fault: &Fault<'_>, buffer: &mut [u8; REPORT_BUFFER_SIZE]) -> usize
     ensures shown { IsShown (report_of fault.now.text.now fault.now.cause)
         buffer.old result buffer.new }
@@ -113,7 +110,6 @@ fn show_report(fault: &Fault<'_>, buffer: &mut [u8; REPORT_BUFFER_SIZE]) -> usiz
     put(fault.write_report(&mut report), buffer)
 }
 
-/// Writes a text and a zero byte if there is room, and returns the text's length in bytes.
 fn show(text: &str, buffer: &mut [u8]) -> usize
     ensures shown { IsShown text.now buffer.old result buffer.new }
     ensures utf8 { result < length buffer.new → IsUtf8 (take result buffer.new) }

@@ -1,21 +1,17 @@
-// Assertions with a message, and questions about what calls answer and print. They are functions so
-// that they are proved once, and not again in each test.
+// These are functions so that they are proved once, and not again in each test.
 use duration_str::{Fault, HumanFormat, Options};
 use std::alloc::{AllocError, Allocator};
 use std::fmt::Display;
 use std::process::Abort;
 
-/// Fails the test, which is about this text, unless the condition holds.
 pub fn holds(rt: &impl Abort, about: &str, condition: bool) {
     assert!(rt; condition, "{about}");
 }
 
-/// Fails the test, which is about this text, unless there was memory and the condition holds.
 pub fn holds_in_memory(rt: &impl Abort, about: &str, condition: Result<bool, AllocError>) {
     assert!(rt; condition == Ok(true), "{about}");
 }
 
-/// Whether the value prints this text.
 pub fn prints<T: Display, A: Allocator>(
     alloc: A,
     value: &T,
@@ -24,7 +20,6 @@ pub fn prints<T: Display, A: Allocator>(
     Ok(value.to_string(alloc)?.as_str() == text)
 }
 
-/// Whether the duration is not negative and prints this text, into a string.
 pub fn is_human_format<T: HumanFormat, A: Allocator>(
     alloc: A,
     value: &T,
@@ -36,7 +31,6 @@ pub fn is_human_format<T: HumanFormat, A: Allocator>(
     Ok(value.human_format(alloc)?.as_str() == text)
 }
 
-/// Whether the answer is this value.
 pub fn is_value<T: Copy + PartialEq>(answer: Result<T, Fault<'_>>, wanted: T) -> bool {
     match answer {
         Ok(value) => value == wanted,
@@ -44,7 +38,6 @@ pub fn is_value<T: Copy + PartialEq>(answer: Result<T, Fault<'_>>, wanted: T) ->
     }
 }
 
-/// Whether the answer is this fault.
 pub fn is_fault<T: Copy>(answer: Result<T, Fault<'_>>, wanted: Fault<'_>) -> bool {
     match answer {
         Ok(_) => false,
@@ -52,7 +45,6 @@ pub fn is_fault<T: Copy>(answer: Result<T, Fault<'_>>, wanted: Fault<'_>) -> boo
     }
 }
 
-/// Whether the answer is a fault with this token at its place.
 pub fn is_fault_at<T: Copy>(answer: Result<T, Fault<'_>>, o: Options, token: &str) -> bool {
     match answer {
         Ok(_) => false,

@@ -1,4 +1,3 @@
-// Durations in configuration values.
 ghost use Rattle.std.specs.Option.{ForSome};
 ghost use Rattle.std.specs.Str.{IsCharBoundary};
 ghost use Rattle.duration_str.specs.Faults.{place_of};
@@ -15,7 +14,6 @@ use serde_json::{Value, json};
 use std::alloc::{AllocError, Global};
 use std::time::Duration;
 
-/// Whether each call reads the required value as this many seconds.
 pub fn is_required(value: &Value, secs: u32) -> bool {
     let plain = Duration::from_secs(u64::from(secs));
     let signed = SignedDuration::from_secs(i64::from(secs));
@@ -25,7 +23,6 @@ pub fn is_required(value: &Value, secs: u32) -> bool {
         && is_value(deserialize_duration_time(value), signed)
 }
 
-/// Whether each call refuses the required value with this fault.
 fn is_refused(value: &Value, fault: Fault<'_>) -> bool {
     is_fault(deserialize_duration::<Duration>(value), fault)
         && is_fault(deserialize_duration::<SignedDuration>(value), fault)
@@ -33,7 +30,6 @@ fn is_refused(value: &Value, fault: Fault<'_>) -> bool {
         && is_fault(deserialize_duration_time(value), fault)
 }
 
-/// Whether each call reads the optional value as this many seconds, or as `None`.
 pub fn is_optional(value: &Value, secs: Option<u32>) -> bool {
     let (plain, signed) = match secs {
         Some(secs) => (
@@ -52,7 +48,6 @@ pub fn is_optional(value: &Value, secs: Option<u32>) -> bool {
         && is_value(deserialize_option_duration_time(value), signed)
 }
 
-/// Whether each call refuses the optional value with this fault.
 fn is_refused_if_there(value: &Value, fault: Fault<'_>) -> bool {
     is_fault(deserialize_duration::<Option<Duration>>(value), fault)
         && is_fault(deserialize_option_duration(value), fault)
@@ -61,7 +56,6 @@ fn is_refused_if_there(value: &Value, fault: Fault<'_>) -> bool {
         && is_fault(deserialize_option_duration_time(value), fault)
 }
 
-/// The fault of a value that is not a text.
 fn no_text<'a>(optional: bool) -> Fault<'a> {
     Fault {
         text: "",
@@ -69,7 +63,6 @@ fn no_text<'a>(optional: bool) -> Fault<'a> {
     }
 }
 
-/// Whether each call reads the text, as a required and as an optional value, as this many seconds.
 fn is_read(alloc: Global, text: &str, secs: u32) -> Result<bool, AllocError> {
     let value = json!(in alloc; text)?;
     Ok(is_required(&value, secs) && is_optional(&value, Some(secs)))
@@ -88,7 +81,6 @@ fn reads_texts(rt: HostRuntime) {
     }
 }
 
-/// Whether the text is `None` as an optional value, and refused for this cause as a required one.
 fn is_taken_for_none(alloc: Global, text: &str, cause: Cause) -> Result<bool, AllocError>
     requires { ForSome (place_of cause) (IsCharBoundary text.now) }
 {
@@ -96,7 +88,6 @@ fn is_taken_for_none(alloc: Global, text: &str, cause: Cause) -> Result<bool, Al
     Ok(is_optional(&value, None) && is_refused(&value, Fault { text, cause }))
 }
 
-/// Whether a field that is missing is `None`.
 fn takes_a_missing_field_for_none(alloc: Global) -> Result<bool, AllocError> {
     let config = json!(in alloc; {"timeout": "30s"})?;
     Ok(match config.get("interval") {
@@ -113,7 +104,6 @@ fn takes_null_and_the_empty_text_for_none(rt: HostRuntime) {
     holds_in_memory(&rt, "missing", takes_a_missing_field_for_none(rt.alloc()));
 }
 
-/// Whether each call refuses the text, as a required and as an optional value, for this cause.
 fn is_refused_text(alloc: Global, text: &str, cause: Cause) -> Result<bool, AllocError>
     requires { ForSome (place_of cause) (IsCharBoundary text.now) }
 {
@@ -135,7 +125,6 @@ fn hands_on_the_fault_of_a_text(rt: HostRuntime) {
     holds_in_memory(&rt, "580y*2", is_refused_text(alloc, "580y*2", overflow));
 }
 
-/// Whether the fault of the text, as a required value, has this token at its place.
 fn has_token_in_a_value(alloc: Global, text: &str, token: &str) -> Result<bool, AllocError> {
     let value = json!(in alloc; text)?;
     let answer = deserialize_duration::<Duration>(&value);
@@ -151,7 +140,6 @@ fn finds_the_token_in_a_value(rt: HostRuntime) {
     );
 }
 
-/// Whether each call refuses this JSON, required or optional, since it is not a text.
 fn is_no_text(alloc: Global, json: &str) -> bool {
     match Value::from_str(alloc, json) {
         Ok(value) => {

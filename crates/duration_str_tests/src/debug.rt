@@ -1,4 +1,3 @@
-// What `Debug` prints of public types.
 use crate::assertions::holds_in_memory;
 use crate::refusal::refusal;
 use crate::shared::{AFTER_NUMBER, OFF};
@@ -6,7 +5,6 @@ use duration_str::{Cause, CondUnit, DError, Fault, TimeUnit, Tokens};
 use std::alloc::{AllocError, Global};
 use std::fmt::Debug;
 
-/// Whether `Debug` prints this text of the value.
 fn shows<T: Debug>(alloc: Global, value: &T, text: &str) -> Result<bool, AllocError> {
     Ok(format!(in alloc; "{value:?}")?.as_str() == text)
 }
@@ -81,13 +79,11 @@ fn shows_causes(rt: HostRuntime) {
     }
 }
 
-/// Whether `Debug` prints this text of an error that owns a line.
 fn shows_an_error(alloc: Global, line: &str, text: &str) -> Result<bool, AllocError> {
     let error = DError::ParseError(String::from_str(alloc, line)?);
     shows(alloc, &error, text)
 }
 
-/// Whether `Debug` prints this text of the fault's error.
 fn shows_the_error(alloc: Global, fault: Fault<'_>, text: &str) -> Result<bool, AllocError> {
     let error = fault.to_derror(alloc)?;
     shows(alloc, &error, text)

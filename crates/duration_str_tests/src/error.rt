@@ -1,4 +1,3 @@
-// Faults as errors, with as much memory as they need, and with one request refused.
 use crate::assertions::{holds_in_memory, prints};
 use crate::refusal::refusal;
 use crate::shared::{OFF, TOO_LARGE};
@@ -62,7 +61,6 @@ fn holds_the_line(rt: HostRuntime) {
     }
 }
 
-/// Whether the fault of a date that is out of range holds its line.
 fn holds_the_line_out_of_range(alloc: Global) -> Result<bool, AllocError> {
     match after_naive_date(Timestamp::MAX, "1ns") {
         Ok(_) => Ok(false),
@@ -75,7 +73,6 @@ fn holds_the_line_of_a_date(rt: HostRuntime) {
     holds_in_memory(&rt, "1ns", holds_the_line_out_of_range(rt.alloc()));
 }
 
-/// Whether the fault of a value that is not a text holds its line.
 fn holds_the_line_of_no_text(alloc: Global) -> Result<bool, AllocError> {
     let line = "expect duration string, e.g: '1min+30'";
     match deserialize_duration::<Duration>(&Value::Null) {
@@ -84,7 +81,6 @@ fn holds_the_line_of_no_text(alloc: Global) -> Result<bool, AllocError> {
     }
 }
 
-/// Whether the fault of an optional value that is not a text holds its line.
 fn holds_the_line_of_an_optional_value(alloc: Global) -> Result<bool, AllocError> {
     let line = "expect duration string, null, or missing field";
     let number = json!(in alloc; 5)?;
@@ -100,13 +96,11 @@ fn holds_the_lines_of_what_is_no_text(rt: HostRuntime) {
     holds_in_memory(&rt, "5", holds_the_line_of_an_optional_value(rt.alloc()));
 }
 
-/// Whether the fault's error is equal to one that owns this line.
 fn becomes(alloc: Global, fault: Fault<'_>, line: &str) -> Result<bool, AllocError> {
     let wanted = DError::ParseError(String::from_str(alloc, line)?);
     Ok(fault.to_derror(alloc)? == wanted)
 }
 
-/// Whether the fault's error is equal to that of an overflow, and prints its line.
 fn becomes_an_overflow(alloc: Global, fault: Fault<'_>) -> Result<bool, AllocError> {
     let error = fault.to_derror(alloc)?;
     Ok(error == DError::OverflowError && prints(alloc, &error, "overflow error")?)

@@ -1,4 +1,3 @@
-// Printed texts.
 use crate::assertions::{holds, holds_in_memory, is_human_format};
 use duration_str::{HumanFormat, MAX_PRINTED_LEN, write_human};
 use jiff::SignedDuration;
@@ -13,7 +12,6 @@ fn longest() -> Duration {
     Duration::new(3_153_600_000_031_190_399, 999_999_999)
 }
 
-/// Whether the duration prints as this text, into a buffer and into a string.
 fn is_printed(alloc: Global, d: Duration, text: &str) -> Result<bool, AllocError> {
     Ok(write_human(&d, &mut [0xff; 64]) == text && is_human_format(alloc, &d, text)?)
 }
@@ -36,8 +34,6 @@ fn prints_what_no_text_is_read_as(rt: HostRuntime) {
     assert!(rt; LONGEST_TEXT.len() == MAX_PRINTED_LEN);
 }
 
-/// Whether this many nanoseconds, as a duration with and without a sign, print into a string what
-/// they print into a buffer.
 fn prints_alike(alloc: Global, nanos: u64) -> Result<bool, AllocError> {
     let plain = Duration::from_nanos(nanos);
     let signed = SignedDuration::from_nanos_i128(i128::from(nanos));
@@ -54,7 +50,8 @@ fn prints_all_short_durations_alike(rt: HostRuntime) {
 }
 
 /// How many requests for memory it takes to print the value as this text if this request is
-/// refused. `None` if the value prints another text, or if the call goes on after the refusal.
+/// refused. The result is `None` if the value prints another text, or if the call goes on after the
+/// refusal.
 fn requests_until<T: HumanFormat>(
     alloc: Global,
     value: &T,
@@ -69,8 +66,8 @@ fn requests_until<T: HumanFormat>(
     is_right.then_some(heap.made())
 }
 
-/// How many requests for memory it takes to print the value as this text. `None` if the value
-/// prints another text, or if the call goes on after one of them is refused.
+/// How many requests for memory it takes to print the value as this text. The result is `None` if
+/// the value prints another text, or if the call goes on after one of them is refused.
 fn requests<T: HumanFormat>(alloc: Global, value: &T, text: &str) -> Option<u64> {
     for refused in 1..100u64 {
         let made = requests_until(alloc, value, text, refused);

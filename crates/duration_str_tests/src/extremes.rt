@@ -1,4 +1,3 @@
-// Long texts, look-alikes, calls that have no allocator, and a run that is refused memory.
 use crate::assertions::{holds, holds_in_memory, is_fault_at, is_value};
 use crate::config::{is_optional, is_required};
 use crate::refusal::refusal;
@@ -24,19 +23,16 @@ use std::time::Duration;
 /// A head, a part, how many times it is repeated, and a tail.
 type Long = (&'static str, &'static str, usize, &'static str);
 
-/// The part repeated this many times, between the head and the tail.
 fn long(alloc: Global, (head, part, times, tail): Long) -> Result<String, AllocError> {
     let run = part.repeat(alloc, times)?;
     format!(in alloc; "{head}{run}{tail}")
 }
 
-/// Whether the long text is read as this many nanoseconds.
 fn is_read(alloc: Global, pieces: Long, nanos: u64) -> Result<bool, AllocError> {
     let text = long(alloc, pieces)?;
     Ok(is_value(parse(&text), Duration::from_nanos(nanos)))
 }
 
-/// Long texts, and the nanoseconds that they are read as.
 static READ: [(Long, u64); 6] = [
     (("", "0", 100_000, "1s"), 1_000_000_000),
     (("", " ", 100_000, "1s"), 1_000_000_000),
@@ -71,8 +67,6 @@ static SYNTAX_FAULTS: [(Long, Options, usize, Expected, &str); 7] = [
     (("1s", "-", 100_000, ""), OFF, 2, AFTER_UNIT, OPERATORS),
 ];
 
-/// Whether the long text is refused for this cause, and its fault prints the whole text, a caret
-/// below the place, and this line.
 fn is_refused_long(
     alloc: Global,
     pieces: Long,
@@ -101,13 +95,11 @@ fn refuses_long_texts(rt: HostRuntime) {
     holds_in_memory(&rt, TOO_LARGE, answer);
 }
 
-/// Whether the token at the place of the fault is all that stands after the number 1.
 fn has_one_token_after_the_number(text: &str, o: Options) -> bool {
     let rest = text.strip_prefix("1").unwrap_or_default();
     is_fault_at(parse_with(text, o), o, rest)
 }
 
-/// Whether the token after a number is the whole run of this part.
 fn is_whole_run(
     alloc: Global,
     part: &'static str,
@@ -125,7 +117,6 @@ fn finds_the_whole_run(rt: HostRuntime) {
     }
 }
 
-/// As many blanks stand before the caret as characters before the place.
 #[test]
 fn counts_blanks_before_the_caret(rt: HostRuntime) {
     let (pieces, cause) = (("1s", " ", 100_000, "x"), syntax(100_002, AFTER_UNIT));
@@ -162,18 +153,16 @@ fn takes_look_alikes_for_what_they_are(rt: HostRuntime) {
     }
 }
 
-/// Whether the text is read as this duration, and the duration prints as `printed` into a buffer.
 fn is_read_and_printed(text: &str, d: Duration, printed: &str) -> bool {
     is_value(parse(text), d) && write_human(&d, &mut [0; 64]) == printed
 }
 
-/// Whether the fault prints this into a fixed buffer.
 fn is_written(fault: Fault<'_>, wanted: &str) -> bool {
     let mut shown = ArrayString::<64>::new();
     write!(shown, "{fault}").is_ok() && shown.as_str() == wanted
 }
 
-/// None of the questions takes an allocator, so the calls that they make have nothing to allocate
+/// None of these checks takes an allocator, so the calls that they make have nothing to allocate
 /// from.
 #[test]
 fn answers_without_memory(rt: HostRuntime) -> Result<(), Fail> {
@@ -202,7 +191,6 @@ fn stops_at_the_end_of_a_fixed_buffer(rt: HostRuntime) {
     assert!(rt; write!(whole, "{fault}").is_ok());
 }
 
-/// A long line that is read, one that is not UTF-8, one that is refused, and many that are empty.
 fn long_lines(alloc: Global) -> Result<Vec<u8>, AllocError> {
     let mut input = Vec::new(alloc);
     input.extend_from_slice(long(alloc, ("", "0", 100_000, "1s\n"))?.as_bytes())?;
@@ -212,14 +200,12 @@ fn long_lines(alloc: Global) -> Result<Vec<u8>, AllocError> {
     Ok(input)
 }
 
-/// Whether a run over these lines refuses some of them, and writes this.
 fn refuses_lines(alloc: Global, mut lines: &[u8], wanted: &str) -> bool {
     let mut output = Vec::new(alloc);
     let answer = run(alloc, &mut lines, &mut output, OFF);
     answer == Ok(false) && output.as_slice() == wanted.as_bytes()
 }
 
-/// Whether a run over the long lines writes what it should.
 fn refuses_long_lines(alloc: Global) -> Result<bool, AllocError> {
     let first = "1000000000 1s\nnot UTF-8\n1m\u{3000}2\r\n  ^\nexpected ['+', '*']\n";
     let wanted = long(alloc, (first, "Empty input\n", 100_000, ""))?;
@@ -245,16 +231,15 @@ impl Read for InThrees<'_> {
     }
 }
 
-/// Runs over a line that is read and two that are refused, and writes into a fixed buffer.
 fn run_into(heap: &Refusing<Global>, mut room: &mut [u8]) -> Result<bool, RunFault> {
     run(heap, &mut InThrees(b"3m31\n\n580y*2"), &mut room, OFF)
 }
 
-/// What that run writes.
 static WRITTEN: [u8; 49] = *b"211000000000 3min 31s\nEmpty input\noverflow error\n";
 
-/// How many requests for memory that run makes if this request is refused. `None` if it writes
-/// something else, if it goes on after the refusal, or if it has written something before it.
+/// How many requests for memory `run_into` makes if this request is refused. The result is `None`
+/// if it writes something else, if it goes on after the refusal, or if it has written something
+/// before it.
 fn requests(alloc: Global, refused: u64) -> Option<u64> {
     let heap = Refusing::nth(alloc, refused);
     let mut held = [0; 49];
@@ -267,8 +252,7 @@ fn requests(alloc: Global, refused: u64) -> Option<u64> {
     is_right.then_some(heap.made())
 }
 
-/// The run makes six requests: for an input of 8 and of 16 bytes, and for an output of 12, 24, 48
-/// and 96.
+/// The run makes six requests.
 #[test]
 fn fails_wherever_a_request_is_refused(rt: HostRuntime) {
     for refused in 1..=7u64 {

@@ -1,4 +1,3 @@
-// What texts are read as, and what the durations print as.
 use crate::assertions::{holds, holds_in_memory, is_human_format, is_value};
 use crate::rows::{
     excludes, includes, list_at, listed, named_options, named_unit, number_at, options_of,
@@ -16,8 +15,6 @@ use std::alloc::{AllocError, Global};
 use std::process::Abort;
 use std::time::Duration;
 
-/// Whether the text is read as this many nanoseconds by calls that read under these options and
-/// count seconds.
 fn is_read_in_seconds(text: &str, o: Options, nanos: u64) -> bool {
     let plain = Duration::from_nanos(nanos);
     let signed = SignedDuration::from_nanos_i128(i128::from(nanos));
@@ -29,22 +26,19 @@ fn is_read_in_seconds(text: &str, o: Options, nanos: u64) -> bool {
             || is_value(parse_chrono(text), signed) && is_value(parse_time(text), signed))
 }
 
-/// Whether the text is read as this many nanoseconds by calls that read with these options and this
-/// default unit.
 fn is_read(text: &str, o: Options, default_unit: Option<TimeUnit>, nanos: u64) -> bool {
     let length = parse_with_default_unit(text, o, default_unit);
     is_value(length, Duration::from_nanos(nanos))
         && (default_unit != Some(TimeUnit::Second) || is_read_in_seconds(text, o, nanos))
 }
 
-/// The nanoseconds of a row, which begins with its seconds and its nanoseconds.
+/// A row begins with its seconds and its nanoseconds.
 fn nanos_of(row: &Value) -> Option<u64> {
     number_at(row, 0)?
         .checked_mul(1_000_000_000)?
         .checked_add(number_at(row, 1)?)
 }
 
-/// Fails unless the texts of a row are read as its duration.
 fn reads_row(rt: &impl Abort, row: &Value, o: Options, default_unit: Option<TimeUnit>) {
     for text in list_at(row, 2) {
         let text = text.as_str().unwrap_or("");
@@ -91,7 +85,6 @@ fn refuses_the_same_texts_if_no_number_lacks_a_unit(rt: HostRuntime) {
     }
 }
 
-/// Whether the text is read as this many milliseconds, if numbers without a unit are milliseconds.
 fn is_read_in_millis(text: &str, millis: u64) -> bool {
     let length = parse_with_default_unit(text, OFF, Some(TimeUnit::MilliSecond));
     is_value(length, Duration::from_millis(millis))
@@ -104,7 +97,6 @@ fn joins_numbers_in_the_default_unit(rt: HostRuntime) {
     }
 }
 
-/// Whether the answer is a duration that prints as this text into a string.
 fn reads_and_prints<T: Copy + HumanFormat>(
     alloc: Global,
     answer: Result<T, Fault<'_>>,
@@ -116,8 +108,6 @@ fn reads_and_prints<T: Copy + HumanFormat>(
     }
 }
 
-/// Whether `parse`, `parse_chrono` and `parse_time` read the text as a duration that prints as
-/// `printed` into a string.
 fn prints_into_strings(alloc: Global, text: &str, printed: &str) -> Result<bool, AllocError> {
     Ok(
         reads_and_prints(alloc, parse(text), printed)?
@@ -126,7 +116,6 @@ fn prints_into_strings(alloc: Global, text: &str, printed: &str) -> Result<bool,
     )
 }
 
-/// Whether the text is read as a duration that prints as `printed` into a buffer.
 fn prints_into_a_buffer(text: &str, printed: &str) -> bool {
     match parse(text) {
         Ok(d) => write_human(&d, &mut [0xff; 64]) == printed,
@@ -134,7 +123,6 @@ fn prints_into_a_buffer(text: &str, printed: &str) -> bool {
     }
 }
 
-/// Fails unless the text of a row is read as a duration that prints as the row says.
 fn prints_row(rt: &impl Abort, alloc: Global, row: &Value) {
     let (text, printed) = (text_at(row, 0), text_at(row, 2));
     holds_in_memory(rt, text, prints_into_strings(alloc, text, printed));
@@ -142,7 +130,6 @@ fn prints_row(rt: &impl Abort, alloc: Global, row: &Value) {
     holds(rt, text, parse(printed) == parse(text));
 }
 
-/// The unit that limits name as `largest` or `smallest`, or `otherwise` if they name none.
 fn limit_at(limits: &Value, name: &str, otherwise: TimeUnit) -> Option<TimeUnit> {
     match limits.get(name) {
         Some(unit) => TimeUnit::from_word(unit.as_str()?, OFF),
@@ -150,7 +137,6 @@ fn limit_at(limits: &Value, name: &str, otherwise: TimeUnit) -> Option<TimeUnit>
     }
 }
 
-/// The units that limits list, or all if they list none.
 fn units_at(limits: &Value) -> Option<Units> {
     if limits.get("units").is_none() {
         return Some(Units::ALL);
@@ -162,7 +148,6 @@ fn units_at(limits: &Value) -> Option<Units> {
     Some(units)
 }
 
-/// The format of a row, which names its limits.
 fn format_of(row: &Value) -> Option<Format> {
     let limits = row.get(1)?;
     let whole = Format {
@@ -178,7 +163,6 @@ fn format_of(row: &Value) -> Option<Format> {
     }
 }
 
-/// Whether the parts of a duration leave as many nanoseconds as the row says.
 fn leaves_rest(row: &Value, length: Duration, format: Format) -> bool {
     let mut rest = length.as_nanos();
     for (unit, count) in Breakdown::new(&length, format) {
@@ -188,9 +172,7 @@ fn leaves_rest(row: &Value, length: Duration, format: Format) -> bool {
         && number_at(row, 5).is_some_and(|nanos| u128::from(nanos) == rest % 1_000_000_000)
 }
 
-/// Whether the text of a row is read as a duration that prints, in two styles, and breaks down as
-/// the row says. It is also true for a text that is refused, such as one of 2^64 nanoseconds or
-/// more.
+/// Returns true for a text that is refused, such as one of 2^64 nanoseconds or more.
 fn prints_in_format(row: &Value, format: Format) -> bool {
     let Ok(length) = parse(text_at(row, 0)) else {
         return true;
@@ -201,12 +183,10 @@ fn prints_in_format(row: &Value, format: Format) -> bool {
         && leaves_rest(row, length, format)
 }
 
-/// Whether this is the format in which `write_human` prints.
 fn is_whole(format: Format) -> bool {
     format == Format::whole()
 }
 
-/// Fails unless each row is printed as it says.
 fn prints_rows(rt: &impl Abort, alloc: Global, rows: &[Value]) {
     for row in rows {
         let text = text_at(row, 0);

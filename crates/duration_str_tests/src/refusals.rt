@@ -1,4 +1,3 @@
-// Why texts are refused: the cause, the token at the place, and what the fault prints.
 use crate::assertions::{holds, holds_in_memory, is_fault, prints};
 use crate::rows::{
     cause_of, list_at, listed, named_options, named_unit, options_of, place_at, text_at, vectors,
@@ -16,7 +15,6 @@ use std::time::Duration;
 
 const OVERFLOW: Cause = Cause::Overflow { place: None };
 
-/// Whether each call that takes only a text refuses it with this fault.
 fn is_refused(text: &str, fault: Fault<'_>) -> bool {
     is_fault(parse(text), fault)
         && is_fault(parse_std(text), fault)
@@ -24,8 +22,7 @@ fn is_refused(text: &str, fault: Fault<'_>) -> bool {
         && is_fault(parse_time(text), fault)
 }
 
-/// The fault with which calls that read under these options refuse the text. `None` if one of them
-/// reads the text, or refuses it for another cause.
+/// Returns `None` if a call reads the text, or refuses it with another fault.
 fn refusal(text: &str, o: Options, cause: Cause) -> Option<Fault<'_>> {
     let fault = parse_with(text, o).err()?;
     let is_caused = fault.text() == text && fault.cause() == cause;
@@ -33,25 +30,21 @@ fn refusal(text: &str, o: Options, cause: Cause) -> Option<Fault<'_>> {
     (is_caused && is_looked && (o != OFF || is_refused(text, fault))).then_some(fault)
 }
 
-/// Whether the fault prints this text even if a width is asked for.
 fn is_padded(alloc: Global, fault: Fault<'_>, wanted: &str) -> Result<bool, AllocError> {
     Ok(format!(in alloc; "{fault:>999}")?.as_str() == wanted)
 }
 
-/// Whether the fault prints this text, without a width and with one.
 fn is_printed(alloc: Global, fault: Fault<'_>, wanted: &str) -> Result<bool, AllocError> {
     Ok(prints(alloc, &fault, wanted)? && is_padded(alloc, fault, wanted)?)
 }
 
-/// Whether the fault prints its text, the caret after this many blanks, and the line.
 fn points(alloc: Global, fault: Fault<'_>, blanks: usize, line: &str) -> Result<bool, AllocError> {
     let (text, blanks) = (fault.text(), " ".repeat(alloc, blanks)?);
     let wanted = format!(in alloc; "{text}\n{blanks}^\n{line}")?;
     is_printed(alloc, fault, wanted.as_str())
 }
 
-/// Whether the text is refused for this cause, and `token` stands at the place. An empty `token`
-/// means that none does.
+/// An empty `token` means that no token stands at the place.
 pub fn names_token(text: &str, o: Options, cause: Cause, token: &str) -> bool {
     let Some(fault) = refusal(text, o, cause) else {
         return false;
@@ -62,8 +55,8 @@ pub fn names_token(text: &str, o: Options, cause: Cause, token: &str) -> bool {
     }
 }
 
-/// Whether the text is refused for this cause, and its fault prints the line. If the cause has a
-/// place, the fault also prints the text above the line, and a caret after this many blanks.
+/// If the cause has a place, the fault must print the text, a caret after this many blanks, and the
+/// line.
 pub fn is_caused(
     alloc: Global,
     (text, o, cause): (&str, Options, Cause),
@@ -79,7 +72,6 @@ pub fn is_caused(
     }
 }
 
-/// The message's last line for a syntax fault at whose place `expected` could stand.
 fn syntax_line(expected: Expected) -> &'static str {
     if expected.unit_word {
         UNITS
@@ -90,7 +82,6 @@ fn syntax_line(expected: Expected) -> &'static str {
     }
 }
 
-/// The message's last line for a cause of the vectors.
 fn message_line(cause: Cause) -> &'static str {
     match cause {
         Cause::Empty => "Empty input",
@@ -101,15 +92,12 @@ fn message_line(cause: Cause) -> &'static str {
     }
 }
 
-/// How many characters stand before this byte.
 fn chars_before(text: &str, place: usize) -> usize {
     text.char_indices()
         .take_while(|&(at, _)| at < place)
         .count()
 }
 
-/// Whether the fault prints its message. If the text has a line feed, and the fault a place, this
-/// is the byte and the last line.
 fn prints_message(alloc: Global, fault: Fault<'_>) -> Result<bool, AllocError> {
     let line = message_line(fault.cause());
     match fault.cause().place() {
@@ -135,7 +123,6 @@ fn report_of(alloc: Global, row: &Value) -> Result<String, AllocError> {
     }
 }
 
-/// Whether the fault's line and its report are those of the row.
 fn is_shown(alloc: Global, fault: Fault<'_>, row: &Value) -> Result<bool, AllocError> {
     let report = report_of(alloc, row)?;
     Ok(
@@ -144,14 +131,12 @@ fn is_shown(alloc: Global, fault: Fault<'_>, row: &Value) -> Result<bool, AllocE
     )
 }
 
-/// Whether the token at the fault's place is that of the row. The row has an empty text if there
-/// is no token.
+/// The row has an empty text if there is no token.
 fn has_token(fault: Fault<'_>, o: Options, row: &Value) -> bool {
     fault.found(o).unwrap_or("") == text_at(row, 4)
 }
 
-/// Whether the fault's cause is that of the row, and its message is right. The row doesn't name the
-/// operators that are mixed.
+/// The row doesn't name the operators that are mixed.
 fn has_cause(alloc: Global, fault: Fault<'_>, row: &Value) -> Result<bool, AllocError> {
     match cause_of(row) {
         Some(cause) => Ok(fault.cause() == cause && prints_message(alloc, fault)?),
@@ -159,8 +144,6 @@ fn has_cause(alloc: Global, fault: Fault<'_>, row: &Value) -> Result<bool, Alloc
     }
 }
 
-/// The fault with which calls that read with these options and this default unit refuse the text.
-/// `None` if one of them reads the text, or refuses it for another cause.
 fn refusal_with(text: &str, o: Options, default_unit: Option<TimeUnit>) -> Option<Fault<'_>> {
     let fault = parse_with_default_unit(text, o, default_unit).err()?;
     if default_unit == Some(TimeUnit::Second) {
@@ -169,7 +152,6 @@ fn refusal_with(text: &str, o: Options, default_unit: Option<TimeUnit>) -> Optio
     (fault.text() == text).then_some(fault)
 }
 
-/// Whether the text of a row is refused as the row says.
 fn is_refused_row(alloc: Global, row: &Value) -> Result<bool, AllocError> {
     let names = list_at(row, 1);
     let o = named_options(names);
@@ -231,8 +213,6 @@ fn names_the_operators_that_are_mixed(rt: HostRuntime) {
     }
 }
 
-/// One nanosecond more than can be read is printed, and the printed text is refused under each
-/// choice of options.
 #[test]
 fn refuses_what_is_printed_at_the_limit(rt: HostRuntime) {
     let mut buffer = [0; 64];
@@ -243,7 +223,6 @@ fn refuses_what_is_printed_at_the_limit(rt: HostRuntime) {
     }
 }
 
-/// Whether the caret in the message of a text stands after this many blanks.
 fn points_after(alloc: Global, count: usize) -> Result<bool, AllocError> {
     let mut text = " ".repeat(alloc, count)?;
     text.push('x')?;

@@ -1,22 +1,19 @@
-// The rows of `rust/vectors.json`, such as texts with what they are read as, and texts with why
-// they are refused.
+// The rows of `rust/vectors.json`.
 use crate::shared::syntax;
 use crate::vectors::VECTORS;
 use duration_str::{Cause, Expected, Options, TimeUnit};
 use serde_json::Value;
 use std::alloc::Global;
 
-/// The file. Null stands for a file that is no JSON, and has no rows.
+/// A file that is no JSON is read as null, which has no rows.
 pub fn vectors(alloc: Global) -> Value {
     Value::from_str(alloc, VECTORS).unwrap_or(Value::Null)
 }
 
-/// The items of the list with this name.
 pub fn listed<'a>(value: &'a Value, name: &str) -> &'a [Value] {
     items(value.get(name))
 }
 
-/// The items of the list at this index of a row.
 pub fn list_at(row: &Value, at: usize) -> &[Value] {
     items(row.get(at))
 }
@@ -28,27 +25,22 @@ fn items(list: Option<&Value>) -> &[Value] {
     }
 }
 
-/// The text at this index of a row. It is empty if no text is there.
 pub fn text_at(row: &Value, at: usize) -> &str {
     row.get(at).and_then(Value::as_str).unwrap_or("")
 }
 
-/// The number at this index of a row, unless there is null.
 pub fn number_at(row: &Value, at: usize) -> Option<u64> {
     row.get(at)?.as_u64()
 }
 
-/// The place at this index of a row, unless there is null.
 pub fn place_at(row: &Value, at: usize) -> Option<usize> {
     usize::try_from(number_at(row, at)?).ok()
 }
 
-/// Whether this word is in a list of words.
 pub fn has(words: &[Value], word: &str) -> bool {
     words.iter().any(|each| each.as_str() == Some(word))
 }
 
-/// The options with these bits.
 pub fn options_of(bits: u8) -> Options {
     Options {
         no_calc: bits & 1 != 0,
@@ -57,7 +49,6 @@ pub fn options_of(bits: u8) -> Options {
     }
 }
 
-/// The options that are named in a list of words.
 pub fn named_options(words: &[Value]) -> Options {
     Options {
         no_calc: has(words, "no_calc"),
@@ -66,14 +57,12 @@ pub fn named_options(words: &[Value]) -> Options {
     }
 }
 
-/// Whether all options that are on in `wanted` are on here.
 pub fn includes(o: Options, wanted: Options) -> bool {
     (o.no_calc || !wanted.no_calc)
         && (o.lowercase || !wanted.lowercase)
         && (o.cn_unit || !wanted.cn_unit)
 }
 
-/// Whether no option is on in both.
 pub fn excludes(o: Options, other: Options) -> bool {
     !(o.no_calc && other.no_calc)
         && !(o.lowercase && other.lowercase)

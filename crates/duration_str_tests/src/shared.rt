@@ -1,29 +1,24 @@
-//! What tests share: options, what can stand at a place, and the lines that say it.
 ghost use Rattle.std.specs.Prelude.{◌≡◌};
 ghost use Rattle.duration_str.specs.declared.cause.Cause.TheVariants.{Syntax};
 
 use duration_str::{Cause, Expected, Options};
 
-/// All options off.
 pub const OFF: Options = Options {
     no_calc: false,
     lowercase: false,
     cn_unit: false,
 };
 
-/// Only `no_calc`.
 pub const NO_CALC: Options = Options {
     no_calc: true,
     ..OFF
 };
 
-/// Only `lowercase`.
 pub const LOWERCASE: Options = Options {
     lowercase: true,
     ..OFF
 };
 
-/// Only `cn_unit`.
 pub const CN_UNIT: Options = Options {
     cn_unit: true,
     ..OFF
@@ -37,7 +32,6 @@ pub const START: Expected = Expected {
     text_end: false,
 };
 
-/// What can stand after a number.
 pub const AFTER_NUMBER: Expected = Expected {
     number: false,
     unit_word: true,
@@ -45,7 +39,6 @@ pub const AFTER_NUMBER: Expected = Expected {
     text_end: true,
 };
 
-/// What can stand after a unit.
 pub const AFTER_UNIT: Expected = Expected {
     number: true,
     unit_word: false,
@@ -69,7 +62,6 @@ pub const ALONE_AFTER_UNIT: Expected = Expected {
     text_end: true,
 };
 
-/// A syntax fault.
 pub fn syntax(place: usize, expected: Expected) -> Cause
     ensures { result ≡ Syntax place expected }
 {
@@ -86,5 +78,4 @@ pub const OPERATORS: &str = "expected ['+', '*']";
 /// The line where only a number could stand.
 pub const NUMBER: &str = "expected number";
 
-/// The line of a number that is 2^64 or more.
 pub const TOO_LARGE: &str = "number too large to fit in target type";

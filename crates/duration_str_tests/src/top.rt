@@ -1,4 +1,3 @@
-// Signed durations and dates.
 ghost use Rattle.std.specs.Option.{ForSome};
 ghost use Rattle.std.specs.Str.{IsCharBoundary};
 ghost use Rattle.duration_str.specs.Faults.{place_of};
@@ -18,37 +17,31 @@ use std::time::Duration;
 /// A day by its year, month and day.
 type Day = (i16, i8, i8);
 
-/// The day's midnight in UTC, as an instant and as a date and time.
 fn midnight((year, month, day): Day) -> Result<(Timestamp, DateTime), jiff::Error> {
     let start = Date::new(year, month, day)?.at(0, 0, 0, 0);
     Ok((Offset::UTC.to_timestamp(start)?, start))
 }
 
-/// The fault with this text and this cause.
 fn fault<'a>(text: &'a str, cause: Cause) -> Fault<'a>
     requires { ForSome (place_of cause) (IsCharBoundary text.now) }
 {
     Fault { text, cause }
 }
 
-/// Whether the moment plus the value of the text is this date and time.
 pub fn leads_to(moment: Timestamp, text: &str, at: DateTime) -> bool {
     after_naive_date_time(moment, text) == Ok(at) && after_naive_date(moment, text) == Ok(at.date())
 }
 
-/// Whether the moment minus the value of the text is this date and time.
 pub fn comes_from(moment: Timestamp, text: &str, at: DateTime) -> bool {
     before_naive_date_time(moment, text) == Ok(at)
         && before_naive_date(moment, text) == Ok(at.date())
 }
 
-/// Whether the calls that add the fault's text to the moment return this fault.
 fn leads_nowhere(moment: Timestamp, fault: Fault<'_>) -> bool {
     after_naive_date_time(moment, fault.text) == Err(fault)
         && after_naive_date(moment, fault.text) == Err(fault)
 }
 
-/// Whether the calls that subtract the fault's text from the moment return this fault.
 fn comes_from_nowhere(moment: Timestamp, fault: Fault<'_>) -> bool {
     before_naive_date_time(moment, fault.text) == Err(fault)
         && before_naive_date(moment, fault.text) == Err(fault)
@@ -64,7 +57,6 @@ fn prints_signed_durations(rt: HostRuntime) {
     assert!(rt; !SignedDuration::MIN.is_printable());
 }
 
-/// Whether the text leads from midnight of the first day to midnight of the last, and back.
 fn leads_there_and_back(first: Day, text: &str, last: Day) -> Result<bool, jiff::Error> {
     let ((start, first), (end, last)) = (midnight(first)?, midnight(last)?);
     Ok(leads_to(start, text, last) && comes_from(end, text, first))

@@ -1,4 +1,3 @@
-// Units with their names and lengths, operators, and tokens.
 ghost use Rattle.std.specs.Prelude.{◌≡◌, ◌<◌, chars, length, IsTrue};
 ghost use Rattle.std.specs.Char.{is_ascii_digit};
 ghost use Rattle.std.specs.List.{list_all};
@@ -35,7 +34,6 @@ fn measures_and_prints_units(rt: HostRuntime) {
     assert!(rt; TimeUnit::default() == TimeUnit::Second);
 }
 
-/// Whether each character is a digit.
 #[tactic(auto)]
 fn are_digits(text: &str) -> bool
     ensures { result ≡ list_all is_ascii_digit (chars text.now) }
@@ -43,7 +41,6 @@ fn are_digits(text: &str) -> bool
     text.chars().all(|c| c.is_ascii_digit())
 }
 
-/// Whether there is a character.
 #[tactic(auto)]
 fn has_characters(text: &str) -> bool
     ensures { IsTrue result → 0 < length (chars text.now) }
@@ -65,7 +62,6 @@ fn refuses_terms_without_a_place(rt: HostRuntime) {
     }
 }
 
-/// Whether a unit and an operator are padded as their formats say.
 fn are_padded(alloc: Global) -> Result<bool, AllocError> {
     let padded = format!(in alloc; "{:>4}|{:.^5}", TimeUnit::Month, CondUnit::Plus)?;
     Ok(padded.as_str() == " mon|..+..")
@@ -87,7 +83,6 @@ fn knows_and_prints_operators(rt: HostRuntime) {
     }
 }
 
-/// Each unit after a word that names it.
 static WORDS: [(&str, TimeUnit); 11] = [
     ("y", Year),
     ("q", Quarter),
@@ -122,7 +117,6 @@ fn cuts_into_tokens(rt: HostRuntime) {
     holds(&rt, "m123", tokens.next().is_none());
 }
 
-/// Whether this many characters are looked at to cut the text into tokens, and as many to read it.
 fn is_looked_at(text: &str, count: u64) -> bool {
     let mut tokens = Tokens::new(text, OFF);
     while tokens.next().is_some() {}

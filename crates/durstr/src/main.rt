@@ -9,7 +9,6 @@ use std::env;
 use std::io::ErrorKind;
 use std::process::ExitCode;
 
-/// Runs with the words of the command line, and returns the status and the line for standard error.
 fn ended(rt: &HostRuntime) -> (u8, &'static str) {
     let words = match env::args(rt) {
         Ok(words) => words,

@@ -1,4 +1,3 @@
--- Lemmas about the first line of the bytes.
 use Rattle.std.proofs.Common.{◌≡◌, ℕ, ◌+◌, ◌<◌, Bool, false, ◌==◌, List, [], ◌∷◌, length, Some, refl, ap, ◌∙◌, arith, take, drop}
 use Rattle.std.specs.List.{slice_split, position, position_or_len, before_first, after_first, All}
 use Rattle.std.proofs.lemmas.List.Quantifiers.{position-Some}
@@ -9,19 +8,16 @@ use Rattle.durstr_run.specs.Lines.{lines_of, without_empty_last}
 abbrev is_line_feed : ℕ → Bool
 is_line_feed b = b == 10
 
--- A part that is not the last one is kept.
 without_empty_last-cons : (part : List ℕ) (parts : List (List ℕ)) → 0 < length parts
     → without_empty_last (part ∷ parts) ≡ part ∷ without_empty_last parts
 without_empty_last-cons part [] h = absurd (omega arith)
 without_empty_last-cons [] (next ∷ parts) h = refl
 without_empty_last-cons (b ∷ part) (next ∷ parts) h = refl
 
--- A part that is the only one is kept if it is not empty.
 without_empty_last-one : (part : List ℕ) → 0 < length part → without_empty_last (part ∷ []) ≡ part ∷ []
 without_empty_last-one [] h = absurd (omega arith)
 without_empty_last-one (b ∷ part) h = refl
 
--- The first line ends at the first line feed.
 pub lines_of-Some : (bytes : List ℕ) (i : ℕ) → position is_line_feed bytes ≡ Some i
     → lines_of bytes ≡ take i bytes ∷ lines_of (drop (i + 1) bytes)
 unfolding lines_of
@@ -38,7 +34,6 @@ lines_of-Some bytes i e =
     ∙ without_empty_last-cons (take i bytes) (slice_split is_line_feed (drop (i + 1) bytes))
     (omega (arith, length-slice_split is_line_feed (drop (i + 1) bytes)))
 
--- Without a line feed, the bytes are one line, if there are any.
 pub lines_of-None : (bytes : List ℕ) → 0 < length bytes → All (λ b. is_line_feed b ≡ false) bytes
     → lines_of bytes ≡ bytes ∷ lines_of []
 unfolding lines_of

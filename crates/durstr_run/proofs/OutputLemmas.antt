@@ -1,4 +1,3 @@
--- Lemmas about the output for the bytes, line by line.
 use Rattle.std.proofs.Common.{◌≡◌, ℕ, Bool, true, ◌&&◌, List, [], ◌∷◌, ◌++◌, length, refl, sym, ap, subst, ◌∙◌, append_assoc, append-nil, arith}
 use Rattle.std.proofs.Math.Bool.{and_assoc, and-true}
 use Rattle.duration_str.specs.declared.options.Options.{Options}
@@ -12,7 +11,6 @@ Continues o input left written so_far =
     (tail : List ℕ) (others : Bool) → IsOutput o left tail others → IsOutput o input (written ++ tail)
     (so_far && others)
 
--- The output for the first line and the output for the rest are an output for the whole.
 first_and_rest : (o : Options) (bytes line rest text tail : List ℕ) (accepted others : Bool)
     → lines_of bytes ≡ line ∷ lines_of rest → IsLineOutput o line text accepted → IsOutput o rest tail others
     → IsOutput o bytes (text ++ (10 ∷ tail)) (accepted && others)
@@ -20,7 +18,6 @@ first_and_rest o bytes line rest text tail accepted others cut here after =
     subst (λ lines. AreOutputs o lines (text ++ (10 ∷ tail)) (accepted && others)) (sym cut)
     (text, tail, accepted, others, here, after, refl, refl)
 
--- The output for one more line was written.
 pub Continues-line : (o : Options) (input left line rest written longer : List ℕ) (so_far accepted : Bool)
     → Continues o input left written so_far → lines_of left ≡ line ∷ lines_of rest
     → ((text : List ℕ) × IsLineOutput o line text accepted × (longer ≡ written ++ (text ++ (10 ∷ []))))
@@ -36,13 +33,11 @@ Continues-line o input left line rest written longer so_far accepted before cut 
     (subst (λ all. IsOutput o input (written ++ (text ++ (10 ∷ tail))) all)
     (sym (and_assoc so_far accepted others)) whole)
 
--- The output for no bytes is empty.
 IsOutput-nil : (o : Options) (bytes : List ℕ) → length bytes ≡ 0 → IsOutput o bytes [] true
 unfolding lines_of
 IsOutput-nil o [] e = (refl, refl)
 IsOutput-nil o (b ∷ bytes) e = absurd (omega arith)
 
--- If nothing is left to read, the bytes that are written are the whole output.
 pub Continues-end : (o : Options) (input left written : List ℕ) (so_far : Bool)
     → Continues o input left written so_far → length left ≡ 0 → IsOutput o input written so_far
 Continues-end o input left written so_far before e =

@@ -3,7 +3,6 @@ use Rattle.std.specs.Prelude.{ℕ, Bool, true, false, List, [], Result, Ok, Err,
 use Rattle.durstr_run.specs.declared.fault.RunFault.{RunFault}
 use Rattle.durstr_run.specs.declared.fault.RunFault.TheVariants as faults
 
--- the exit status
 abbrev pub status_of : Result Bool RunFault → ℕ
 status_of (Ok true) = 0
 status_of (Ok false) = 1
@@ -12,7 +11,6 @@ status_of (Err faults.Write) = 2
 status_of (Err faults.TooLong) = 2
 status_of (Err faults.Memory) = 3
 
--- the line on standard error, or the empty text if there is none
 abbrev pub error_line : Result Bool RunFault → List ℕ
 error_line (Ok accepted) = []
 error_line (Err faults.Read) = codes "durstr: read failed"

@@ -19,14 +19,12 @@ pub record PrintsValue (o : Options) (line text : List ℕ) : Type 0 where
   pub human_printed : IsPrinted nanos human
   pub shown : text ≡ decimal nanos ++ (32 ∷ encode_utf8_all human)
 
--- For a refused line the message of its fault is printed.
 pub record PrintsFault (o : Options) (line text : List ℕ) : Type 0 where
   pub cause : Cause
   pub utf8 : IsUtf8 line
   pub refused : IsRefused (rules_of o) (chars line) cause
   pub shown : text ≡ message_of line cause
 
--- For bytes that are not UTF-8 a text that says so is printed.
 abbrev pub PrintsNotUtf8 : List ℕ → List ℕ → Type 0
 PrintsNotUtf8 line text = (IsUtf8 line → ⊥) × (text ≡ codes "not UTF-8")
 
@@ -43,6 +41,5 @@ AreOutputs o (line ∷ lines) out all =
     (text rest : List ℕ) × (accepted others : Bool) × IsLineOutput o line text accepted × AreOutputs o lines rest others
     × (out ≡ text ++ (10 ∷ rest)) × (all ≡ (accepted && others))
 
--- The bytes are the output for the input, and the flag says whether all of its lines are accepted.
 abbrev pub IsOutput : Options → List ℕ → List ℕ → Bool → Type 0
 IsOutput o input out all = AreOutputs o (lines_of input) out all

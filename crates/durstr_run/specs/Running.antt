@@ -7,15 +7,13 @@ use Rattle.durstr_run.specs.declared.fault.RunFault.{RunFault}
 use Rattle.durstr_run.specs.declared.fault.RunFault.TheVariants.{Read, Write, TooLong, Memory}
 use Rattle.durstr_run.specs.Output.{IsOutput}
 
--- the most bytes that an input may have
 abbrev pub input_limit : ℕ
 input_limit = 1_048_576
 
--- The whole input was read. It is these bytes, there are not too many of them, and none are left.
+-- The whole input was read, and it is these bytes.
 abbrev pub ReadsAll : Option (List ℕ) → Option (List ℕ) → List ℕ → Type 0
 ReadsAll source rest input = Consumes source rest input × IsAtEnd rest × (length input ≤ input_limit)
 
--- More bytes were read than an input may have.
 abbrev pub ReadsTooMuch : Option (List ℕ) → Option (List ℕ) → Type 0
 ReadsTooMuch source rest = (bytes : List ℕ) × Consumes source rest bytes × (input_limit < length bytes)
 

@@ -6,13 +6,12 @@ use crate::fault::RunFault;
 use std::alloc::Allocator;
 use std::io::Read;
 
-/// The most bytes that an input may have.
 const LIMIT: usize = 1_048_576;
 
 /// The most bytes that one read requests.
 const CHUNK: usize = 65_536;
 
-/// Reads until the reader's end, and returns all bytes.
+/// Reads until the reader's end, and returns all bytes. Fails if there are more than 1,048,576.
 pub fn read_all<A: Allocator, R: Read>(alloc: A, reader: &mut R) -> Result<Vec<u8, A>, RunFault>
     ensures ok { IfOk result (λ input.
         ReadsAll (R.remaining reader.old) (R.remaining reader.new) input.items) }

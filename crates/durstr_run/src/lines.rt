@@ -2,7 +2,6 @@
 ghost use Rattle.std.specs.Prelude.{◌≡◌, ◌==◌, ◌<◌, ◌∷◌, length, position, All, IfNone, false};
 ghost use Rattle.durstr_run.specs.Lines.{lines_of};
 
-/// The offset of the first line feed.
 fn line_end(bytes: &[u8]) -> Option<usize>
     ensures value { result ≡ position (λ b. b == 10) bytes.now }
     ensures none { IfNone result (All (λ b. (b == 10) ≡ false) bytes.now) }
@@ -10,7 +9,6 @@ fn line_end(bytes: &[u8]) -> Option<usize>
     bytes.iter().position(|b| *b == b'\n')
 }
 
-/// Returns the first line, and the bytes after its line feed.
 pub(crate) fn first_line(bytes: &[u8]) -> (&[u8], &[u8])
     requires { 0 < length bytes.now }
     ensures lines { lines_of bytes.now ≡ result.0.now ∷ lines_of result.1.now }

@@ -13,8 +13,7 @@ use std::alloc::{AllocError, Allocator};
 use std::io::Write;
 use std::time::Duration;
 
-/// Returns the bytes as a text if they are UTF-8. Most texts are ASCII, which takes less time to
-/// test.
+/// Most texts are ASCII, which takes less time to test than UTF-8.
 fn text_of(bytes: &[u8]) -> Option<&str>
     ensures text { IfSome result (λ text. (text.now ≡ bytes.now) × IsUtf8 bytes.now) }
     ensures not_text { IfNone result (¬ (IsUtf8 bytes.now)) }
@@ -26,7 +25,6 @@ fn text_of(bytes: &[u8]) -> Option<&str>
     str::from_utf8(bytes).ok()
 }
 
-/// Adds a duration in nanoseconds, a space, the printed duration and a line feed.
 fn push_value<A: Allocator>(out: &mut String<A>, duration: Duration) -> Result<(), AllocError>
     requires fits { as_nanos duration < 2 ^ 64 }
     ensures { OnOk result ((human : List ℕ) × IsPrinted (as_nanos duration) human
@@ -40,7 +38,6 @@ fn push_value<A: Allocator>(out: &mut String<A>, duration: Duration) -> Result<(
     Ok(())
 }
 
-/// Adds the output for one line and a line feed, and returns whether the line was accepted.
 fn push_line<A: Allocator>(
     out: &mut String<A>,
     line: &[u8],

@@ -1,4 +1,4 @@
-//! From a reader to a writer.
+//! A run, from a reader to a writer.
 ghost use Rattle.std.specs.Prelude.{IfOk, IfErr};
 ghost use Rattle.durstr_run.specs.Running.{WritesOutput, Leaves};
 

@@ -12,7 +12,6 @@ struct Requests {
 }
 
 impl Requests {
-    /// Counts a request, and returns whether it is the one that is refused.
     fn refuse_next(&self) -> bool {
         self.made.set(self.made.get().wrapping_add(1));
         self.made.get() == self.refused
@@ -20,7 +19,7 @@ impl Requests {
 }
 
 /// Passes each request for memory on to another allocator, except the one that it refuses, if any.
-/// Growing or shrinking a block is a request too.
+/// Growing a block is a request too.
 #[derive(Drop)]
 pub struct Refusing<B: Allocator> {
     inner: B,

@@ -7,7 +7,6 @@ use Rattle.duration_str.specs.declared.unit.TimeUnit.{TimeUnit}
 use Rattle.uses.proofs.Common.{Options}
 use Rattle.uses.specs.Cache.{canonical_text, IsCanonical, IsKey}
 
--- The text that a value prints as is the value's key.
 pub printed_is_key : GreatestBreakdown → EqualTexts → (style : Style) (nanos : ℕ) (key : List ℕ) → FitsDuration nanos
     → IsPrintedIn style nanos key → IsKey style nanos key
 printed_is_key greatest equal style nanos key fits printed = record {
@@ -16,11 +15,9 @@ printed_is_key greatest equal style nanos key fits printed = record {
   greatest = greatest nanos;
 }
 
--- A key is the text that its value prints as.
 pub key_is_printed : (style : Style) (nanos : ℕ) (key : List ℕ) → IsKey style nanos key → IsPrintedIn style nanos key
 key_is_printed style nanos key k = (counts_of unit_lengths nanos, k.greatest, k.one)
 
--- The key of an expression's value is the canonical text of the expression.
 pub key_is_canonical : ReadsBack → OneReading → (style : Style) (text key : List ℕ) (nanos : ℕ) → nanos < 2 ^ 64
     → IsRead (rules_of off) text nanos → IsKey style nanos key → IsCanonical style text key
 key_is_canonical back law style text key nanos small read k =
@@ -37,8 +34,6 @@ key_is_canonical back law style text key nanos small read k =
 chars_tell : (a b : List ℕ) → IsUtf8 a → IsUtf8 b → chars a ≡ chars b → a ≡ b
 chars_tell a b ua ub e = sym (encodes-chars a ua) ∙ ap encodes e ∙ encodes-chars b ub
 
--- Suppose that two texts have equal characters exactly if two numbers are equal. Then the texts
--- have equal bytes exactly if the numbers are equal.
 pub equal_by_chars : {m n : ℕ} (a b : List ℕ) (equal : Bool) → IsUtf8 a → IsUtf8 b → equal ≡ bytes_eq a b
     → (chars a ≡ chars b ↔ m ≡ n) → (IsTrue equal ↔ m ≡ n)
 equal_by_chars a b equal ua ub is same = search (rules, bytes_eq-Decides, chars_tell)

@@ -1,4 +1,3 @@
--- Exports names that several proofs use. It declares nothing.
 pub use Rattle.duration_str.proofs.Characters.CharacterLemmas.{run-not_blank}
 pub use Rattle.duration_str.specs.Iteration.{token_of}
 pub use Rattle.duration_str.specs.Tokens.{Token}

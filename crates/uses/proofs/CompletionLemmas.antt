@@ -19,7 +19,6 @@ spells_one w = begins_with (32 ∷ []) [] refl (rw append-nil) refl
 spells_two : (v w : List ℕ) → Spells (v ∷ w ∷ []) (32 ∷ (v ++ 32 ∷ w))
 spells_two v w = begins_with (32 ∷ []) (32 ∷ w) refl refl (spells_one w)
 
--- the terminals of these tokens
 abbrev stand_for : Rules → List Token → List Terminal
 stand_for r tokens = map (terminal_of r) (lexemes_of tokens)
 
@@ -66,7 +65,6 @@ module _ (one : OneSentence) (cut : OneCut) (law : PlaceAndKinds) (r : Rules) (u
         }
     ending_after front other expected b a = cc a
 
-    -- A lexeme that the table allows can be typed.
     allowed_typed : (kept w : List ℕ) (tokens : List Token) (expected : Expected) → AreTokens r.options 0 kept tokens
         → BeginsSentence r (stand_for r tokens ++ terminal_of r w ∷ [])
         → IsTrue (allows expected (terminal_of r w)) → BeginsExpression r (kept ++ (codes " " ++ w))
@@ -79,7 +77,6 @@ module _ (one : OneSentence) (cut : OneCut) (law : PlaceAndKinds) (r : Rules) (u
         let whole = spells_both typed e.lexemes (kept ++ 32 ∷ w) (32 ∷ e.text) spells e.spells in
         (e.text, (typed ++ e.lexemes, (simp map-append e.sentence, whole)))
 
-    -- A lexeme that can be typed continues the beginning of a sentence.
     typed_begins : (kept w : List ℕ) (tokens : List Token) → AreTokens r.options 0 kept tokens → IsLexeme r.options w
         → BeginsExpression r (kept ++ (codes " " ++ w)) → BeginsSentence r
         (stand_for r tokens ++ terminal_of r w ∷ [])

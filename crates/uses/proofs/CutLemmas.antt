@@ -6,8 +6,6 @@ use Rattle.duration_str.proofs.Characters.CharacterLemmas.{byte_len-append}
 use Rattle.duration_str.proofs.Cutting.PositionLemmas.{blanks_no_token}
 use Rattle.duration_str.proofs.Cutting.TokenLemmas.{tokens_step}
 
--- The text, which starts at byte `at` and ends at byte `end`, is split before the token that
--- follows the first n tokens.
 pub record IsSplit (o : Options) (at end : ℕ) (text : List ℕ) (tokens : List Token) (n : ℕ) : Type 0 where
   pub front : List ℕ
   pub rest : List ℕ
@@ -16,8 +14,6 @@ pub record IsSplit (o : Options) (at end : ℕ) (text : List ℕ) (tokens : List
   pub are : AreTokens o at front (take n tokens)
 
 module _ (o : Options) where
-  -- ---- Where a run ends
-
   ends_at_blank : (cs rest more : List ℕ) → EndsRun o cs rest → EndsRun o cs (rest ++ 32 ∷ more)
   ends_at_blank [] rest more h = tt
   ends_at_blank (c ∷ cs) [] more h = false_from_ne_true _ (λ run. cc (run-not_blank o c 32 run))
@@ -25,8 +21,6 @@ module _ (o : Options) where
 
   ends_earlier : (cs front rest : List ℕ) → EndsRun o cs (front ++ rest) → EndsRun o cs front
   ends_earlier cs front rest h = search rules
-
-  -- ---- Split at a token
 
   pub split_at : (at end : ℕ) (text : List ℕ) (tokens : List Token) (n : ℕ) → end ≡ at + byte_len text
       → AreTokens o at text tokens → IsSplit o at end text tokens n
@@ -59,16 +53,12 @@ module _ (o : Options) where
         );
       }
 
-  -- ---- Joined at a blank
-
   joined : (at : ℕ) (text more : List ℕ) (tokens : List Token) → AreTokens o at text tokens
       → (start : ℕ) × (tokens_from o at (text ++ 32 ∷ more) ≡ tokens ++ tokens_from o start more)
   joined at text more [] h = (at + byte_len text + 1, blanks_no_token o at text (32 ∷ more) h)
   joined at text more (token ∷ tokens) (rest, next, are) =
       search (rules, append_assoc, tokens_step, ends_at_blank, joined (token.start + byte_len token.characters) rest more tokens)
 
-  -- If a text is followed by a blank, a lexeme, a blank and more text, the whole has the lexemes of
-  -- the text, then this lexeme, then others.
   pub typed_lexemes : (text w more : List ℕ) (tokens : List Token) → AreTokens o 0 text tokens → IsLexeme o w
       → (others : List (List ℕ))
       × (lexemes_of (tokens_of o (text ++ 32 ∷ (w ++ 32 ∷ more))) ≡ lexemes_of tokens ++ w ∷ others)

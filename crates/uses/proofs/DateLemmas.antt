@@ -1,4 +1,3 @@
--- Lemmas about the results of the calls for dates.
 use Rattle.duration_str.specs.Rules.{rules_of}
 use Rattle.std.proofs.Common.{chars, Err, inl, inr, List, Ok, Result, ℕ, ℤ}
 use Rattle.std.specs.Int.Signed.{clash_ℤ}

@@ -10,12 +10,9 @@ last_of_pushed last [] t = refl
 last_of_pushed last (s ∷ front) t = last_of_pushed (Some s) front t
 
 module _ (law : PlaceAndKinds) (r : Rules) where
-  -- Terminals begin a sentence exactly if the front that the table finds is all of them.
   begins_whole : (ts : List Terminal) → (BeginsSentence r ts ↔ length ts ≤ front_of r ts)
   begins_whole ts = search (rules, append-nil, length-take, take_all)
 
-  -- If the table allows all terminals of the front one after another, it allows one more exactly if
-  -- it allows that one after the last of them.
   pushed : (last : Option Terminal) (front : List Terminal) (t : Terminal)
       → length front ≤ front_after r last front
       → (IsTrue (allows (expected_after r (last_of last front)) t)
@@ -23,22 +20,17 @@ module _ (law : PlaceAndKinds) (r : Rules) where
   pushed last [] t h = search (rules, cases_Bool)
   pushed last (s ∷ front) t h = search (rules, cases_Bool, le_of_suc-le-suc, suc-le-suc, pushed (Some s) front t)
 
-  -- One more terminal continues the beginning of a sentence exactly if the table allows that
-  -- terminal there.
   pub follows : (front : List Terminal) (t : Terminal) → BeginsSentence r front
       → (IsTrue (allows (expected_after r (last_of None front)) t) ↔ BeginsSentence r (front ++ t ∷ []))
   follows front t b =
       let push = pushed None front t ((begins_whole front).0 b) in
       let begins = begins_whole (front ++ t ∷ []) in (λ a. begins.1 (push.0 a), λ more. push.1 (begins.0 more))
 
-  -- The beginning of a sentence is a sentence if the table lets the text end after its last
-  -- terminal.
   pub ends : (front : List Terminal) (t : Terminal) → BeginsSentence r (front ++ t ∷ [])
       → IsTrue (expected_after r (Some t)).text_end → IsSentence r (front ++ t ∷ [])
   ends front t b h =
       ((law.kinds r (front ++ t ∷ []) _ b).1 refl).end_expected.0 (rw (last_of_pushed None front t) h)
 
-  -- After a number, a unit completes a sentence.
   pub unit_ends : (front : List Terminal) (n : ℕ) (u : TimeUnit) → BeginsSentence r (front ++ number n ∷ [])
       → IsSentence r ((front ++ number n ∷ []) ++ word (Some u) ∷ [])
   unit_ends front n u b =
@@ -46,7 +38,6 @@ module _ (law : PlaceAndKinds) (r : Rules) where
       (rw (last_of_pushed None front (number n)) refl) in
       ends (front ++ number n ∷ []) (word (Some u)) more refl
 
-  -- After an operator, a zero with a unit completes a sentence.
   pub zero_ends : (front : List Terminal) (op : CondUnit) (u : TimeUnit) → BeginsSentence r (front ++ operator op ∷ [])
       → IsSentence r (((front ++ operator op ∷ []) ++ number 0 ∷ []) ++ word (Some u) ∷ [])
   zero_ends front op u b =

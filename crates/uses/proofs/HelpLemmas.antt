@@ -1,5 +1,3 @@
--- The computed answer to a text is the text's only answer, and a word that is near a name is
--- replaced by that name.
 use Rattle.std.proofs.Common.{encode_utf8_all, List, Result, Some, sym, ℕ, ◌∙◌, ◌≡◌}
 use Rattle.duration_str.specs.Laws.{NearWords}
 use Rattle.duration_str.specs.OneLine.{near_name}
@@ -14,6 +12,5 @@ computed_is_only law r text a e = record {
   refused = λ cause. (λ h. e ∙ (law.refused r text cause).1 h, λ is. (law.refused r text cause).0 (sym e ∙ is));
 }
 
--- A word that is near a name is replaced by that name.
 pub replaced : NearWords → (name word : List ℕ) → near_name (encode_utf8_all word) ≡ Some name → IsReplacedBy name word
 replaced law name word near o = law o word name near

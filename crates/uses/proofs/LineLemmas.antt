@@ -9,8 +9,6 @@ chars_line : (bytes : List ℕ) → IsUtf8 bytes → chars (with_line_feed bytes
 unfolding chars
 chars_line bytes utf8 = chars-append bytes (10 ∷ []) utf8
 
--- If the sentences that spell an old text also spell a new one, the new text is read as the old
--- one.
 read_as_before : BlanksFree → (old new : List ℕ)
     → ((r : Rules) (lexemes : List (List ℕ)) → IsSentenceOf r lexemes old → Spells lexemes new) → IsReadAsBefore old new
 read_as_before free old new spells = record {
@@ -18,17 +16,12 @@ read_as_before free old new spells = record {
   cause = λ r lexemes cause s refused. free.cause r old new lexemes cause s (spells r lexemes s) refused;
 }
 
--- ---- A line feed more
-
 pub line_read : BlanksFree → (bytes : List ℕ) → IsUtf8 bytes → IsReadAsBefore (chars bytes)
     (chars (with_line_feed bytes))
 line_read free bytes utf8 =
     rw (chars_line bytes utf8) (read_as_before free (chars bytes) _
     (λ r lexemes s. rw append-nil at (spells_both lexemes [] (chars bytes) (10 ∷ []) s.1 refl)))
 
--- ---- A line feed less
-
--- A line has the tokens of its text.
 line_tokens : (o : Options) (at : ℕ) (text : List ℕ) → tokens_from o at (with_line_feed text) ≡ tokens_from o at text
 line_tokens o at [] = refl
 line_tokens o at (c ∷ []) = elim (cases_Bool (goes_on o c (10 ∷ []))) [

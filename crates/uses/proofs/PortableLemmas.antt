@@ -6,8 +6,6 @@ use Rattle.std.proofs.Math.Bool.{beq}
 use Rattle.duration_str.proofs.Characters.CharacterLemmas.{all_weaker}
 use Rattle.uses.specs.Portable.{HasSameCause, HasSameCauseByAll, HasSameValue, HasSameValueByAll, is_unaffected, IsReadAlike}
 
--- If `b` and `d` are equal, or if the property holds for both values of Bool or for neither, it
--- holds for `b` exactly if it holds for `d`.
 either_way : (P : Bool → Type 0) (b d : Bool) → (beq b d ≡ false → (P true ↔ P false)) → (P b ↔ P d)
 either_way P b d ways = search rules
 
@@ -28,8 +26,8 @@ module _ (o p : Options) (text : List ℕ) (h : IsTrue (list_all (is_unaffected 
   no_chinese : beq o.cn_unit p.cn_unit ≡ false → HasNoChinese text
   no_chinese differ = search (rules, all_weaker, last_passes)
 
-  -- Goes from the options `o`, with the `no_calc` of `p`, to the options `p`. If they differ in
-  -- `lowercase`, that is changed first. If they differ in `cn_unit`, that is changed next.
+  -- Goes from the options `o`, with the `no_calc` of `p`, to the options `p`, and changes
+  -- `lowercase` before `cn_unit`.
   others_changed : (P : Options → Type 0)
       → ((q : Options) → HasNoCapital text → (P (record q { lowercase = true }) ↔ P (record q { lowercase = false })))
       → (beq o.cn_unit p.cn_unit ≡ false → (q : Options)
@@ -60,7 +58,6 @@ module _ (o p : Options) (text : List ℕ) (h : IsTrue (list_all (is_unaffected 
       (λ q plain. (idle.lowercase (rules_with q default_unit) text plain).cause cause)
       (λ differ q. (idle.cn_unit default_unit q text (no_chinese differ)).cause cause))
 
-  -- The value is the same by all rules, if `cn_unit` does not change.
   pub unaffected_has_same_value_by_all : NoCalcAgrees → OptionsIdle → o.cn_unit ≡ p.cn_unit → HasSameValueByAll o p text
   unaffected_has_same_value_by_all agrees idle same r nanos =
       let calc = either_way (λ (b : Bool). IsRead (record r { options = record o { no_calc = b } }) text nanos)
@@ -78,8 +75,6 @@ module _ (o p : Options) (text : List ℕ) (h : IsTrue (list_all (is_unaffected 
       (others_changed (λ (q : Options). IsRefused (record r { options = q }) text cause)
       (λ q plain. (idle.lowercase (record r { options = q }) text plain).cause cause)
       (λ differ q. absurd (equal_not_apart o.cn_unit p.cn_unit same differ)))
-
--- ---- Texts that two rules read alike
 
 module _ (law : OneReading) (r s : Rules) (text : List ℕ) where
   pub both_read : (m n : ℕ) → IsRead r text m → IsRead s text n → (m ≡ n ↔ IsReadAlike r s text)

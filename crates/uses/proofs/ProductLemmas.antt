@@ -6,13 +6,10 @@ use Rattle.duration_str.specs.declared.unit.TimeUnit.{TimeUnit}
 use Rattle.duration_str.specs.declared.unit.TimeUnit.TheVariants.{Year}
 use Rattle.uses.specs.Product.{Multiplies}
 
--- If a part's length is below 2^64, so is its number.
 number_below : (n : ℕ) (u : TimeUnit) → n * nanos_of u < 2 ^ 64 → n < 2 ^ 64
 number_below n Year h = omega arith
 number_below n _ h = omega arith
 
--- `nanos` is the product of the two lengths in seconds, rounded down to nanoseconds, and all three
--- are below 2^64.
 pub record IsProduct (a b nanos : ℕ) : Type 0 where
   pub length : a < 2 ^ 64
   pub other_length : b < 2 ^ 64
@@ -37,7 +34,6 @@ in_order law r text a b nanos m =
       ),
     )
 
--- The text is read as a value exactly if that value is the product.
 pub read_as_product : TwoFactors → (r : Rules) (text : List ℕ) (a b : Part) (nanos : ℕ)
     → MultipliesInEitherOrder r a b text → (IsRead r text nanos ↔ IsProduct (nanos_in a) (nanos_in b) nanos)
 read_as_product law r text a b nanos (inl m) = in_order law r text a b nanos m

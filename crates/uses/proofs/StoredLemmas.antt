@@ -7,19 +7,16 @@ use Rattle.uses.proofs.Common.{Cause, Duration, Fault, Options, Token}
 use Rattle.uses.specs.Stored.{unit_of_first}
 
 module _ (law : OneReading) (o : Options) (bytes : List ℕ) where
-  -- If a text is read as a value, the result is that value.
   pub value_answered : (result : Result Duration Fault) (nanos : ℕ) → Parses (rules_of o) bytes result
       → IsRead (rules_of o) (chars bytes) nanos → IsOkAnd result (λ d. as_nanos d ≡ nanos)
   value_answered (Ok d) nanos parsed read = law.one_value (rules_of o) (chars bytes) (as_nanos d) nanos parsed.read read
   value_answered (Err f) nanos parsed read = absurd (law.not_both (rules_of o) (chars bytes) nanos f.cause read parsed.refused.1)
 
-  -- If a text is refused for a cause, the result is that cause.
   pub cause_answered : (result : Result Duration Fault) (cause : Cause) → Parses (rules_of o) bytes result
       → IsRefused (rules_of o) (chars bytes) cause → IsErrAnd result (λ f. f.cause ≡ cause)
   cause_answered (Ok d) cause parsed r = absurd (law.not_both (rules_of o) (chars bytes) (as_nanos d) cause parsed.read r)
   cause_answered (Err f) cause parsed r = law.one_cause (rules_of o) (chars bytes) f.cause cause parsed.refused.1 r
 
--- The unit of the first number by the older table is the unit that the tokens have today.
 pub first_kept : OneSentence → OlderTexts → (o : Options) (lexemes : List (List ℕ)) (text : List ℕ)
     (tokens : List Token) → IsSentenceOf (older_rules o) lexemes text → tokens_of o text ≡ tokens
     → unit_of_first (map (terminal_of (rules_of o)) (lexemes_of tokens)) ≡ unit_of_first (map (terminal_of (older_rules o)) lexemes)
@@ -27,7 +24,6 @@ first_kept one older o lexemes text tokens was e =
     let s = older.sentence o lexemes text was in
     rw (older.terminals o lexemes text was, (one.tokens (rules_of o) text lexemes s.0).0 s.1, e)
 
--- A name that named a unit by the older table names it today, and the unit has the same length.
 pub named_unit_kept : OlderTexts → (o : Options) (name : List ℕ) (found unit : TimeUnit) (nanos : ℕ) (row : UnitRow)
     → Some found ≡ unit_of_word (rules_of o) name → nanos ≡ nanos_of found
     → unit_of_word (older_rules o) name ≡ Some unit → older_row_of unit ≡ Some row

@@ -1,4 +1,3 @@
--- Lemmas about sums whose parts are exchanged.
 use Rattle.std.proofs.Common.{if◌then◌else◌, List, map, Option, refl, rules, [], ℕ, ◌==◌, ◌∷◌, ◌≡◌}
 use Rattle.std.specs.List.{sum_by}
 use Rattle.duration_str.proofs.Common.{IsRead, Reorder, rules_with, times_in, value_of_term}
@@ -7,7 +6,6 @@ use Rattle.std.proofs.lemmas.List.Sums.{sum_by-cons}
 use Rattle.uses.specs.Sum.{Adds}
 use Rattle.duration_str.specs.declared.unit.TimeUnit.{TimeUnit}
 
--- 1 if this part's length is n, and otherwise 0
 abbrev is_times : ℕ → Part → ℕ
 is_times n part = if nanos_in part == n then 1 else 0
 
@@ -16,7 +14,6 @@ times_in_parts : (n : ℕ) (parts : List Part)
 times_in_parts n [] = refl
 times_in_parts n (part ∷ parts) = rw (sum_by-cons, ← times_in_parts n parts)
 
--- A sum of the same parts in another order is read as the same value.
 pub permuted_read : Reorder → (default_unit : Option TimeUnit) (o : Options) (xs ys : List Part) (a b : List ℕ)
     (nanos : ℕ) → IsPermutation xs ys → let r = rules_with o default_unit in Adds r xs a → Adds r ys b
     → IsRead r a nanos → IsRead r b nanos

@@ -4,8 +4,6 @@ use Rattle.duration_str.proofs.Common.{CanFollow, early, IsRefusedAt, late, Rule
 use Rattle.duration_str.proofs.OnePass.PlaceLemmas.{early_stands, late_stands}
 use Rattle.uses.proofs.Common.{Cause, Expected, Syntax}
 
--- A syntax fault is at the place after the front, and its kinds are those that can follow the
--- front. No other fault of a text is a syntax fault.
 pub refused_at : (r : Rules) (at : ℕ) (front rest : List Terminal) (cause : Cause) (place : ℕ)
     (expected : Expected)
     → IsRefusedAt r at front rest cause → cause ≡ Syntax place expected

@@ -25,11 +25,9 @@ pub record IsCanonical (style : Style) (text key : List ℕ) : Type 0 where
   pub no_other : (default_unit : Option TimeUnit) (o : Options) (other : ℕ)
       → IsRead (rules_with o default_unit) key other → other ≡ nanos
 
--- The fault has this text, and a cause for which the text is refused.
 abbrev pub Refuses : List ℕ → Fault → Type 0
 Refuses text fault = (fault.text.now ≡ text) × IsRefused (rules_of off) (chars text) fault.cause
 
--- By these rules the text is read as the value in `Ok`, or refused for the cause in `Err`.
 abbrev pub IsAnswerTo : Rules → List ℕ → Result Duration Cause → Type 0
 IsAnswerTo r text (Ok d) = IsRead r text (as_nanos d)
 IsAnswerTo r text (Err cause) = IsRefused r text cause

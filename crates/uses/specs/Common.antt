@@ -1,4 +1,3 @@
--- Exports names that several contracts and definitions use. It declares nothing.
 pub use Rattle.duration_str.specs.Answer.{allows}
 pub use Rattle.duration_str.specs.Dates.{IsCivil, IsCivilDay, IsInRange, IsOutOfRange}
 pub use Rattle.duration_str.specs.Grammar.{IsSentenceOf, Terminal, terminal_of, word}

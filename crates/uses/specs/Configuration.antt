@@ -13,7 +13,6 @@ IsConfigured (string text) (Err error) = (cause : Cause) × IsRefused (rules_of 
 IsConfigured _ (Ok d) = ⊥
 IsConfigured _ (Err error) = IsErrorOf (NotText false) error
 
--- The value is a text that is refused as an overflow.
 pub record Overflows (value : Data) : Type 0 where
   pub text : List ℕ
   pub place : Option ℕ

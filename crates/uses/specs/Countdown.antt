@@ -12,14 +12,11 @@ use Rattle.duration_str.specs.Reading.{IsRead}
 use Rattle.duration_str.specs.Rules.{rules_with}
 use Rattle.duration_str.specs.Units.{unit_lengths}
 
--- at most two parts, and no unit shorter than a second
 abbrev pub coarse : Format
 coarse = record whole_format { units = down_to Second ALL; parts = 2 }
 
--- The text shows the time `shown`, which is not more than the time that is left, and has at most
--- two parts. If the time that is left fits into the format, that time is shown exactly. If `shown`
--- is below 2^64 nanoseconds, the text is read as `shown`, under every choice of options and with
--- each default unit or none. And `shown` prints as the same text.
+-- The text shows the time `shown`, which is not more than the time that is left, in at most two
+-- parts. If the time that is left fits into the format, that time is shown.
 pub record IsShown (left : ℕ) (text : List ℕ) (shown : ℕ) : Type 0 where
   pub never_more : shown ≤ left
   pub few : (counts : List ℕ) × IsGreatestBreakdown unit_lengths shown counts × (part_count counts ≤ 2)

@@ -2,7 +2,6 @@
 use Rattle.std.specs.Prelude.{◌≡◌, ℕ, ℤ, List, Result, IsOkAnd, IsErrAnd, chars}
 use Rattle.uses.specs.Common.{Cause, OutOfRange, Fault, off, IsInRange, IsOutOfRange, IsRead, IsRefused, rules_of}
 
--- The fault has these bytes and this cause.
 abbrev pub IsFaultOf : List ℕ → Cause → Fault → Type 0
 IsFaultOf bytes cause fault = (fault.text.now ≡ bytes) × (fault.cause ≡ cause)
 

@@ -3,7 +3,6 @@ use Rattle.std.specs.Prelude.{◌≡◌, ℕ, List, ◌↔◌, Result, Ok, Err}
 use Rattle.duration_str.specs.Laws.{IsAdvised}
 use Rattle.uses.specs.Common.{Duration, as_nanos, Options, Cause, IsRead, IsRefused, Rules}
 
--- the answer, with the duration in nanoseconds
 abbrev pub in_nanos : Result Duration Cause → Result ℕ Cause
 in_nanos (Ok d) = Ok (as_nanos d)
 in_nanos (Err cause) = Err cause

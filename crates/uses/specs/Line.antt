@@ -2,7 +2,6 @@
 use Rattle.std.specs.Prelude.{◌≡◌, ◌≢◌, ℕ, List, ◌++◌, ◌⊎◌, codes}
 use Rattle.uses.specs.Common.{Cause, IsSentenceOf, IsRead, IsRefused, Rules}
 
--- the text and a line feed
 abbrev pub with_line_feed : List ℕ → List ℕ
 with_line_feed text = text ++ codes "\n"
 

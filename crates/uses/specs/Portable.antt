@@ -20,8 +20,6 @@ abbrev pub HasSameValue : Options → Options → List ℕ → Type 0
 HasSameValue o p text = (default_unit : Option TimeUnit) (nanos : ℕ)
     → (IsRead (rules_with o default_unit) text nanos ↔ IsRead (rules_with p default_unit) text nanos)
 
--- With each default unit or none, the text is refused for the same cause under both choices, or
--- under neither.
 abbrev pub HasSameCause : Options → Options → List ℕ → Type 0
 HasSameCause o p text = (default_unit : Option TimeUnit) (cause : Cause)
     → (IsRefused (rules_with o default_unit) text cause ↔ IsRefused (rules_with p default_unit) text cause)
@@ -32,12 +30,9 @@ abbrev pub HasSameValueByAll : Options → Options → List ℕ → Type 0
 HasSameValueByAll o p text = (r : Rules) (nanos : ℕ)
     → (IsRead (record r { options = o }) text nanos ↔ IsRead (record r { options = p }) text nanos)
 
--- By all rules, with any table of units, the text is refused for the same cause under both choices,
--- or under neither.
 abbrev pub HasSameCauseByAll : Options → Options → List ℕ → Type 0
 HasSameCauseByAll o p text = (r : Rules) (cause : Cause)
     → (IsRefused (record r { options = o }) text cause ↔ IsRefused (record r { options = p }) text cause)
 
--- By both rules the text is read as the same value, or it is read by neither.
 abbrev pub IsReadAlike : Rules → Rules → List ℕ → Type 0
 IsReadAlike r s text = (nanos : ℕ) → (IsRead r text nanos ↔ IsRead s text nanos)

@@ -4,11 +4,9 @@ use Rattle.uses.specs.Common.{Plus, Star, nanos_of, IsSentenceOf, Rules, Term, w
 use Rattle.duration_str.specs.declared.operator.CondUnit.{CondUnit}
 use Rattle.uses.specs.declared.product.Part.{Part}
 
--- the length of a part in nanoseconds
 abbrev pub nanos_in : Part → ℕ
 nanos_in part = part.number * nanos_of part.unit
 
--- the term of a part, after this operator
 abbrev pub term_of_part : CondUnit → Part → Term
 term_of_part op part = record { operator = op; number = part.number; length = nanos_of part.unit }
 
@@ -18,6 +16,5 @@ pub record Multiplies (r : Rules) (first later : Part) (text : List ℕ) : Type 
   pub spells : IsSentenceOf r lexemes text
   pub terms : written_terms r lexemes ≡ term_of_part Plus first ∷ term_of_part Star later ∷ []
 
--- The text multiplies the two parts in one order or the other.
 abbrev pub MultipliesInEitherOrder : Rules → Part → Part → List ℕ → Type 0
 MultipliesInEitherOrder r rate length text = Multiplies r rate length text ⊎ Multiplies r length rate text

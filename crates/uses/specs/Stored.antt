@@ -3,7 +3,6 @@ use Rattle.std.specs.Prelude.{List, ◌∷◌, Option, None}
 use Rattle.duration_str.specs.declared.unit.TimeUnit.{TimeUnit}
 use Rattle.uses.specs.Common.{Terminal, word}
 
--- the unit that a terminal names
 abbrev pub unit_named : Terminal → Option TimeUnit
 unit_named (word u) = u
 unit_named _ = None

@@ -66,7 +66,6 @@ pub fn complete_humantime(text: &str, o: Options) -> Option<Completion>
     }
 }
 
-/// The place of a syntax fault, and what could stand there.
 fn at_place(cause: Cause) -> Option<Completion>
     ensures some { IfSome result (λ c. cause ≡ Syntax c.place c.expected) }
     ensures none { IfNone result ((place : ℕ) (expected : Kinds)

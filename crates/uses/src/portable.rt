@@ -10,13 +10,12 @@ use duration_str::laws::{no_calc_agrees, one_sentence, options_idle};
 use duration_str::{CondUnit, Options, parse_humantime_specialized, parse_nanos};
 
 /// Returns whether a text certainly keeps its value when a program changes its options from
-/// `before` to `after`. If so, both choices read it as the same value, or both refuse it; and if
+/// `before` to `after`. If so, both choices read it as the same value, or both refuse it. If
 /// `no_calc` does not change, they refuse it for the same cause. This holds with each default unit,
 /// and if units are required. If `cn_unit` does not change, it also holds with humantime's units.
-/// The call looks only at the characters. It returns true if the text has none of the characters
-/// that the changed options are about: operators for `no_calc`, ASCII capitals for `lowercase`, and
-/// the Chinese characters of the units for `cn_unit`. If it returns false, the text may keep its
-/// value or not.
+/// The call returns true if the text has none of the characters that the changed options are about:
+/// operators for `no_calc`, ASCII capitals for `lowercase`, and the Chinese characters of the units
+/// for `cn_unit`. Otherwise the text may keep its value or not.
 ///
 /// ```text
 /// let off = Options::off();
@@ -64,14 +63,12 @@ pub fn keeps_value_without_humantime(text: &str, o: Options) -> bool
     }
 }
 
-/// Whether each character means the same under both choices of options.
 fn are_unaffected(text: &str, before: Options, after: Options) -> bool
     ensures { result ≡ list_all (is_unaffected before after) (chars text.now) }
 {
     text.chars().all(|c| is_unaffected(c, before, after))
 }
 
-/// Whether a character means the same under both choices of options.
 fn is_unaffected(c: char, before: Options, after: Options) -> bool
     ensures { result ≡ is_unaffected before after c }
 {
@@ -80,7 +77,6 @@ fn is_unaffected(c: char, before: Options, after: Options) -> bool
         && (before.cn_unit == after.cn_unit || !is_chinese(c))
 }
 
-/// Whether a character is a letter of the Chinese names of units.
 fn is_chinese(c: char) -> bool
     ensures { result ≡ is_chinese c }
 {

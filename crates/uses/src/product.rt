@@ -28,7 +28,6 @@ impl Part {
         self.number.checked_mul(self.unit.nanos())
     }
 
-    /// The length in nanoseconds, which may be 2^64 or more.
     pub(crate) fn wide_nanos(self) -> u128
         ensures { result ≡ nanos_in self }
     {

@@ -66,7 +66,6 @@ pub fn stored_unit(name: &str, o: Options) -> Option<(TimeUnit, u64)>
     Some((unit, unit.nanos()))
 }
 
-/// The unit that a token names.
 fn unit_named(what: What) -> Option<TimeUnit>
     ensures { (terminal : Terminal) → what ≡ what_of terminal → result ≡ unit_named terminal }
 {

@@ -98,7 +98,6 @@ pub fn total_of_humantime(text: &str, other: &str, o: Options) -> Option<u64>
     length.checked_add(other_length)
 }
 
-/// Whether a text has no `*`.
 fn has_no_star(text: &str) -> bool
     ensures { result ≡ list_all (λ c. not (c == 42)) (chars text.now) }
 {

@@ -1,7 +1,6 @@
--- Lemmas about characters: their classes, which exclude one another, their widths and their bytes.
+-- Lemmas about characters: their classes, their widths and their bytes.
 use Rattle.duration_str.proofs.Common.{[], add-zero, ahead, and_from, and_parts, are_of_one_run, arith, Bool, byte_len, chars, chars-nil, chars_past_char, drop, drop_all, drop_more, drop_past_char, encode_ascii, encode_utf8, encode_utf8_all, encodes-chars, false, false_from_ne_true, get_or, is_blank, is_digit, is_unit_letter, IsCharBoundary, IsCharBoundary-past_char, IsTrue, IsUtf8, IsUtf8-drop, leb, len_utf8, length, List, list_all, nat_tests, Options, or_cases, refl, rules, scalar, scalar_cases, scalars, scalars-chars, Stands, suc, sym, true, width, zero, ℕ, ◌&&◌, ◌++◌, ◌+◌, ◌<◌, ◌||◌, ◌∷◌, ◌≡◌, ◌≤◌, ◌⊎◌}
 
--- Characters that pass a test also pass a weaker test.
 pub all_weaker : (p q : ℕ → Bool) (cs : List ℕ) → ((c : ℕ) → p c ≡ true → q c ≡ true) → IsTrue (list_all p cs)
     → IsTrue (list_all q cs)
 all_weaker p q [] weaker h = refl
@@ -24,42 +23,33 @@ pub letter-not_digit : (o : Options) (c : ℕ) → is_unit_letter o c ≡ true �
 letter-not_digit o c e = false_from_ne_true _ (λ t. cc (digit-not_letter o c t))
 
 -- `a`, `b` and `c` say of three characters whether they are digits, and `p`, `q` and `r` whether
--- they are unit letters. If the first two characters are of one run, the third is of one run with
--- both or with neither.
+-- they are unit letters.
 same_class : (a b c p q r : Bool) → (a ≡ true → p ≡ false) → (b ≡ true → q ≡ false) → ((a && b) || (p && q)) ≡ true
     → ((b && c) || (q && r)) ≡ ((a && c) || (p && r))
 same_class a b c p q r h k e = grind arith
 
--- Two characters of one run form runs with the same further characters.
 pub same_run : (o : Options) (c d e : ℕ) → are_of_one_run o c d ≡ true → are_of_one_run o d e ≡ are_of_one_run o c e
 same_run o c d e h = same_class _ _ _ _ _ _ (digit-not_letter o c) (digit-not_letter o d) h
 
 pub run-not_blank : (o : Options) (c d : ℕ) → are_of_one_run o c d ≡ true → is_blank d ≡ false
 run-not_blank o c d h = search (arith, or_cases, digit-not_blank, and_parts, letter-not_blank)
 
--- ---- the table of blanks
-
 abbrev pub blanks_from : ℕ → List Bool → List Bool
 blanks_from i [] = []
 blanks_from i (b ∷ bs) = is_blank i ∷ blanks_from (i + 1) bs
 
--- An entry of a table of blanks says whether its character is a blank.
 pub blank_at : (bs : List Bool) (i j : ℕ) (d : Bool) → j < length bs → bs ≡ blanks_from i bs
     → get_or bs j d ≡ is_blank (i + j)
 blank_at [] i j d lt right = absurd (omega (arith, lt))
 blank_at (b ∷ bs) i zero d lt right = rw add-zero (cc right)
 blank_at (b ∷ bs) i (suc j) d lt right = grind (arith, blank_at bs (i + 1) j d)
 
--- ---- Widths, and the character at a place
-
 not_surrogate : (c : ℕ) → (c < 55296) ⊎ ((57344 ≤ c) × (c < 1114112)) → (leb 55296 c && leb c 57343) ≡ false
 not_surrogate c h = grind (arith, nat_tests)
 
--- the width of a character is the length of its UTF-8
 pub width-scalar : (c : ℕ) → scalar c ≡ true → width c ≡ len_utf8 c
 width-scalar c e = rw (not_surrogate c (scalar_cases c e))
 
--- a character stands at a place if its UTF-8 is there
 pub stands_char : (text rest : List ℕ) (place c : ℕ) → IsUtf8 (drop place text)
     → drop place text ≡ encode_utf8 c ++ rest → Stands text place c
 stands_char text rest place c utf8 begins =
@@ -68,11 +58,9 @@ stands_char text rest place c utf8 begins =
     let is_char = (and_parts (scalar c) (scalars (chars rest)) are_chars).0 in
     record { head = rw (width-scalar c is_char, all, drop_past_char text rest place c begins); bytes = refl }
 
--- at the end no characters are ahead
 pub end_ahead : (text : List ℕ) (place : ℕ) → length text ≤ place → ahead text place ≡ []
 end_ahead text place end = rw (drop_all place text end) chars-nil
 
--- an ASCII character stands at a place if its byte is there
 pub ascii_stands : (text : List ℕ) (place b : ℕ) → IsUtf8 text → IsCharBoundary text place → place < length text
     → b ≡ get_or text place 0 → b < 128 → Stands text place b
 ascii_stands text place b utf8 boundary inside is small =
@@ -80,7 +68,6 @@ ascii_stands text place b utf8 boundary inside is small =
     rw (drop_more text place 0 inside, ← is, encode_ascii b small) in
     stands_char text (drop (place + 1) text) place b (IsUtf8-drop text place utf8 boundary) begins
 
--- the place after a character is the one that the code computes, and is a character boundary
 pub past_stands : (text : List ℕ) (place c : ℕ) → IsUtf8 text → IsCharBoundary text place → Stands text place c
     → (width c ≡ len_utf8 c) × IsCharBoundary text (place + width c)
 past_stands text place c utf8 boundary stands =
@@ -92,7 +79,6 @@ past_stands text place c utf8 boundary stands =
     sym (rw stands.head at (encodes-chars (drop place text) left)) in
     (same, rw same (IsCharBoundary-past_char text (encode_utf8_all rest) place c boundary.0 left begins))
 
--- the width of a character is not 0
 pub width_some : (c : ℕ) → 1 ≤ width c
 width_some c = search (rules)
 

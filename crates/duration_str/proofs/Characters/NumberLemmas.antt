@@ -6,12 +6,8 @@ use Rattle.std.specs.Bool.{then_some}
 use Rattle.std.specs.Result.{result_ok}
 use Rattle.std.specs.Str.Parse.{ParsesUnsigned}
 
--- Digits and the numbers that they write are the same in the definitions and in the standard
--- library.
 pub decimal_digits : IsNumeralModel (λ ds. IsTrue (list_all is_digit ds)) (number_after 0)
 decimal_digits = numerals_by_fold _ (search rules) number_after (search rules)
-
--- ---- more than 19 digits
 
 number_after-is : (n : ℕ) (cs : List ℕ) → number_after n cs ≡ n * 10 ^ length cs + number_of cs
 number_after-is n [] = omega arith
@@ -45,9 +41,6 @@ number_of-others (c ∷ cs) all h =
           omega arith
     ]
 
--- More than 19 digits write a number below 2^64 exactly if only zeros stand before the last 20
--- digits, and the first of these 20 is a zero, or is a one while the number modulo 2^64 is at least
--- 10^19.
 pub long_number : (digits : List ℕ) (low : ℕ) → 19 < length digits → IsTrue (list_all is_digit digits)
     → low ≡ number_of digits % 2 ^ 64 → (let at = length digits - 19 - 1 in
     (are_zeros (take at digits)
@@ -70,17 +63,14 @@ long_number digits low long all same =
     ∙ number_after-is (number_of front * 10 + (first - 48)) last in
     grind (arith, common_steps, number_of-zeros, number_of-others, digits_value_short, decimal_digits, le-ltb)
 
--- Digits are ASCII, so their bytes are their characters.
 pub bytes_of_digits : (bs : List ℕ) → IsUtf8 bs → IsTrue (list_all is_digit (chars bs)) → chars bs ≡ bs
 bytes_of_digits bs utf8 digits =
     let own = encodes-IsAscii (chars bs) (IsAscii-from_digits (chars bs) (decimal_digits.to (chars bs) digits)) in
     sym own ∙ encodes-chars bs utf8
 
--- A number that fits is given by its value modulo 2^64, and any other number is given as `None`.
 pub fitting_number : (n low : ℕ) → low ≡ n % 2 ^ 64 → then_some (fits n) low ≡ u64_from n
 fitting_number n low same = search (rules, cases_lt, lt-ltb, le-ltb)
 
--- the standard library's `parse` gives the number that the digits write, if it is below 2^64
 pub parsed_u64 : {E : Type 0} (bs : List ℕ) (r : Result ℕ E) (parsed : Option ℕ) → IsUtf8 bs → IsNumber (chars bs)
     → ParsesUnsigned 64 10 bs r → parsed ≡ result_ok r → parsed ≡ u64_from (number_of (chars bs))
 parsed_u64 bs r parsed utf8 digits parses is = search (rules, bytes_of_digits, decimal_digits)
@@ -89,7 +79,6 @@ digits_terminal : (r : Rules) (digits : List ℕ) → 0 < length digits → IsTr
     → terminal_of r digits ≡ number (number_of digits)
 digits_terminal r digits some h = search (rules, cond-true)
 
--- The terminal of a number's decimal digits is that number.
 pub decimal_terminal : (r : Rules) (n : ℕ) → n < 2 ^ 64 → terminal_of r (decimal n) ≡ number n
 decimal_terminal r n h =
     search (rules, digits_terminal, decimal_nonempty, digits_decimal, decimal_digits, digits_value-decimal)

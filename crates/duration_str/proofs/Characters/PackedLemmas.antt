@@ -22,15 +22,12 @@ is_wide_letter c = list_any (λ d. d == c) wide_letters
 abbrev is_between : ℕ → ℕ → ℕ → Bool
 is_between first last c = leb first c && leb c last
 
--- whether a character is `M`, a small letter except `z`, or a letter beyond ASCII, as all letters
--- of the units' names are
 abbrev is_name_letter : ℕ → Bool
 is_name_letter c = is_between 97 121 c || (is_between 77 77 c || is_wide_letter c)
 
 abbrev are_name_letters : List ℕ → Bool
 are_name_letters cs = list_all is_name_letter cs
 
--- whether a character is a unit letter under some options
 abbrev is_letter : ℕ → Bool
 is_letter c = is_between 97 122 c || (is_between 65 90 c || is_wide_letter c)
 
@@ -43,23 +40,19 @@ letter_number-below o c = search rules
 letter_number-some : (c : ℕ) → is_letter c ≡ true → 0 < letter_number kept_capitals c
 letter_number-some c h = search rules
 
--- the letter of the names that has this number
 abbrev letter_of : ℕ → ℕ
 letter_of n = if leb n 25 then n + 96 else if n == 39 then 77 else get_or wide_letters (n - 27) 0
 
--- A letter of the names is known by its number, which is not that of `z`.
 name_letter_known : (y : ℕ) → is_name_letter y ≡ true → letter_of (letter_number kept_capitals y) ≡ y
 name_letter_known y k = search rules
 
 name_letter_not_z : (y : ℕ) → is_name_letter y ≡ true → eqb (letter_number kept_capitals y) 26 ≡ false
 name_letter_not_z y k = search rules
 
--- Any other letter has the number of `z`.
 letter_known : (x : ℕ) → is_letter x ≡ true
     → (letter_number kept_capitals x ≡ 26) ⊎ (letter_of (letter_number kept_capitals x) ≡ x)
 letter_known x h = search (rules, cases_Bool, eqb-true)
 
--- a letter with the number of a name's letter is that letter
 letter_number-same : (x y : ℕ) → is_letter x ≡ true → is_name_letter y ≡ true
     → letter_number kept_capitals x ≡ letter_number kept_capitals y → x ≡ y
 letter_number-same x y h k e = elim (letter_known x h) [
@@ -89,8 +82,6 @@ below : (o : Options) (cs : List ℕ) → packed_back o cs < 40 ^ length cs
 below o [] = omega arith
 below o (c ∷ cs) = rw (pow-succ' 40 (length cs)) (omega (arith, below o cs, letter_number-below o c))
 
--- the packed number of a word of at most 12 letters is below 2^64, so computing it modulo 2^64
--- changes nothing
 pub exact : (o : Options) (w : List ℕ) (n : ℕ) → length w ≤ 12 → n ≡ packed_number o w % 2 ^ 64 → n ≡ packed_number o w
 exact o w n h e =
     let pow : 40 ^ length w ≤ 40 ^ 12 = pow-le-pow_right (lit< tt) h in
@@ -109,7 +100,6 @@ same_back (x ∷ xs) (y ∷ ys) h k e =
     omega (arith, letter_number-below kept_capitals x, letter_number-below kept_capitals y, e) in
     cc (letter_number-same x y bx.0 by.0 number, same_back xs ys bx.1 by.1 (omega (arith, number, e)))
 
--- A word with the packed number of a name is that name.
 packed_same : (xs ys : List ℕ) → are_letters xs ≡ true → are_name_letters ys ≡ true
     → packed_number kept_capitals xs ≡ packed_number kept_capitals ys → xs ≡ ys
 packed_same xs ys h k e =
@@ -127,12 +117,10 @@ lower_letter : (o : Options) (c : ℕ) → is_unit_letter o c ≡ true
     → (is_letter c ≡ true) × (is_letter (to_ascii_lowercase c) ≡ true)
 lower_letter o c h = search rules
 
--- a character that stands for a digit is a unit letter, and this is its digit
 pub numbered_letter : (o : Options) (c n : ℕ) → Some n ≡ (if is_unit_letter o c then Some (letter_number o c) else None)
     → (is_unit_letter o c ≡ true) × (n ≡ letter_number o c)
 numbered_letter o c n is = search (rules)
 
--- a character that stands for no digit is no unit letter
 pub unnumbered : (o : Options) (c : ℕ) → None ≡ (if is_unit_letter o c then Some (letter_number o c) else None)
     → is_unit_letter o c ≡ false
 unnumbered o c is = false_from_ne_true _ (λ letter. let some = rw letter at is in absurd cc)
@@ -142,7 +130,6 @@ form_letters : (o : Options) (w : List ℕ) → list_all (is_unit_letter o) w �
 form_letters o [] h = search (rules, cases_Bool)
 form_letters o (c ∷ w) h = search (rules, cases_Bool, and_parts, lower_letter, form_letters o w)
 
--- a word has the packed number of the form that is compared with the names
 form_packed_after : (o : Options) (n : ℕ) (w : List ℕ)
     → packed_number_after o n w ≡ packed_number_after kept_capitals n (comparison_form o w)
 form_packed_after o n [] = search (rules, cases_Bool)
@@ -169,12 +156,10 @@ letters_in_table : (table : UnitTable) (u : TimeUnit) → list_all are_name_lett
 letters_in_table Own = all_units (λ u. list_all are_name_letters (all_names_in (table_of Own) u)) refl
 letters_in_table Humantime = all_units (λ u. list_all are_name_letters (all_names_in (table_of Humantime) u)) refl
 
--- each Chinese name has a Chinese character
 chinese_in_table : (table : UnitTable) (u : TimeUnit) → list_all (list_any is_chinese) (table_of table u).chinese ≡ true
 chinese_in_table Own = all_units (λ u. list_all (list_any is_chinese) (table_of Own u).chinese) refl
 chinese_in_table Humantime = all_units (λ u. list_all (list_any is_chinese) (table_of Humantime u).chinese) refl
 
--- without `cn_unit` a word of unit letters has no Chinese character, so it is no Chinese name
 no_chinese_letter : (o : Options) (w : List ℕ) → o.cn_unit ≡ false → list_all (is_unit_letter o) w ≡ true
     → list_any is_chinese (comparison_form o w) ≡ false
 no_chinese_letter o [] off e = search (rules, cases_Bool)
@@ -195,8 +180,6 @@ named_by_number table o w u letters =
 
 -- ---- words that name no unit
 
--- A word names no unit if all names pass a test that the form in which it is compared with them
--- fails.
 pub no_name : (r : Rules) (w : List ℕ) (test : List ℕ → Bool)
     → list_all (λ u. list_all test (all_names_in r.table u)) units ≡ true
     → test (comparison_form r.options w) ≡ false → None ≡ unit_of_word r w
@@ -208,8 +191,6 @@ no_name r w test all fails =
     )) in
     simp unnamed
 
--- a word has only unit letters exactly if the form that is compared with the names has only unit
--- letters
 letters_form : (o : Options) (w : List ℕ)
     → list_all (is_unit_letter o) (comparison_form o w) ≡ list_all (is_unit_letter o) w
 letters_form o w = elim (cases_Bool o.lowercase) [ inl on ↦ rw on refl | inr off ↦ rw off (lower w) ]
@@ -226,7 +207,6 @@ named_letters : (o : Options) (w : List ℕ) (u : TimeUnit) → is_named (rules_
 named_letters o w u h =
     search (rules, or_cases, and_parts, named_passes, letters_of_names, letters_form)
 
--- A word with a character that is no unit letter names no unit.
 pub no_letter_name : (o : Options) (w : List ℕ) → list_all (is_unit_letter o) w ≡ false → None ≡ unit_of_word (rules_of o) w
 no_letter_name o w other =
     let unnamed = λ (u : TimeUnit). false_from_ne_true (is_named (rules_of o) w u) (λ t. cc (other, named_letters o w u t)) in
@@ -249,8 +229,6 @@ pub no_long_name : (settings : Settings) (w : List ℕ) → 12 < byte_len w → 
 no_long_name settings w long = no_name (meaning_of settings) w (λ name. leb (byte_len name) 12) (short_names settings.table)
     (false_from_ne_true _ (λ t. absurd (omega (arith, leb-true _ _ t, byte_len-form settings.options w))))
 
--- if the packed numbers of all names pass a test, a number that fails the test is not that of a
--- name
 absent : (test : ℕ → Bool) (n : ℕ) → test n ≡ false → (ns : List (List ℕ))
     → list_all (λ name. test (packed_number kept_capitals name)) ns ≡ true → list_any (packs_to n) ns ≡ false
 absent test n fails [] all = refl
@@ -269,11 +247,9 @@ no_packed_name table test n fails all =
     (all_units (λ v. list_all (λ name. test (packed_number kept_capitals name)) (all_names_in table v)) all u) in
     simp none
 
--- the settings with the library's own table, and with the second as the default unit
 abbrev pub own_settings : Options → Settings
 own_settings o = record { table = Own; default_unit = Some Second; options = o }
 
--- a word of unit letters names the unit of its packed number
 pub unit_by_number : (settings : Settings) (w : List ℕ) → list_all (is_unit_letter settings.options) w ≡ true
     → unit_of_word (meaning_of settings) w ≡ unit_of_packed (table_of settings.table) (packed_number settings.options w)
 unfolding unit_of_packed
@@ -285,12 +261,10 @@ unit_by_number settings w letters = search (rules, named_by_number)
 abbrev pub slot : ℕ → ℕ → ℕ → ℕ
 slot bits spread n = n * spread % 2 ^ 64 / 2 ^ (64 - bits)
 
--- each slot holds the index of one of `count` names
 pub slot_below : (slots : List ℕ) (count i : ℕ) → i < length slots
     → list_all (λ s. leb (suc s) count) slots ≡ true → get_or slots i 0 < count
 slot_below slots count i less all = search (rules, leb-true, list_all_at)
 
--- the unit of a name in the table stands at the same index of the table of units
 pub name_found : (table : Table) (names : List ℕ) (found_units : List TimeUnit) (i m n : ℕ) (u : TimeUnit)
     → map (unit_of_packed table) names ≡ map Some found_units → i < length names → get_or names i m ≡ n
     → Some (get_or found_units i u) ≡ unit_of_packed table n

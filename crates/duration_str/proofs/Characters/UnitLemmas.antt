@@ -1,8 +1,5 @@
--- Lemmas about units and their names: as bytes and as characters, and with ASCII capitals.
 use Rattle.duration_str.proofs.Common.{[], all_names, all_names_in, and_parts, arith, Bool, byte_len, bytes_eq, bytes_eq-Decides, cases_Bool, common_steps, comparison_form, encode_utf8_all, encodes, encodes_same, eqb, eqb-true, false, find, inl, inr, is_in_row, is_named, leb-true, length, List, list_all, list_any, list_any-append, map, map-append, name_part, nanos_of, not, Options, or_cases, refl, row_of, rules, rules_of, same_from_decides, Some, Style, Table, TimeUnit, to_ascii_lowercase, true, unit_of_word, units, ℕ, ⊤, ◌||◌, ◌∷◌, ◌≡◌, ◌≤◌, leb, ltb, ltb-true, ◌<◌, ◌^◌}
 use lib.Utf8.{encode}
-
--- ---- A property that each unit in the table has is a property of every unit
 
 abbrev pub Each : (TimeUnit → Type 0) → List TimeUnit → Type 0
 Each P [] = ⊤
@@ -16,18 +13,14 @@ each_passes test [] h = tt
 each_passes test (u ∷ us) h =
     let parts = and_parts (test u) (list_all test us) h in (parts.0, each_passes test us parts.1)
 
--- If each unit of the table passes a test, every unit does.
 pub all_units : (test : TimeUnit → Bool) → list_all test units ≡ true → (u : TimeUnit) → test u ≡ true
 all_units test h = each_unit (λ u. test u ≡ true) (each_passes test units h)
 
--- With the library's own table, each unit is longer than 0, and shorter than 2^60 nanoseconds.
 pub some_length : (u : TimeUnit) → 1 ≤ nanos_of u
 some_length u = leb-true 1 (nanos_of u) (all_units (λ v. leb 1 (nanos_of v)) refl u)
 
 pub each_short : (u : TimeUnit) → nanos_of u < 2 ^ 60
 each_short u = ltb-true (nanos_of u) (2 ^ 60) (all_units (λ v. ltb (nanos_of v) (2 ^ 60)) refl u)
-
--- ---- ASCII capitals in UTF-8
 
 lower_encode_big : (c : ℕ) → 128 ≤ c → map to_ascii_lowercase (encode c) ≡ encode c
 unfolding encode
@@ -40,13 +33,8 @@ pub lower-encodes : (cs : List ℕ) → map to_ascii_lowercase (encodes cs) ≡ 
 lower-encodes [] = refl
 lower-encodes (c ∷ cs) = rw (map-append to_ascii_lowercase (encode c) (encodes cs), lower-encode c, lower-encodes cs)
 
--- ---- names
-
--- texts are equal exactly if their bytes in UTF-8 are
 pub bytes_eq-encodes : (v w : List ℕ) → bytes_eq (encodes v) (encodes w) ≡ bytes_eq v w
 bytes_eq-encodes v w = search (rules, bytes_eq-Decides, same_from_decides, encodes_same)
-
--- ---- a name belongs to one unit
 
 -- whether the two units share no name
 abbrev are_apart : TimeUnit → TimeUnit → Bool
@@ -64,7 +52,6 @@ unit_by_length = each_unit (λ u. find (λ v. eqb (nanos_of v) (nanos_of u)) uni
 same_length : (u v : TimeUnit) → nanos_of u ≡ nanos_of v → u ≡ v
 same_length u v e = let found = rw e at (unit_by_length u) in cc (unit_by_length v)
 
--- If all names pass a test, a word that is one of them passes it.
 pub named_passes : (test : List ℕ → Bool) (w : List ℕ) (names : List (List ℕ)) → list_all test names ≡ true
     → list_any (bytes_eq w) names ≡ true → test w ≡ true
 named_passes test w [] all h = cc
@@ -84,8 +71,6 @@ module _ (o : Options) where
         cc (named_passes other (comparison_form o w) (all_names u) apart (among_all row_of o w u h), among_all row_of o w v k)
   ]
 
-  -- If the list has a unit that the word names, that unit is found, since the word names no other
-  -- unit.
   found_only : (w : List ℕ) (us : List TimeUnit) (u : TimeUnit) → is_named (rules_of o) w u ≡ true
       → list_any (λ v. eqb (nanos_of v) (nanos_of u)) us ≡ true → find (is_named (rules_of o) w) us ≡ Some u
   found_only w [] u h there = cc
@@ -97,18 +82,15 @@ module _ (o : Options) where
     ]
   ]
 
-  -- if a word is a name of a unit, it names that unit
   pub named_unit : (w : List ℕ) (u : TimeUnit) → is_named (rules_of o) w u ≡ true → unit_of_word (rules_of o) w ≡ Some u
   named_unit w u h =
       found_only w units u h (all_units (λ u. list_any (λ v. eqb (nanos_of v) (nanos_of u)) units) refl u)
-
--- ---- The printed names: their lengths in bytes
 
 pub length_name : (u : TimeUnit) → length (encode_utf8_all (row_of u).printed) ≡ byte_len (row_of u).printed
 unfolding lib.Utf8.encode
 length_name = each_unit (λ u. length (encode_utf8_all (row_of u).printed) ≡ byte_len (row_of u).printed) assumption
 
--- the greatest length of what follows a count of the unit in a style
+-- the greatest length in bytes of what follows a count of the unit in a style
 abbrev pub name_len : Style → TimeUnit → ℕ
 name_len style u = byte_len (name_part style false u)
 

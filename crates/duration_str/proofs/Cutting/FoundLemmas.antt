@@ -1,12 +1,9 @@
--- The token at a place is found by cutting the text from a character before the place.
+-- Lemmas about finding the token at a place without cutting the whole text.
 use Rattle.duration_str.proofs.Common.{[], add-zero, add_assoc, ap, arith, Bor, byte_len, cases_Bool, chars, chars-append, common_steps, drop, drop-drop, false, goes_on, IsCharBoundary, IsSliceOf, IsUtf8, IsUtf8-take, length-take-le, List, map, nat_tests, None, Option, option_map, Options, refl, rules, rules_of, Some, sym, take, take-append-drop, Token, token_at, tokens_from, tokens_of, true, width, with_first_character, ℕ, ◌++◌, ◌+◌, ◌-◌, ◌<◌, ◌==◌, ◌∙◌, ◌∷◌, ◌≡◌, ◌≤◌}
 use Rattle.duration_str.proofs.Characters.CharacterLemmas.{run-not_blank, width_some}
 use Rattle.duration_str.proofs.OnePass.PlaceLemmas.{byte_count}
 use Rattle.duration_str.proofs.Cutting.SortLemmas.{first_token}
 
--- ---- Characters that end before the place
-
--- A token that starts before the place does not change which token is found there.
 elsewhere : (place at : ℕ) (cs : List ℕ) (tokens : List Token) → at < place
     → token_at place (record { start = at; characters = cs } ∷ tokens) ≡ token_at place tokens
 elsewhere place at cs tokens before = let no : (at == place) ≡ false = grind (arith, nat_tests) in rw no refl
@@ -20,13 +17,10 @@ module _ (o : Options) where
       let (cs, rest, is, _) = first_token (rules_of o) (at + width c) d more (run-not_blank o c d e) in
       rw is (elsewhere place at _ rest (omega (arith, before)) ∙ sym (elsewhere place (at + width c) cs rest before))
 
-  -- A character that ends before the place can be left out without changing which token is found
-  -- there.
   without_first : (at place c : ℕ) (text : List ℕ) → at + width c < place
       → token_at place (tokens_from o at (c ∷ text)) ≡ token_at place (tokens_from o (at + width c) text)
   without_first at place c text before = search (rules, cases_Bool, without_joined)
 
-  -- Several first characters that end before the place can be left out too.
   without_front : (at place : ℕ) (front text : List ℕ) → (0 < byte_len front → at + byte_len front < place)
       → token_at place (tokens_from o at (front ++ text)) ≡ token_at place (tokens_from o (at + byte_len front) text)
   without_front at place [] text before = rw add-zero
@@ -35,9 +29,6 @@ module _ (o : Options) where
       without_first at place c (front ++ text) (omega (arith, before some))
       ∙ rw add_assoc at (without_front (at + width c) place front text (λ _. omega (arith, before some)))
 
--- ---- Tokens that start `by` bytes later
-
--- the same token, `by` bytes later
 abbrev later_token : ℕ → Token → Token
 later_token by token = record { start = by + token.start; characters = token.characters }
 
@@ -46,20 +37,15 @@ join_later : (by at c : ℕ) (tokens : List Token)
     ≡ map (later_token by) (with_first_character at c tokens)
 join_later by at c tokens = search rules
 
--- If a text starts `by` bytes later, its tokens start `by` bytes later.
 tokens_later : (o : Options) (by at : ℕ) (text : List ℕ)
     → tokens_from o (by + at) text ≡ map (later_token by) (tokens_from o at text)
 tokens_later o by at [] = refl
 tokens_later o by at (c ∷ text) = search (arith, cases_Bool, join_later, tokens_later o by (at + width c) text)
 
--- If all tokens start `by` bytes later, a token that was found at a place is found `by` bytes after
--- that place.
 found_later : (by place : ℕ) (tokens : List Token)
     → token_at (by + place) (map (later_token by) tokens) ≡ option_map (later_token by) (token_at place tokens)
 found_later by place [] = refl
 found_later by place (token ∷ tokens) = search (rules, found_later by place tokens)
-
--- ---- The token at the place, cut from a boundary before it
 
 found_after : (o : Options) (bs : List ℕ) (from place : ℕ) → IsUtf8 bs → IsCharBoundary bs from → from ≤ place
     → (0 < from → from < place)

@@ -8,36 +8,31 @@ use Rattle.duration_str.proofs.Characters.NumberLemmas.{decimal_digits}
 use Rattle.std.proofs.lemmas.Str.Parse.{digits_value_short}
 use Rattle.duration_str.proofs.Characters.PackedLemmas.{own_settings, exact, no_letter_name, no_long_name, unit_by_number}
 
--- ---- how many times a character was looked at
+-- ---- looks
 
--- the looks so far and the characters ahead add up to all characters. If the first character ahead
--- was looked at, it is counted in both, so there is one more
+-- If the first character ahead was looked at, it is counted among the looks and among the
+-- characters ahead.
 abbrev pub IsCounted : List ℕ → ℕ → ℕ → Option ℕ → Type 0
 IsCounted text place looks head =
     looks + length (ahead text place) ≡ length (chars text) + (if is_some head then 1 else 0)
 
--- a text has at most as many characters as bytes
 chars_short : (text : List ℕ) → IsUtf8 text → length (chars text) ≤ length text
 chars_short text utf8 = omega (arith, length-le-encodes (chars text), ap length (encodes-chars text utf8))
 
 module _ {text : List ℕ} (place looks : ℕ) where
-  -- the looks so far and the characters after the head add up to all characters
   pub counted_past : (c : ℕ) → Stands text place c → IsCounted text place looks (Some c)
       → looks + length (ahead text (place + width c)) ≡ length (chars text)
   counted_past c stands counted = omega (arith, ap length stands.head, counted)
 
-  -- one more look fits into 64 bits
   pub looks_fit : IsUtf8 text → length text < 2 ^ 63 → looks + length (ahead text place) ≡ length (chars text)
       → looks + 1 < 2 ^ 64
   looks_fit utf8 short counted = omega (arith, chars_short text utf8, short, counted)
 
-  -- there are at most as many looks as characters
   pub looks_most : (head : Option ℕ) → ForSome head (Stands text place) → IsCounted text place looks head
       → looks ≤ length (chars text)
   looks_most None stands counted = omega (arith, counted)
   looks_most (Some c) stands counted = omega (arith, ap length (stands c refl).head, counted)
 
-  -- there are at least as many looks as characters before the place
   pub looks_least : (head : Option ℕ) → IsUtf8 text → IsCharBoundary text place → IsCounted text place looks head
       → length (chars (take place text)) ≤ looks
   looks_least head utf8 boundary counted =
@@ -50,7 +45,6 @@ module _ {text : List ℕ} (place looks : ℕ) where
 abbrev pub passes_none : {test : ℕ → Bool} {text : List ℕ} {place : ℕ} → Passes test text place place
 passes_none = record { characters = []; between = record { cut = refl; bytes = omega arith }; all = refl }
 
--- two runs that pass a test, one after the other, are one run that passes it
 abbrev passes_on : {test : ℕ → Bool} {text : List ℕ} {place at next : ℕ} → Passes test text place at
     → Passes test text at next → Passes test text place next
 passes_on {test} passed more = record {
@@ -62,7 +56,6 @@ passes_on {test} passed more = record {
   all = list_all-append test passed.characters more.characters ∙ and_from _ _ passed.all more.all;
 }
 
--- if the next character passes the test, it joins the run
 abbrev pub passes_head : {test : ℕ → Bool} {text : List ℕ} {place at next c : ℕ} → Passes test text place at
     → StandsAt text at next c → test c ≡ true → Passes test text place next
 passes_head {c = c} passed stands e = passes_on passed (record {
@@ -107,7 +100,6 @@ length-le-byte_len : (cs : List ℕ) → length cs ≤ byte_len cs
 length-le-byte_len [] = omega arith
 length-le-byte_len (c ∷ cs) = omega (arith, width_some c, length-le-byte_len cs)
 
--- the slice between two places has the characters between them
 pub chars_between : {text cs slice : List ℕ} {place next : ℕ} → Between text place next cs
     → slice ≡ slice_range text place next → IsUtf8 slice → chars slice ≡ cs
 chars_between {text} {cs} {slice} {place} {next} between is utf8 =
@@ -120,7 +112,6 @@ chars_between {text} {cs} {slice} {place} {next} between is utf8 =
 
 -- ---- numbers and words
 
--- a number with at most 19 digits is below 2^64
 pub short_number : {text : List ℕ} {place next low : ℕ} (taken : TakesDigits text place next low) → next ≤ place + 19
     → Some low ≡ u64_from (number_of taken.run.characters)
 short_number taken short =
@@ -129,15 +120,12 @@ short_number taken short =
     let less = digits_value_short decimal_digits cs 19 taken.run.all few in
     search rules
 
--- The characters from `place` to `next` are unit letters, and `unit` is the unit that they name by
--- these rules.
 pub record TakesWord (r : Rules) (text : List ℕ) (place next : ℕ) (unit : Option TimeUnit) : Type 0 where
   pub run : Passes (is_unit_letter r.options) text place next
   pub named : unit ≡ unit_of_word r run.characters
 
 module _ (settings : Settings) {text : List ℕ} {place next value : ℕ}
     (taken : TakesLetters settings.options text place next value) where
-  -- a word of at most 12 bytes names the unit of its packed number
   pub short_word : {unit : Option TimeUnit} → next - place ≤ 12 → unit ≡ unit_of_packed (table_of settings.table) value
       → TakesWord (meaning_of settings) text place next unit
   short_word short found =
@@ -148,7 +136,6 @@ module _ (settings : Settings) {text : List ℕ} {place next value : ℕ}
         named = rw (found, exact settings.options cs value few taken.number, unit_by_number settings cs taken.run.all);
       }
 
-  -- a word of more than 12 bytes names no unit
   pub long_word : 12 < next - place → TakesWord (meaning_of settings) text place next None
   long_word long = record {
     run = taken.run;
@@ -157,7 +144,6 @@ module _ (settings : Settings) {text : List ℕ} {place next value : ℕ}
 
 -- ---- a word by itself
 
--- The word begins with unit letters whose packed number modulo 2^64 is n, and `rest` follows them.
 pub record Packs (o : Options) (word rest : List ℕ) (n : ℕ) : Type 0 where
   pub letters : List ℕ
   pub whole : word ≡ letters ++ rest
@@ -176,7 +162,6 @@ packs_more {o} {c = c} passed letter more = record {
   number = omega (arith, more, passed.number, packed_after-push o 0 passed.letters c);
 }
 
--- a word of at most 12 bytes whose characters are all packed names the unit of its packed number
 pub packs_unit : {o : Options} {word : List ℕ} {n : ℕ} {unit : Option TimeUnit} → Packs o word [] n → byte_len word ≤ 12
     → unit ≡ unit_of_packed row_of n → unit ≡ unit_of_word (rules_of o) word
 packs_unit {o} {word} {n} packed short found =
@@ -186,7 +171,6 @@ packs_unit {o} {word} {n} packed short found =
     found ∙ ap (unit_of_packed row_of) (exact o cs n few packed.number) ∙ sym (unit_by_number (own_settings o) cs packed.all)
     ∙ ap (unit_of_word (rules_of o)) same
 
--- a word with a character that is no unit letter names no unit
 pub packs_other : {o : Options} {word rest : List ℕ} {c n : ℕ} → Packs o word (c ∷ rest) n → is_unit_letter o c ≡ false
     → None ≡ unit_of_word (rules_of o) word
 packs_other packed other = search (rules, no_letter_name, list_all-append)
@@ -201,7 +185,6 @@ token_taken {text} {cs} {place} {next} o between is_lexeme ends =
     let step : place + 0 + byte_len cs ≡ next = omega (arith, between.bytes) in
     rw (between.cut, tokens_step o place [] cs (ahead text next) refl is_lexeme ends, step, add-zero place)
 
--- if nothing is ahead, the place is the end of the text
 pub place_at_end : (text : List ℕ) (place : ℕ) → IsUtf8 text → IsCharBoundary text place → ahead text place ≡ []
     → place ≡ length text
 place_at_end text place utf8 boundary nothing =

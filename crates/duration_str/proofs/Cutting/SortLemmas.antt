@@ -6,8 +6,6 @@ use Rattle.duration_str.proofs.Cutting.PositionLemmas.{TakesWord}
 
 -- ---- The possible terminals of a list of characters
 
--- A property of characters and their terminal holds if it holds in each of five cases: no
--- characters, digits, unit letters, an operator, and anything else.
 pub terminal_cases : (r : Rules) (P : List ℕ → Terminal → Type 0) → P [] other
     → ((c : ℕ) (cs : List ℕ) → IsTrue (list_all is_digit (c ∷ cs)) → P (c ∷ cs) (number (number_of (c ∷ cs))))
     → ((c : ℕ) (cs : List ℕ) → IsTrue (list_all (is_unit_letter r.options) (c ∷ cs))
@@ -37,8 +35,6 @@ terminal_cases r P none digits letters sign rest (c ∷ cs) = by_tests cs _ _ re
 -- ---- Runs of digits and of unit letters
 
 module _ (o : Options) where
-  -- Characters that pass a test are a lexeme, if no blank passes the test and any two characters
-  -- that pass it are of one run.
   run_is_lexeme : (test : ℕ → Bool) → ((c : ℕ) → test c ≡ true → is_blank c ≡ false)
       → ((c d : ℕ) → test c ≡ true → test d ≡ true → are_of_one_run o c d ≡ true)
       → (c : ℕ) (cs : List ℕ) → IsTrue (list_all test (c ∷ cs)) → IsLexeme o (c ∷ cs)
@@ -56,7 +52,6 @@ module _ (o : Options) where
 pub sign_sorts : (op : Option CondUnit) → sign_sort op ≡ sort_of (operator_or_other op)
 sign_sorts op = grind arith
 
--- The first character of a lexeme determines the sort of its terminal.
 pub lexeme_sort : (r : Rules) (c : ℕ) (cs : List ℕ) → IsLexeme r.options (c ∷ cs)
     → sort_at r.options c ≡ sort_of (terminal_of r (c ∷ cs))
 lexeme_sort r c cs p = elim (cases_Bool (is_digit c)) [
@@ -69,8 +64,6 @@ lexeme_sort r c cs p = elim (cases_Bool (is_digit c)) [
 
 -- ---- Tokens by their first character
 
--- The characters from `place` to `next` are a token, which is as long as possible and stands for
--- this terminal.
 pub record StandsToken (r : Rules) (text : List ℕ) (place next : ℕ) (terminal : Terminal) : Type 0 where
   pub characters : List ℕ
   pub between : Between text place next characters
@@ -78,13 +71,10 @@ pub record StandsToken (r : Rules) (text : List ℕ) (place next : ℕ) (termina
   pub ends : EndsRun r.options characters (ahead text next)
   pub is_terminal : terminal ≡ terminal_of r characters
 
--- A run ends where the characters that pass a test end, if no character that passes the test is of
--- one run with a character that fails it.
 run_ends : (o : Options) (test : ℕ → Bool) → ((c d : ℕ) → test c ≡ true → test d ≡ false → are_of_one_run o c d ≡ false)
     → (c : ℕ) (rest : List ℕ) → test c ≡ true → Stops test rest → goes_on o c rest ≡ false
 run_ends o test apart c rest e stops = search rules
 
--- If such a run is a lexeme whose terminal is `meaning`, it is a token with this terminal.
 run_stands : {text cs : List ℕ} {place next at c : ℕ} (r : Rules) (test : ℕ → Bool) (meaning : List ℕ → Terminal)
     → ((c d : ℕ) → test c ≡ true → test d ≡ false → are_of_one_run r.options c d ≡ false)
     → ((d : ℕ) (ds : List ℕ) → IsTrue (list_all test (d ∷ ds))
@@ -108,7 +98,6 @@ word_stands r taken stops stands e =
     let no_digit = letter-not_digit r.options d (and_parts (is_unit_letter r.options d) _ all).0 in
     (letters_are_lexeme r.options d ds all, rw (no_digit, all))) taken.run.between taken.run.all stops stands e).1
 
--- a character that is no blank, no digit and no unit letter is a token by itself
 pub sign_stands : {text : List ℕ} {place next c : ℕ} (r : Rules) → StandsAt text place next c → is_blank c ≡ false
     → is_digit c ≡ false → is_unit_letter r.options c ≡ false
     → StandsToken r text place next (operator_or_other (operator_of c))
@@ -123,7 +112,6 @@ sign_stands {text} {next = next} {c = c} r stands b e f = record {
 -- ---- the class of a character, given its sort
 
 module _ (o : Options) where
-  -- A token is a number exactly if its first character is a digit.
   pub digit_sort : (c : ℕ) → is_digit c ≡ is_number (Some (sort_at o c))
   digit_sort c = search rules
 
@@ -145,8 +133,6 @@ module _ (o : Options) where
 
 -- ---- the token that starts with a character
 
--- A text that starts with a character other than a blank starts with a token, whose sort is that of
--- the character.
 pub first_token : (r : Rules) (at c : ℕ) (text : List ℕ) → is_blank c ≡ false
     → (cs : List ℕ) × (rest : List Token)
     × (tokens_from r.options at (c ∷ text) ≡ record { start = at; characters = cs } ∷ rest) ×

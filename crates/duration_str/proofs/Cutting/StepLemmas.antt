@@ -10,15 +10,11 @@ use Rattle.duration_str.proofs.Cutting.TokenLemmas.{blanks_no_token}
 pub keeps_on : {s m t : Tokens} → KeepsInput s m → KeepsInput m t → KeepsInput s t
 keeps_on kept later = record { text = later.text ∙ kept.text; options = later.options ∙ kept.options }
 
--- ---- what is ahead
-
--- After a step past the character ahead, fewer characters are ahead.
 pub fewer_ahead : {s t : Tokens} {c : ℕ} → KeepsInput s t
     → ForSome s.head (StandsAt (source s) (cut_place s) (cut_place t)) → s.head ≡ Some c
     → length (ahead (source t) (cut_place t)) < length (ahead (source s) (cut_place s))
 fewer_ahead kept past is = simp (kept.text, (past _ is).head) (omega arith)
 
--- skipping the blanks from s to t leaves the same tokens
 pub looks_ahead : {s t : Tokens} (sort : Option TokenStart) → KeepsInput s t
     → Passes is_blank (source s) (cut_place s) (cut_place t) → IsAhead t sort → LooksAhead s t sort
 looks_ahead {s} sort kept blanks ahead = search (rules, blanks_no_token)
@@ -26,8 +22,6 @@ looks_ahead {s} sort kept blanks ahead = search (rules, blanks_no_token)
 pub none_left : (s : Tokens) → IsAhead s None → (tokens_left s ≡ []) × (cut_place s ≡ length (source s))
 none_left s end = search (rules, IsUtf8-had, place_at_end)
 
--- If a token of a sort is ahead, the first token that is left starts at the place, and its terminal
--- has that sort.
 pub first_left : (r : Rules) (s : Tokens) (sort : TokenStart) → IsAhead s (Some sort)
     → (cs : List ℕ) × (rest : List Token) × (tokens_left s ≡ record { start = cut_place s; characters = cs } ∷ rest)
     × (sort ≡ sort_of (terminal_of (rules_at r s) cs))
@@ -37,13 +31,10 @@ first_left r s sort h =
     let (cs, rest, is, sort_is) = first_token (rules_at r s) (cut_place s) h.character after h.not_blank in
     (cs, rest, rw stands.head is, rw h.is_sort sort_is)
 
--- ---- the next token
-
 takes_token : {r : Rules} {s t : Tokens} {terminal : Terminal} → KeepsInput s t
     → StandsToken (rules_at r s) (source s) (cut_place s) (cut_place t) terminal → TakesToken r s t terminal
 takes_token {s = s} kept token = search (rules, token_taken)
 
--- The slice from s to t has the digits that were taken.
 pub digits_between : {s t : Tokens} {low start : ℕ} {slice : List ℕ} → KeepsInput s t
     → (taken : TakesDigits (source s) (cut_place s) (cut_place t) low) → start ≡ cut_place s
     → slice ≡ slice_range (source t) start (cut_place t) → IsUtf8 slice → slice ≡ taken.run.characters
@@ -67,7 +58,6 @@ takes_word r {s} h kept taken stops =
     let letter = letter_of_sort (options_of s) h.character h.is_sort in
     takes_token kept (word_stands (rules_at r s) taken (simp kept.text at stops) (s.some h.character h.is_head) letter)
 
--- a step past a sign (`IsSign`) takes it as a token
 pub takes_sign : {s t : Tokens} (r : Rules) (sort : TokenStart) → IsSign sort → IsAhead s (Some sort) → KeepsInput s t
     → ((c : ℕ) → s.head ≡ Some c → StandsAt (source s) (cut_place s) (cut_place t) c)
     → TakesTokenWith r s t (λ terminal. sort ≡ sort_of terminal)
@@ -80,7 +70,6 @@ pub other_what : (terminal : Terminal) → Other ≡ sort_of terminal → whats.
 other_what other e = refl
 other_what _ e = absurd cc
 
--- the token that was taken is the next one that the iterator returns
 pub takes_terminal : {s m t : Tokens} {terminal : Terminal} (x : RustToken) → KeepsInput s m
     → tokens_left m ≡ tokens_left s → TakesToken (rules_of (options_of m)) m t terminal
     → x.start ≡ cut_place m → x.text.now ≡ slice_range (source t) x.start (cut_place t)

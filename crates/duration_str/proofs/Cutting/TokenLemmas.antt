@@ -18,7 +18,6 @@ module _ (o : Options) where
   same_end c d [] h = refl
   same_end c d (e ∷ rest) h = same_run o c d e h
 
-  -- A lexeme is one token, if its run ends with it.
   run_token : (at c : ℕ) (cs rest : List ℕ) → IsLexeme o (c ∷ cs) → EndsRun o (c ∷ cs) rest
       → tokens_from o at (c ∷ (cs ++ rest))
       ≡ record { start = at; characters = c ∷ cs } ∷ tokens_from o (at + byte_len (c ∷ cs)) rest
@@ -29,7 +28,6 @@ module _ (o : Options) where
       (same_end c d rest run ∙ e) in
       rw (p.0, run, later, add_assoc)
 
-  -- The tokens of a text are its first token and the tokens of the rest.
   pub tokens_step : (at : ℕ) (blanks cs rest : List ℕ) → IsBlank blanks → IsLexeme o cs → EndsRun o cs rest
       → tokens_from o at (blanks ++ (cs ++ rest))
       ≡ record { start = at + byte_len blanks; characters = cs }
@@ -40,13 +38,10 @@ module _ (o : Options) where
   tokens_computed at text [] h = ap (tokens_from o at) (sym (append-nil text)) ∙ blanks_no_token o at text [] h
   tokens_computed at text (p ∷ ps) h = search (rules, tokens_step, tokens_computed (p.start + byte_len p.characters) h.0 ps h.2)
 
-  -- A text has only one list of tokens.
   pub tokens_once : (at : ℕ) (text : List ℕ) (ps qs : List Token) → AreTokens o at text ps → AreTokens o at text qs
       → ps ≡ qs
   tokens_once at text ps qs h k = sym (tokens_computed at text ps h) ∙ tokens_computed at text qs k
 
-  -- If the character c is of one run with the first token of the text after it, it belongs to that
-  -- token.
   joined_in_front : (at c d : ℕ) (text blanks cs rest : List ℕ) (start : ℕ) (ps : List Token) → is_blank c ≡ false
       → are_of_one_run o c d ≡ true → IsBlank blanks → d ∷ text ≡ blanks ++ (cs ++ rest)
       → start ≡ (at + width c) + byte_len blanks → IsLexeme o cs → EndsRun o cs rest

@@ -1,5 +1,3 @@
--- If a format has all units and at least as many parts as there are units, the counts are those of
--- the breakdown.
 use Rattle.duration_str.proofs.Common.{[], AllParts, ap, arith, counts_of, counts_within, Format, length, List, printed_counts, refl, sym, text_within, unit_lengths, whole_format, ℕ, ◌∙◌, ◌∷◌, ◌≡◌, ◌≤◌}
 use Rattle.duration_str.specs.Format.{chosen, is_in}
 use Rattle.duration_str.proofs.LawProofs.GreatestBreakdown.{greatest_breakdown_holds}

@@ -1,4 +1,3 @@
--- Two texts that one sentence spells have the same value, or are refused for the same cause.
 use Rattle.duration_str.proofs.Common.{BlanksFree}
 use Rattle.duration_str.proofs.Sentences.AnswerLemmas.{read_sentence, refused_sentence, sentence_refused}
 

@@ -1,9 +1,7 @@
--- Printed in full and in one style, two durations have the same text exactly if they are equal.
 use Rattle.duration_str.proofs.Common.{EqualTexts, FitsDuration, IsPrintedIn, List, off, rules_of, Second, Some, Style, sum_of, terminals_of, terms_of, ℕ, ◌≡◌}
 use Rattle.duration_str.proofs.Sentences.SpellingLemmas.{sentence_terminals}
 use Rattle.duration_str.proofs.Printer.PrintingLemmas.{counts_are, duration_lexemes, duration_sum, printed_is_sum}
 
--- A text that is printed in full determines its duration, which is the sum of the text's terms.
 printed_sum : (style : Style) (nanos : ℕ) (text : List ℕ) → FitsDuration nanos → IsPrintedIn style nanos text
     → sum_of (terms_of (rules_of off) (terminals_of (rules_of off) text)) ≡ nanos
 printed_sum style nanos text h p =

@@ -1,4 +1,3 @@
--- The counts by quotients and remainders are the greatest breakdown, and no other counts are.
 use Rattle.duration_str.proofs.Common.{[], arith, cases_lt, counts_of, div-add-mod', GreatestBreakdown, inl, inr, IsBefore, IsGreatestBreakdown, length, List, refl, rules, unit_lengths, weighted_sum, ℕ, ◌%◌, ◌*◌, ◌+◌, ◌/◌, ◌∷◌, ◌≡◌, ◌≤◌, ◌⊎◌}
 
 -- Each length is above 0, and the last is 1.
@@ -7,27 +6,22 @@ EndInOne [] = ⊥
 EndInOne (l ∷ []) = l ≡ 1
 EndInOne (l ∷ m ∷ lengths) = (1 ≤ l) × EndInOne (m ∷ lengths)
 
--- The counts times their lengths add up to the duration.
 counts_whole : (lengths : List ℕ) (nanos : ℕ) → EndInOne lengths
     → weighted_sum lengths (counts_of lengths nanos) ≡ nanos
 counts_whole [] nanos h = absurd h
 counts_whole (l ∷ []) nanos h = rw h (omega arith)
 counts_whole (l ∷ m ∷ lengths) nanos h = omega (arith, counts_whole (m ∷ lengths) (nanos % l) h.1)
 
--- There is one count for each length.
 counts_each : (lengths : List ℕ) (nanos : ℕ) → length (counts_of lengths nanos) ≡ length lengths
 counts_each [] nanos = refl
 counts_each (l ∷ lengths) nanos = rw (counts_each lengths (nanos % l))
 
--- No breakdown has a greater first count than the quotient.
 first_within : (m l rest nanos : ℕ) → 1 ≤ l → m * l + rest ≡ nanos → m ≤ nanos / l
 first_within m l rest nanos h e = search rules
 
--- If the first count is the quotient, the other counts add up to the remainder.
 rest_same : (m l rest nanos : ℕ) → m * l + rest ≡ nanos → m ≡ nanos / l → rest ≡ nanos % l
 rest_same m l rest nanos e s = let product = rw s at e in omega (arith, div-add-mod' nanos l)
 
--- If the only length is 1, its count is the number of nanoseconds.
 only_count : (n l nanos : ℕ) → l ≡ 1 → n * l + 0 ≡ nanos → n ≡ nanos / l
 only_count n l nanos h e = let one = rw h at e in rw h (omega arith)
 
@@ -66,7 +60,6 @@ not_before_each_other (m ∷ ms) (n ∷ ns) (inl h) (inr k) = let e : n ≡ m = 
 not_before_each_other (m ∷ ms) (n ∷ ns) (inr h) (inl k) = let e : m ≡ n = h.0 in omega arith
 not_before_each_other (m ∷ ms) (n ∷ ns) (inr h) (inr k) = not_before_each_other ms ns h.1 k.1
 
--- A duration has only one greatest breakdown.
 pub one_greatest : (lengths : List ℕ) (nanos : ℕ) (a b : List ℕ) → IsGreatestBreakdown lengths nanos a
     → IsGreatestBreakdown lengths nanos b → a ≡ b
 one_greatest lengths nanos a b h k = search (rules, not_before_each_other)

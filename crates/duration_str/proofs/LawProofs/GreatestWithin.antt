@@ -1,4 +1,3 @@
--- The counts in a format by quotients and remainders are the greatest.
 use Rattle.duration_str.proofs.Common.{[], arith, cases_Bool, cases_lt, common_steps, counts_within, div-add-mod', false, Format, inl, inr, IsBefore, IsGreatestWithin, length, lengths_within, List, map, nanos_of, nat_tests, part_count, refl, rules, TimeUnit, weighted_sum, ℕ, ⊤, ◌%◌, ◌*◌, ◌+◌, ◌-◌, ◌/◌, ◌==◌, ◌∷◌, ◌≡◌, ◌≤◌, ◌⊎◌}
 use Rattle.duration_str.proofs.Characters.UnitLemmas.{some_length}
 use Rattle.duration_str.proofs.LawProofs.GreatestBreakdown.{not_before_each_other}
@@ -84,7 +83,6 @@ pub greatest_within : (format : Format) (nanos : ℕ)
     (counts_within (lengths_within format) format.parts nanos)
 greatest_within format nanos = search (rules, lengths_positive, within_each, within_few, within_greatest, within_sum)
 
--- The greatest counts in a format are those by quotients and remainders.
 pub one_greatest_within : (format : Format) (nanos : ℕ) (counts : List ℕ)
     → IsGreatestWithin (lengths_within format) format.parts nanos counts
     → counts ≡ counts_within (lengths_within format) format.parts nanos

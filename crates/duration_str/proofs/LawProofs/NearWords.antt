@@ -1,5 +1,3 @@
--- A word for which a name is advised names no unit, and the advised name names the unit that people
--- mean by the word.
 use Rattle.duration_str.proofs.Common.{[], all_names, ap, arith, Bool, bytes_eq, cases_Bool, codes, comparison_form, encode_utf8_all, find, inl, inr, List, list_all, list_any, map, MicroSecond, Month, not, Options, refl, row_of, rules, rules_of, Some, sym, TimeUnit, to_ascii_lowercase, true, unit_of_word, units, ℕ, ◌∙◌, ◌∷◌, ◌≡◌}
 use Rattle.std.specs.Option.{option_map}
 use Rattle.duration_str.specs.Laws.{IsAdvised, NearWords}
@@ -21,7 +19,6 @@ among_same : (word : List ℕ) (words : List (List ℕ))
 among_same word [] = refl
 among_same word (w ∷ words) = rw (bytes_eq-encodes word w, among_same word words) refl
 
--- whether a name, in small letters, is one of the words that are near the unit's names
 abbrev is_near : TimeUnit → List ℕ → Bool
 is_near u name = list_any (bytes_eq (map to_ascii_lowercase name)) (near_words u)
 

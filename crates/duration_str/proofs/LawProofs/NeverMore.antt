@@ -1,4 +1,3 @@
--- A text printed in a format stands for the greatest duration that fits into the format.
 use Rattle.duration_str.proofs.Common.{[], ap, arith, counts_of, counts_within, div-eq_of_lt-le, Format, IsGreatestBreakdown, IsRead, last_unit, le-div_iff_mul-le, le-mul_of_pos_right, length, lengths_within, List, map, map-append, nanos_of, nat_lt, NeverMore, nonzero, Option, Options, part_count, refl, rules, rules_with, shorter_units, subst, sym, terminal_of, text_within, TimeUnit, units, units_within, weighted_sum, Year, zero-div, zero_unit, ℕ, ◌%◌, ◌*◌, ◌++◌, ◌+◌, ◌/◌, ◌<◌, ◌^◌, ◌∙◌, ◌∷◌, ◌≡◌, ◌≤◌}
 use Rattle.duration_str.proofs.Characters.UnitLemmas.{some_length}
 use Rattle.std.specs.Prelude.{filter}
@@ -13,7 +12,6 @@ use Rattle.duration_str.proofs.Sentences.AnswerLemmas.{sum_read}
 abbrev shown : List ℕ → ℕ → ℕ → ℕ
 shown lengths most nanos = weighted_sum lengths (counts_within lengths most nanos)
 
--- A remainder below the length stays the remainder.
 divided : (c l rest : ℕ) → rest < l → ((c * l + rest) / l ≡ c) × ((c * l + rest) % l ≡ rest)
 divided c l rest h = search (rules, div-eq_of_lt-le)
 
@@ -21,13 +19,11 @@ none_shown : (lengths : List ℕ) (most nanos : ℕ) → most ≡ 0 → shown le
 none_shown [] most nanos none = refl
 none_shown (l ∷ lengths) most nanos none = search (rules, none_shown lengths most nanos none)
 
--- The counts of the duration that is printed are the printed ones, and after them only 0.
 own_counts : (lengths more : List ℕ) (most nanos : ℕ) → ArePositive lengths
     → counts_of (lengths ++ more) (shown lengths most nanos) ≡ counts_within lengths most nanos ++ counts_of more 0
 own_counts [] more most nanos h = refl
 own_counts (l ∷ lengths) more most nanos h = search (rules, none_shown, within_sum, own_counts lengths more, divided)
 
--- The duration that is printed has the same printed counts as the given one.
 within_again : (lengths : List ℕ) (most nanos : ℕ) → ArePositive lengths
     → counts_within lengths most (shown lengths most nanos) ≡ counts_within lengths most nanos
 within_again [] most nanos h = refl
@@ -44,7 +40,7 @@ sum_of_front [] counts others e = refl
 sum_of_front (l ∷ lengths) [] others e = absurd (omega arith)
 sum_of_front (l ∷ lengths) (n ∷ counts) others e = rw (sum_of_front lengths counts others (omega arith))
 
--- ---- Each duration up to the given one that fits into the format is at most the printed one
+-- ---- Durations that fit into the format
 
 most_within : (lengths more : List ℕ) (most between nanos : ℕ) → ArePositive lengths → between ≤ nanos
     → part_count (counts_of (lengths ++ more) between) ≤ most
@@ -62,7 +58,6 @@ ends_each : (smallest : TimeUnit) → EndsIn smallest
 ends_each Year = omega arith
 ends_each u = omega arith
 
--- The units, followed by all shorter ones, end with the nanosecond.
 end_in_one : (us : List TimeUnit) (u : TimeUnit) (lengths : List ℕ) → EndInOne (nanos_of (last_unit u us) ∷ lengths)
     → EndInOne (nanos_of u ∷ map nanos_of us ++ lengths)
 end_in_one [] u lengths h = h

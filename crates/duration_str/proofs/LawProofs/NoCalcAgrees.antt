@@ -1,4 +1,3 @@
--- For a text without operators, `no_calc` changes neither whether it is accepted nor its value.
 use Rattle.duration_str.proofs.Common.{false, true, [], and_parts, Bool, HasNoOperator, is_operator, IsRead, IsSentence, List, map, NoCalcAgrees, not, number, operator, Rules, Some, Terminal, terminal_of, with_no_calc, word, ℕ, ⊤, ◌∷◌, rules}
 use Rattle.duration_str.proofs.Cutting.SortLemmas.{terminal_cases}
 use Rattle.duration_str.proofs.Sentences.SpellingLemmas.{EachPasses, lexemes_pass}
@@ -17,7 +16,6 @@ no_operator_terminals r (w ∷ lexemes) h =
     (λ plain. more) (λ c cs digits plain. more) (λ c cs letters plain. more)
     (λ c op _ _ sign plain. cc (rw sign at (and_parts (not (is_operator c)) _ plain).0)) (λ c cs _ _ plain. more) w h.0
 
--- A sentence without operators is a sentence both with and without `no_calc`.
 sentence_for : (r : Rules) (a b : Bool) (terminals : List Terminal) → HaveNoOperator terminals
     → IsSentence (with_no_calc r a) terminals → IsSentence (with_no_calc r b) terminals
 sentence_for r a b (number n ∷ []) h s = s

@@ -1,10 +1,6 @@
--- The law `older_texts`: a sentence over the units without the quarter is a sentence over all
--- units.
 use Rattle.duration_str.proofs.Common.{[], allows, ap, append-nil, ap₂, cases_Bool, Cause, CondUnit, expected_after, inl, inr, is_digit, is_unit_letter, IsRead, IsRefused, IsRefusedAt, IsSentence, IsSentenceOf, IsTrue, List, list_all, map, nanos_of, None, number, older_rules, older_table, OlderTexts, operator, Option, Options, Plus, refl, rules, rules_of, sentence_fault, Some, Terminal, terminal_of, terms_after, terms_of, TimeUnit, unit_of_word, WasRefused, word, written_terms, ℕ, ⊤, ◌∙◌, ◌∷◌, ◌≡◌}
 use Rattle.duration_str.proofs.Sentences.AnswerLemmas.{sentence_refused}
 use Rattle.duration_str.proofs.Sentences.FrontLemmas.{AreAllowed, sentence_allowed}
-
--- ---- Terminals and terms
 
 -- Each unit among these terminals still has its length.
 abbrev KeepLengths : List Terminal → Type 0
@@ -18,8 +14,6 @@ same_word : (o : Options) (last : Option Terminal) (w : List ℕ) (found : Optio
     → (word found ≡ word (unit_of_word (rules_of o) w)) × KeepLengths (word found ∷ terminals)
 same_word o last w found terminals e a k = search rules
 
--- A lexeme that the table of terminals allows at its place stands for the same terminal as before,
--- with a unit of the same length.
 same_terminal : (o : Options) (last : Option Terminal) (w : List ℕ) (terminals : List Terminal)
     → IsTrue (allows (expected_after (older_rules o) last) (terminal_of (older_rules o) w)) → KeepLengths terminals
     → (terminal_of (older_rules o) w ≡ terminal_of (rules_of o) w)
@@ -63,8 +57,6 @@ module _ (o : Options) (lexemes : List (List ℕ)) (text : List ℕ) (was : IsSe
   older_terms_same =
       same_terms o Plus (map (terminal_of (older_rules o)) lexemes) older.1 ∙ ap (terms_of (rules_of o)) older.0
 
--- ---- Values and causes
-
 older_value : (o : Options) (text : List ℕ) (nanos : ℕ) → IsRead (older_rules o) text nanos → IsRead (rules_of o) text nanos
 older_value o text nanos was =
     let same = older_terms_same o was.lexemes text was.spells in record {
@@ -74,7 +66,6 @@ older_value o text nanos was =
       value = rw same at was.value;
     }
 
--- A sentence whose evaluation has this fault is refused for it, at whatever byte the sentence ends.
 refused_at : (o : Options) (place : ℕ) (terminals : List Terminal) (cause : Cause) → IsSentence (rules_of o) terminals
     → sentence_fault o (terms_of (rules_of o) terminals) ≡ Some cause
     → IsRefusedAt (rules_of o) place terminals [] cause

@@ -1,4 +1,3 @@
--- A text has only one list of tokens, and at most one sentence spells it.
 use Rattle.duration_str.proofs.Common.{arith, List, OneCut, OneSentence, Spells, subst, sym, ℕ, ◌∙◌}
 use Rattle.duration_str.proofs.Cutting.TokenLemmas.{tokens_are, tokens_once}
 use Rattle.duration_str.proofs.Sentences.SpellingLemmas.{sentence_tokens, tokens_spell}

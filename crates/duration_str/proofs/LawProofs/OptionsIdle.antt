@@ -1,16 +1,13 @@
--- `lowercase` changes nothing for a text without ASCII capitals, and with the library's own table
--- `cn_unit` changes nothing for a text without the Chinese characters of the units.
 use Rattle.duration_str.proofs.Common.{[], and_parts, answer, answer_at, arith, Bool, byte_len, bytes_eq, Cause, drop, false, front_of, goes_on, HasNoCapital, HasNoChinese, if◌then◌else◌, is_chinese, is_unit_letter, IsIdle, IsRead, IsRefused, IsTrue, List, list_all, list_any, map, not, not-true, off, Option, Options, OptionsIdle, refl, Result, Rules, rules, rules_with, start_after, sym, take, Terminal, terminal_of, terminals_of, TimeUnit, to_ascii_lowercase, Token, tokens_from, tokens_of, true, unit_of_word, width, with_lowercase, ℕ, ◌+◌, ◌∙◌, ◌∷◌, ◌≡◌}
 use Rattle.duration_str.proofs.Characters.UnitLemmas.{named_passes}
 use Rattle.duration_str.proofs.Sentences.SpellingLemmas.{EachPasses, lexemes_pass, tokens_spell}
 use Rattle.duration_str.proofs.Sentences.AnswerLemmas.{answer_read, answer_refused}
 
--- ---- Options that give the same tokens and terminals give the same answer
+-- ---- Options that agree on the grammar, the tokens and the terminals
 
 abbrev under : Rules → Options → Rules
 under r o = record r { options = o }
 
--- Under both choices of options the text has the same grammar, tokens and terminals.
 record AreAlike (r : Rules) (o p : Options) (text : List ℕ) : Type 0 where
   grammar : o.no_calc ≡ p.no_calc
   tokens : tokens_of o text ≡ tokens_of p text
@@ -41,10 +38,8 @@ idle : (choice : Bool → Rules) (text : List ℕ) → answer (choice true) text
     → IsIdle choice text
 idle choice text same = search (rules, read_alike, refused_alike)
 
--- ---- Options that agree on characters and words give the same tokens and terminals
+-- ---- Options that agree on characters and words
 
--- Both choices of options agree on which characters that pass the test are unit letters, and on the
--- units of words of such characters.
 record Agree (r : Rules) (test : ℕ → Bool) (o p : Options) : Type 0 where
   letter : (c : ℕ) → test c ≡ true → is_unit_letter o c ≡ is_unit_letter p c
   unit : (w : List ℕ) → IsTrue (list_all test w) → unit_of_word (under r o) w ≡ unit_of_word (under r p) w
@@ -97,7 +92,6 @@ form_not_chinese lowercase w h = search (rules, all_lower_not_chinese)
 abbrev has_chinese : List ℕ → Bool
 has_chinese name = not (list_all (λ c. not (is_chinese c)) name)
 
--- A word without Chinese characters is no name that has one.
 other_names : (w : List ℕ) (names : List (List ℕ)) → HasNoChinese w → IsTrue (list_all has_chinese names)
     → list_any (bytes_eq w) names ≡ false
 other_names w names h k = search (rules, named_passes)

@@ -1,4 +1,3 @@
--- The parts that a breakdown returns, and what they leave, add up to the duration.
 use Rattle.duration_str.proofs.Common.{[], ap, arith, List, PartsAndRest, TimeUnit, ℕ, ◌++◌, ◌+◌, ◌∙◌, ◌∷◌, ◌≡◌, rules}
 use Rattle.duration_str.specs.Breakdown.{nanos_left, parts_left, sum_of_parts, YieldsPart}
 use Rattle.duration_str.specs.declared.breakdown.Breakdown.{Breakdown}

@@ -1,5 +1,3 @@
--- The table (`expected_after`) says what can follow the beginning of a sentence, and finds the
--- front.
 use Rattle.duration_str.proofs.Common.{[], allows, CondUnit, expected_after, IsTrue, last_of, List, None, operator, Option, PlaceAndKinds, Rules, Some, Terminal, true, true≢false, ◌∷◌, ◌≡◌, ◌≢◌, rules}
 use Rattle.duration_str.proofs.Sentences.FrontLemmas.{AreAllowed, begins_allowed, expected_by_table, no_operators, one_front, table_front}
 

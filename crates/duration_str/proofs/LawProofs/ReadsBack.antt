@@ -1,5 +1,3 @@
--- Printed in full, a duration below 2^64 nanoseconds is read back as itself, and the text of any
--- other overflows.
 use Rattle.duration_str.proofs.Common.{[], arith, counts_of, drop, early, early_fault, eqb-true, false, false_from_ne_true, FitsDuration, IsPrintedIn, IsRead, IsRefused, le-ltb, List, lt-ltb, map, nanos_of, None, nonzero, number, Option, Options, Overflow, Plus, ReadsBack, refl, rules, rules_with, Some, Style, sum_of, sym, Terminal, terminal_of, terms_of, TimeUnit, unit_lengths, units, word, written_terms, Year, ℕ, ◌*◌, ◌+◌, ◌/◌, ◌<◌, ◌==◌, ◌^◌, ◌∙◌, ◌∷◌, ◌≡◌, ◌≤◌}
 use Rattle.duration_str.proofs.Sentences.AnswerLemmas.{EachFits, sentence_refused, sum_fits_each, sum_overflows, sum_read}
 use Rattle.duration_str.proofs.Sentences.SumLemmas.{terms_long}
@@ -8,7 +6,6 @@ use Rattle.duration_str.proofs.Printer.PrintingLemmas.{duration_lexemes, duratio
 abbrev years : ℕ → ℕ
 years nanos = nanos / nanos_of Year
 
--- the terminals that follow the years in a printed text
 abbrev after_years : ℕ → List Terminal
 after_years nanos = terminals (nonzero (drop 1 units) (drop 1 (counts_of unit_lengths nanos)))
 

@@ -1,10 +1,8 @@
--- Sums whose terms have the same values, maybe in another order, have the same value.
 use Rattle.duration_str.proofs.Common.{[], arith, cases_Bool, cond-true, eq-eqb, eqb-true, find, if◌then◌else◌, List, map, refl, Reorder, Some, sum_by, sum_by-cons, sum_of, Term, times_in, value_of_term, ℕ, ◌+◌, ◌==◌, ◌∷◌, ◌≡◌, ◌≤◌}
 use Rattle.std.specs.Set.{remove_key}
 use Rattle.std.proofs.lemmas.Map.Made.{sum_by-remove_key}
 use Rattle.duration_str.proofs.Sentences.AnswerLemmas.{read_below, read_sum, sum_read}
 
--- 1 if x is n, and otherwise 0
 abbrev is_times : ℕ → ℕ → ℕ
 is_times n x = if x == n then 1 else 0
 
@@ -16,8 +14,6 @@ found : (n : ℕ) (xs : List ℕ) → 1 ≤ times_in n xs → find (λ x. x == n
 found n [] h = absurd (omega arith)
 found n (x ∷ xs) h = grind (arith, cases_Bool, eqb-true, found n xs)
 
--- If a list has the number n, the sum of `f` over the list is `f n` plus the sum over the list with
--- one n taken away.
 one_taken : (f : ℕ → ℕ) (n : ℕ) (xs : List ℕ) → 1 ≤ times_in n xs
     → sum_by f xs ≡ f n + sum_by f (remove_key (λ x. x == n) xs)
 one_taken f n xs h = let taken = rw (found n xs h) at (sum_by-remove_key f (λ x. x == n) xs) in omega arith

@@ -1,12 +1,8 @@
--- If `no_calc` is off, two accepted texts without `*`, joined by a plus, have the sum of their
--- values, or are refused as an overflow.
 use Rattle.duration_str.proofs.Common.{[], AllPlus, and_from, append_assoc, arith, cases_Bool, codes, CondUnit, false, HasNoStar, inl, inr, IsBlank, IsRead, IsSentence, List, list_all-append, map, map-append, nat_tests, not, number, operator, Plus, refl, Rules, rules, Some, Spells, sum_of, SumOfTexts, Term, Terminal, terminal_of, terms_after, terms_of, word, written_terms, ℕ, ◌++◌, ◌+◌, ◌==◌, ◌∙◌, ◌∷◌, ◌≡◌, common_steps}
 use Rattle.duration_str.proofs.Cutting.SortLemmas.{terminal_cases}
 use Rattle.duration_str.proofs.Sentences.SpellingLemmas.{begins_with, EachPasses, lexemes_pass}
 use Rattle.duration_str.proofs.Sentences.SumLemmas.{evaluate_fits, sum-append}
 use Rattle.duration_str.proofs.Sentences.AnswerLemmas.{EachFits, fitting_sum_read, IsSumOf, read_sum, sum_overflows}
-
--- ---- The joined lexemes spell the joined text
 
 spells_after_blanks : (lexemes : List (List ℕ)) (s t : List ℕ) → IsBlank s → Spells lexemes t
     → Spells lexemes (s ++ t)
@@ -19,8 +15,6 @@ pub spells_both : (xs ys : List (List ℕ)) (s t : List ℕ) → Spells xs s →
 spells_both [] ys s t h k = spells_after_blanks ys s t h k
 spells_both (x ∷ xs) ys s t h k =
     begins_with h.blanks (h.rest ++ t) h.blank (rw h.parts (simp append_assoc)) (spells_both xs ys h.rest t h.is_rest k)
-
--- ---- The joined lexemes are a sentence, with the terms of both texts
 
 plus_terminal : (r : Rules) → terminal_of r (codes "+") ≡ operator Plus
 plus_terminal r = elim (cases_Bool r.options.cn_unit) [ inl e ↦ rw e | inr e ↦ rw e ]
@@ -44,8 +38,6 @@ module _ (r : Rules) where
   both_terms op (number n ∷ word (Some u) ∷ number m ∷ more) ys s = rw (both_terms Plus (number m ∷ more) ys s)
   both_terms op _ ys s = absurd s
 
--- ---- A text without `*` has no operator other than plus
-
 module _ (r : Rules) where
   lexemes_plus : (lexemes : List (List ℕ)) → EachPasses (λ c. not (c == 42)) lexemes
       → AllPlus (map (terminal_of r) lexemes)
@@ -65,8 +57,6 @@ both_plus : (xs ys : List Terminal) → AllPlus xs → AllPlus ys → AllPlus (x
 both_plus [] ys h k = (refl, k)
 both_plus (operator op ∷ xs) ys h k = (h.0, both_plus xs ys h.1 k)
 both_plus (x ∷ xs) ys h k = both_plus xs ys h k
-
--- ---- The joined text
 
 both_fit : (xs ys : List Term) → EachFits xs → EachFits ys → EachFits (xs ++ ys)
 both_fit [] ys h k = k
@@ -89,7 +79,6 @@ joined_terms : (r : Rules) (lexemes others : List (List ℕ)) → IsSentence r (
     → written_terms r (joined_lexemes lexemes others) ≡ written_terms r lexemes ++ written_terms r others
 joined_terms r lexemes others s = search (rules, both_terms r, joined_terminals r)
 
--- The text is a sum whose terms are each below 2^64 and add up to `nanos`, as two joined texts are.
 record IsJoined (r : Rules) (text : List ℕ) (nanos : ℕ) : Type 0 where
   lexemes : List (List ℕ)
   sum : IsSumOf r lexemes text

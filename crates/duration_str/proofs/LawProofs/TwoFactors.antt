@@ -1,17 +1,12 @@
--- A sentence that multiplies two terms is accepted exactly if both numbers, both terms and their
--- product are below 2^64, also with the terms exchanged.
 use Rattle.duration_str.proofs.Common.{[], arith, IsRead, IsSentenceOf, List, mul-div_cancel, mul_comm, refl, Rules, one_second, Some, Star, Term, TwoFactors, value_of, value_of_term, written_terms, ℕ, ◌*◌, ◌/◌, ◌<◌, ◌^◌, ◌↔◌, ◌∷◌, ◌≡◌}
 use Rattle.duration_str.proofs.Sentences.SumLemmas.{no_fault}
 use Rattle.duration_str.proofs.Sentences.AnswerLemmas.{read_sentence}
 
--- The numbers of both terms, the values of both terms, and the product, which is `nanos`, are below
--- 2^64.
 abbrev Fit : Term → Term → ℕ → Type 0
 Fit t u nanos =
     (t.number < 2 ^ 64) × (value_of_term t < 2 ^ 64) × (u.number < 2 ^ 64) × (value_of_term u < 2 ^ 64)
     × (nanos < 2 ^ 64) × (nanos ≡ value_of_term t * value_of_term u / one_second)
 
--- The first step of a product is the value of the later term.
 one_step : (x : ℕ) → one_second * x / one_second ≡ x
 one_step x = rw mul_comm (mul-div_cancel x (omega arith))
 

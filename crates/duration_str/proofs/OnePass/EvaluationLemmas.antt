@@ -3,8 +3,7 @@ use Rattle.duration_str.proofs.Common.{[], append-nil, append_assoc, arith, Bool
 use Rattle.duration_str.proofs.Sentences.SumLemmas.{AreAdded, no_fault, running_below, sum-append, value_is_sum}
 use Rattle.duration_str.proofs.Sentences.AnswerLemmas.{later_value}
 
--- the answer to a text with these terms, given the syntax fault after them, or `None` if there is
--- none
+-- the answer to a text with these terms, and with this syntax fault after them, if there is one
 abbrev pub answer_of : Bool → List Term → Option Cause → Result ℕ Cause
 answer_of no_calc terms syntax =
     fault_or (if no_calc then running_fault [] terms else first_fault terms)
@@ -46,7 +45,6 @@ later_append op before (x ∷ xs) ys = simp (later_append op (before ++ x ∷ []
 abbrev value_by : CondUnit → List Term → Result ℕ Cause
 value_by op later = fault_or (fault_of_terms op [] later) (Ok (later_total op later))
 
--- `checked_term` gives the value of a term, or its fault.
 pub checked_term_is : (place : Option ℕ) (t : Term)
     → checked_term place (u64_from t.number) t.length ≡ fault_or (term_fault place t) (Ok (value_of_term t))
 checked_term_is place t = search (rules)
@@ -62,26 +60,21 @@ one_more op before t none = search (rules, later_append, together-push)
 
 -- ---- All terms, one by one
 
--- the answer after a later term, given the total of the later terms so far, or its fault. Except
--- under `no_calc`, a syntax fault comes before that fault
+-- Except under `no_calc`, a syntax fault comes before the fault of a later term.
 abbrev pub after_term : Bool → Option Cause → (ℕ → Result ℕ Cause) → Result ℕ Cause → Result ℕ Cause
 after_term no_calc syntax more (Ok total) = more total
 after_term no_calc syntax more (Err fault) = if no_calc then Err fault else fault_or syntax (Err fault)
 
--- the first value, combined with the total of the later terms if there are any
 abbrev pub value_at_end : ℕ → Option (CondUnit × ℕ) → Result ℕ Cause
 value_at_end first None = Ok first
 value_at_end first (Some (op, total)) = checked_combination op first (Ok total)
 
--- the answer, given the first value, the operator and the total of the later terms so far, the
--- terms that are left, and the syntax fault after them
 abbrev pub answer_given : Bool → ℕ → Option (CondUnit × ℕ) → List Term → Option Cause → Result ℕ Cause
 answer_given no_calc first later [] syntax = fault_or syntax (value_at_end first later)
 answer_given no_calc first later (t ∷ terms) syntax =
     after_term no_calc syntax (λ total. answer_given no_calc first (Some (t.operator, total)) terms syntax)
     (total_with later t.operator (u64_from t.number) t.length)
 
--- the answer, given the value of the first term and the terms after it
 abbrev pub answer_after_first : Bool → ℕ → List Term → Option Cause → Result ℕ Cause
 answer_after_first true value terms syntax = answer_given true 0 (Some (Plus, value)) terms syntax
 answer_after_first false value terms syntax = answer_given false value None terms syntax
@@ -99,14 +92,10 @@ default_first : (first : ℕ) (u : Term) (later : List Term) (syntax : Option Ca
     ≡ fault_or syntax (checked_combination u.operator first (value_by u.operator (u ∷ later)))
 default_first first u later syntax = search (rules, default_left)
 
--- Two results that come after the same possible fault are equal, if they are equal when there is no
--- fault.
 unless_fault : {x y : Result ℕ Cause} (fault : Option Cause) → (fault ≡ None → x ≡ y)
     → fault_or fault x ≡ fault_or fault y
 unless_fault fault h = search rules
 
--- Adding one more term, as `no_calc` does, gives the new sum, or the fault of the term or of that
--- sum.
 one_added : (f : Term) (before : List Term) (t : Term) → t.operator ≡ Plus
     → total_with (Some (Plus, sum_of (f ∷ before))) t.operator (u64_from t.number) t.length
     ≡ fault_or (running_fault (f ∷ before) (t ∷ [])) (Ok (sum_of (f ∷ (before ++ t ∷ []))))
@@ -120,14 +109,11 @@ no_calc_left f before [] syntax h a = search (rules, append-nil)
 no_calc_left f before (t ∷ later) syntax h a =
     search (rules, one_added, running_append, append_assoc, running_below, no_calc_left f (before ++ t ∷ []) later syntax)
 
--- Combining the first value with the total of all later terms gives the value of the whole list, or
--- its fault.
 whole_value : (f u : Term) (later : List Term)
     → checked_combination u.operator (value_of_term f) (value_by u.operator (u ∷ later))
     ≡ fault_or (evaluation_fault (f ∷ u ∷ later)) (Ok (unwrap_or (value_of (f ∷ u ∷ later)) 0))
 whole_value f u later = search (rules, later_value)
 
--- The answer to a list of terms is the answer that reading them one by one gives.
 pub one_by_one : (no_calc : Bool) (f : Term) (later : List Term) (syntax : Option Cause)
     → (IsTrue no_calc → AreAdded (f ∷ later))
     → answer_of no_calc (f ∷ later) syntax

@@ -44,7 +44,6 @@ module _ (P : ℕ → Type 0) where
       → IfSome (late_fault r terminals) (Stands P)
   late_stands r terminals = grind (arith, evaluation_stands)
 
-  -- A syntax fault is at the start of a token, or at the end of the text.
   pub refused_stands : (r : Rules) (text : List ℕ) (cause : Cause)
       → IsRefused r text cause
       → ((n : ℕ) → P (start_after n (byte_len text) (tokens_of r.options text))) → Stands P cause
@@ -63,20 +62,16 @@ encoded_parts : (xs ys : List ℕ) → scalars (xs ++ ys) ≡ true
 encoded_parts [] ys e = (refl, e)
 encoded_parts (x ∷ xs) ys e = grind (arith, and_parts, length-encode, length-append, encoded_parts xs ys)
 
--- A text has as many bytes as its characters in UTF-8.
 pub byte_count : (bs : List ℕ) → IsUtf8 bs → byte_len (chars bs) ≡ length bs
 byte_count bs utf8 =
     (encoded_parts (chars bs) [] (rw append-nil (scalars-chars bs utf8))).0 ∙ ap length (encodes-chars bs utf8)
 
--- The first characters of a text end at a character boundary.
 seam : (bs xs ys : List ℕ) → IsUtf8 bs → chars bs ≡ xs ++ ys → IsCharBoundary bs (byte_len xs)
 seam bs xs ys utf8 e =
     let (len, more) = encoded_parts xs ys (rw e at (scalars-chars bs utf8)) in
     let whole : bs ≡ encodes xs ++ encodes ys = rw (e, encodes-append) at (sym (encodes-chars bs utf8)) in
     rw len (IsCharBoundary-at_seam bs (encodes xs) (encodes ys) whole (ys, (more, refl)))
 
--- Each token starts at a character boundary, and the text ends at one. The characters `xs` come
--- before the tokens.
 start_placed : (o : Options) (bs xs cs : List ℕ) (n at : ℕ) (tokens : List Token) → IsUtf8 bs → chars bs ≡ xs ++ cs
     → at ≡ byte_len xs → AreTokens o at cs tokens → IsCharBoundary bs (start_after n (byte_len (chars bs)) tokens)
 start_placed o bs xs cs n at [] utf8 e w a = rw drop-nil (seam bs (chars bs) [] utf8 (rw append-nil))
@@ -87,12 +82,9 @@ start_placed o bs xs cs (suc n) at (p ∷ tokens) utf8 e w (rest, next, more) =
     let end : ℕ = p.start + byte_len p.characters in
     search (rules, append_assoc, byte_len-append, start_placed o bs (xs ++ (next.blanks ++ p.characters)) rest n end tokens)
 
--- If the start of the text and the place of a syntax fault have a property, the place of any fault
--- has it.
 stands_at : (P : ℕ → Type 0) → P 0 → (cause : Cause) → Stands P cause → ForSome (place_of cause) P
 stands_at P start cause h = grind arith
 
--- The place of the answer's fault is a character boundary.
 pub fault_placed : (r : Rules) {c : Cause} (bs : List ℕ) → IsUtf8 bs → answer r (chars bs) ≡ Err c
     → ForSome (place_of c) (IsCharBoundary bs)
 fault_placed r {c} bs utf8 e =
@@ -100,7 +92,6 @@ fault_placed r {c} bs utf8 e =
     (refused_stands (IsCharBoundary bs) r (chars bs) c ((answer_refused r (chars bs) c).0 e)
     (λ n. start_placed r.options bs [] (chars bs) n 0 _ utf8 refl refl (tokens_are r.options 0 (chars bs))))
 
--- Before an earlier place there are at most as many characters as before a later place.
 pub chars_before : (bs : List ℕ) (place at : ℕ) → IsUtf8 bs → IsCharBoundary bs place → place ≤ at
     → length (chars (take place bs)) ≤ length (chars (take at bs))
 chars_before bs place at utf8 boundary order =
@@ -108,8 +99,6 @@ chars_before bs place at utf8 boundary order =
     let sum : at ≡ place + (at - place) = omega arith in
     grind (arith, common_steps, take-add, chars-append, IsUtf8-take, length-append)
 
--- If a text is looked at up to a byte, and refused for a fault at or before that byte, the looks
--- reach the fault's place.
 pub reaches_place : (r : Rules) (bs : List ℕ) (at looks : ℕ) (cause : Cause) → IsUtf8 bs
     → answer r (chars bs) ≡ Err cause → IsPlacedUpTo at cause → length (chars (take at bs)) ≤ looks
     → ReachesPlace bs cause looks
@@ -118,23 +107,20 @@ reaches_place r bs at looks cause utf8 is placed least place expected e =
     let before = chars_before bs place at utf8 boundary (placed place (ap place_of e)) in
     omega (arith, before, least)
 
--- ---- A syntax fault has no token exactly if it stands at the end of the text
+-- ---- The token at the place
 
--- No token of a text starts at the end of the text.
 none_at : (o : Options) (n at : ℕ) (text : List ℕ) (tokens : List Token) → n ≡ at + byte_len text
     → AreTokens o at text tokens → token_at n tokens ≡ None
 none_at o n at text [] e a = refl
 none_at o n at text (p ∷ tokens) e (rest, next, more) =
     grind (arith, byte_len-append, ne_eqb, none_at o n (p.start + byte_len p.characters) rest tokens)
 
--- At the start of each token a token is found.
 found_at : (n len : ℕ) (tokens : List Token) → token_at (start_after n len tokens) tokens ≡ None
     → start_after n len tokens ≡ len
 found_at n len [] none = rw drop-nil
 found_at zero len (p ∷ tokens) none = absurd (cc (rw (eq-eqb p.start p.start refl) at none))
 found_at (suc n) len (p ∷ tokens) none = grind (arith, cases_Bool, found_at n len tokens)
 
--- There is no slice exactly if there is no token.
 missing_token : (bytes : List ℕ) (token : Option Token) (slice : Option (Bor (List ℕ))) → IsSliceOf bytes token slice
     → (IsNone slice ↔ (token ≡ None))
 missing_token bytes token slice h = grind arith
@@ -152,7 +138,7 @@ missing_at_end o bytes cause slice utf8 is r place expected e refused =
     let missing = missing_token bytes (token_at place tokens) slice (rw e at is) in
     (λ none. stands.0 (missing.0 none), λ same. missing.1 (stands.1 same))
 
--- ---- The result of reading everything from the start of a text is the text's answer
+-- ---- The answer to a whole text
 
 all_terminals : (r : Rules) (len : ℕ) (tokens : List Token)
     → terminals_left (rest_from r len tokens) ≡ map (terminal_of r) (lexemes_of tokens)

@@ -1,5 +1,3 @@
--- Lemmas about the reader's steps: what comes next, by the sort of the token ahead, and what is
--- left after it.
 use Rattle.duration_str.proofs.Common.{answer_left, arith, Bool, cases_Bool, Cause, CondUnit, cut_place, end_at, Err, expected_at_start, false, if◌then◌else◌, is_number, leaving, length, LooksAhead, None, not, number, number_fault, Ok, ok_or, operator, operator_read, Option, other, refl, Rest, rest_from, rest_of, Rules, rules, rules_at, Some, sort_of, source, sym, Syntax, TakesToken, Terminal, terminal_at, terminal_of, TimeUnit, Tokens, TokenStart, true, unit_read, word, ℕ, ◌≡◌}
 use Rattle.duration_str.specs.Answer.{expected_after_number, expected_after_unit}
 use Rattle.duration_str.proofs.Cutting.StepLemmas.{first_left, none_left}
@@ -9,13 +7,11 @@ pub same_rest : (r : Rules) {s m : Tokens} {sort : Option TokenStart} → LooksA
     → rest_of r m ≡ rest_of r s
 same_rest r look = (λ i. rest_from (record r { options = look.kept.options i }) (length (look.kept.text i)) (look.same_left i))
 
--- If nothing is ahead, nothing is left and the whole text is cut.
 pub at_end : (r : Rules) {s m : Tokens} → LooksAhead s m None
     → (rest_of r s ≡ end_at (cut_place m)) × (cut_place m ≡ length (source m))
 at_end r {s} {m} look =
     let none = none_left m look.ahead in (rw (← same_rest r look, none.0, ← none.1), none.1)
 
--- The rest starts at this byte, with a terminal of this sort.
 abbrev pub StartsWith : TokenStart → ℕ → Rest → Type 0
 StartsWith sorts.Number at rest = (n : ℕ) × (more : Rest) × (rest ≡ terminal_at at (number n) more)
 StartsWith sorts.Word at rest = (u : Option TimeUnit) × (more : Rest) × (rest ≡ terminal_at at (word u) more)
@@ -33,7 +29,6 @@ starts r {s} {m} {sort = sort} look is =
     let here = rw left_is at (sym (same_rest r look)) in
     rw sort_is (by_terminal (terminal_of (rules_at r m) cs) (cut_place m) (rest_of r s) _ here)
 
--- A number is ahead, or there is a syntax fault at the place.
 pub number_comes : (r : Rules) {s m : Tokens} {sort : Option TokenStart} → LooksAhead s m sort
     → number_fault (rest_of r s) ≡ (if is_number sort then None else Some (Syntax (cut_place m) expected_at_start))
 number_comes r {sort = None} look = rw (at_end r look).0
@@ -50,13 +45,10 @@ pub is_on : (b : Bool) → not b ≡ false → b ≡ true
 is_on true h = refl
 is_on false h = cc h
 
--- If the rest does not start with a number, the fault of that is the answer.
 pub no_number : (r : Rules) (rest : Rest) (cause : Cause) → number_fault rest ≡ Some cause
     → Err cause ≡ answer_left r rest
 no_number r rest cause h = search (rules, cases_Bool)
 
--- If an operator comes next: what is read in place of the unit after a number, and as the operator
--- after a unit, with and without `no_calc`.
 module _ (r : Rules) (rest after : Rest) (at : ℕ) (op : CondUnit) (is : rest ≡ terminal_at at (operator op) after) where
   pub unit_omitted : r.options.no_calc ≡ false
       → unit_read r rest ≡ leaving rest (ok_or r.default_unit (Syntax at (expected_after_number r)))
@@ -76,7 +68,6 @@ module _ (r : Rules) (rest after : Rest) (at : ℕ) (op : CondUnit) (is : rest �
   pub operator_refused : r.options.no_calc ≡ true → operator_read r rest ≡ Err (Syntax at (expected_after_unit r))
   operator_refused calc = rw (is, calc) refl
 
--- A terminal with the sort of an operator is that operator.
 pub operator_of_sort : (terminal : Terminal) (op : CondUnit) → sorts.Operator op ≡ sort_of terminal
     → terminal ≡ operator op
 operator_of_sort terminal op e = search rules

@@ -6,8 +6,6 @@ use Rattle.duration_str.proofs.Sentences.AnswerLemmas.{allowed_plus}
 use Rattle.duration_str.proofs.OnePass.EvaluationLemmas.{answer_after_first, answer_of, answer_given, checked_term_is, one_by_one}
 use Rattle.duration_str.proofs.OnePass.ReaderLemmas.{after_token}
 
--- the syntax fault at a place where these kinds are expected and these terminals follow, if there
--- is one
 abbrev pub fault_at : ℕ → Expected → List Terminal → Option Cause
 fault_at place expected [] = unless expected.text_end (Syntax place expected)
 fault_at place expected (terminal ∷ terminals) = Some (Syntax place expected)
@@ -17,14 +15,12 @@ pub record Ended : Type 0 where
   pub terms : List Term
   pub fault : Option Cause
 
--- the front of the rest, as far as the table allows
 abbrev front_in : Rules → Rest → List Terminal
 front_in r rest = take (front_of r (terminals_left rest)) (terminals_left rest)
 
 abbrev after_in : Rules → Rest → List Terminal
 after_in r rest = drop (front_of r (terminals_left rest)) (terminals_left rest)
 
--- the terms that are left after the operator `op`, and the syntax fault after them
 abbrev pub left_after : Rules → CondUnit → Rest → Ended
 left_after r op rest = record {
   terms = terms_after r op (complete_terminals r (front_in r rest) (after_in r rest));
@@ -32,12 +28,10 @@ left_after r op rest = record {
       (expected_after r (last_of None (front_in r rest))) (after_in r rest);
 }
 
--- the terms that are left, which follow this operator. At the end there are none
 abbrev pub next_terms : Rules → Option CondUnit → Rest → Ended
 next_terms r None rest = record { terms = []; fault = None }
 next_terms r (Some op) rest = left_after r op rest
 
--- no terms are left, and this syntax fault follows
 abbrev pub no_terms : Cause → Ended
 no_terms cause = record { terms = []; fault = Some cause }
 
@@ -55,7 +49,6 @@ after_number r op n (Ok read) =
     }
 after_number r op n (Err cause) = no_terms cause
 
--- the rules with these fields
 abbrev rules_from : (TimeUnit → UnitRow) → Bool → Bool → Option TimeUnit → Bool → Rules
 rules_from table lowercase cn_unit default_unit no_calc = record {
   table = table;
@@ -76,21 +69,16 @@ module _ (table : TimeUnit → UnitRow) (lowercase cn_unit : Bool) where
   terms_read_from None false op at n rest = refl
   terms_read_from None true op at n rest = refl
 
--- The terms from a number on depend on the unit and the operator that are read after it.
 terms_read : (r : Rules) (op : CondUnit) (at n : ℕ) (rest : Rest)
     → left_after r op (terminal_at at (number n) rest) ≡ after_number r op n (unit_read r rest)
 terms_read r = terms_read_from r.table r.options.lowercase r.options.cn_unit r.default_unit r.options.no_calc
 
--- After a number is taken, the terms that are left depend on the result of reading the unit after
--- it.
 pub number_taken : (r : Rules) {s a : Tokens} {n : Option ℕ} (op : CondUnit) (taken : TakesNumber s a n)
     (read : Result (ReadItem TimeUnit) Cause) → read ≡ unit_read r (rest_of r a)
     → left_after r op (rest_of r s) ≡ after_number r op taken.n read
 number_taken r {s} {a} op taken read is =
     rw (after_token (taken.token r), terms_read r op (cut_place s) taken.n (rest_of r a), is)
 
--- After an operator is read and the number after it is taken, the terms that are left depend on the
--- result of reading the unit after it, too.
 pub term_passed : (r : Rules) {s a : Tokens} {n : Option ℕ} {next : CondUnit} (b : Rest)
     → leaving (rest_of r s) (Ok (Some next)) ≡ operator_read r b → (taken : TakesNumber s a n)
     → (read : Result (ReadItem TimeUnit) Cause) → read ≡ unit_read r (rest_of r a)
@@ -101,7 +89,6 @@ term_passed r {next = next} b is taken read unit =
 abbrev pub count : Ended → ℕ
 count left = length left.terms
 
--- After a term, fewer terms are left.
 pub fewer : (r : Rules) {s a : Tokens} {b : Rest} {n : Option ℕ} {u : TimeUnit} {next : CondUnit} (p : Rest)
     → leaving (rest_of r s) (Ok (Some next)) ≡ operator_read r p → TakesNumber s a n
     → leaving b (Ok u) ≡ unit_read r (rest_of r a)
@@ -110,21 +97,17 @@ fewer r p read taken unit = omega (arith, ap count (term_passed r p read taken _
 
 -- ---- Steps of the answer
 
--- the answer, given the first value, the later terms so far or their first fault, and what is left
 abbrev pub with_left : Bool → ℕ → Result (Option (CondUnit × ℕ)) Cause → Ended → Result ℕ Cause
 with_left no_calc first (Ok later) left = answer_given no_calc first later left.terms left.fault
 with_left no_calc first (Err fault) left = if no_calc then Err fault else fault_or left.fault (Err fault)
 
--- the answer, given the value of the first term and what is left after it
 abbrev pub total_of : Bool → ℕ → Ended → Result ℕ Cause
 total_of no_calc value left = answer_after_first no_calc value left.terms left.fault
 
--- A syntax fault comes before a fault that was kept.
 pub unread : (no_calc : Bool) (first : ℕ) (later : Result (Option (CondUnit × ℕ)) Cause) (cause : Cause)
     → IfErr later (λ fault. no_calc ≡ false) → with_left no_calc first later (no_terms cause) ≡ Err cause
 unread no_calc first later cause held = search rules
 
--- Reading a later term, from p up to b, and combining it keeps the answer.
 pub later_step : (r : Rules) (first : ℕ) (later : Result (Option (CondUnit × ℕ)) Cause) (p : Rest) {s a : Tokens}
     {b : Rest} {n : Option ℕ} {u : TimeUnit} {next : CondUnit}
     → leaving (rest_of r s) (Ok (Some next)) ≡ operator_read r p → TakesNumber s a n
@@ -137,7 +120,6 @@ later_step r first (Ok later) p {b = b} {next = next} read taken unit =
 later_step r first (Err fault) p read taken unit =
     ap (with_left r.options.no_calc first (Err fault)) (term_passed r p read taken _ unit)
 
--- After the first term, the later terms so far are none, or under `no_calc` the first term itself.
 pub started : (no_calc : Bool) (value : ℕ) (start : ℕ × Result (Option (CondUnit × ℕ)) Cause) (left : Ended)
     → start ≡ (if no_calc then (0, Ok (Some (Plus, value))) else (value, Ok None))
     → with_left no_calc start.0 start.1 left ≡ total_of no_calc value left
@@ -164,7 +146,6 @@ without_last_plus (t ∷ terminals) a = without_last_plus terminals a
 complete_plus : (r : Rules) (front rest : List Terminal) → AllPlus front → AllPlus (complete_terminals r front rest)
 complete_plus r front rest a = search (rules, without_last_plus)
 
--- Under `no_calc` all terms that are left have the operator plus.
 left_added : (r : Rules) (op : CondUnit) (rest : Rest) → op ≡ Plus → IsTrue r.options.no_calc
     → AreAdded (left_after r op rest).terms
 left_added r op rest plus calc =
@@ -173,7 +154,6 @@ left_added r op rest plus calc =
     rw plus (terms_added r (complete_terminals r front (after_in r rest))
     (complete_plus r front _ (allowed_plus r None front calc allowed)))
 
--- the answer, given the first value or its fault, and what is left after it
 abbrev pub by_first : Bool → Result ℕ Cause → Ended → Result ℕ Cause
 by_first no_calc (Ok first) left = total_of no_calc first left
 by_first no_calc (Err cause) left = Err cause
@@ -187,7 +167,6 @@ from_start : (r : Rules) (rest : Rest) (left : Ended) → left_after r Plus rest
 from_start r rest left is =
     rw (← is) (in_order r (start_left (front_of r (terminals_left rest)) rest) (front_in r rest) (after_in r rest))
 
--- If the first unit can't be read, the fault of reading it is the answer.
 pub first_unread : (r : Rules) {m a : Tokens} {s : Rest} {n : Option ℕ} {cause : Cause} → rest_of r m ≡ s
     → TakesNumber m a n → Err cause ≡ unit_read r (rest_of r a) → Err cause ≡ answer_left r s
 first_unread r {m} {cause = cause} same taken unit =
@@ -195,8 +174,6 @@ first_unread r {m} {cause = cause} same taken unit =
     rw (← same, ← from_start r (rest_of r m) _ read)
     (elim r.options.no_calc as (λ b. Err cause ≡ answer_of b [] (Some cause)) [ false ↦ refl | true ↦ refl ])
 
--- If the first term is read up to b, the answer follows from the term's value, or its fault, and
--- what is left.
 pub first_step : (r : Rules) {m a : Tokens} {s b : Rest} {n : Option ℕ} {u : TimeUnit} {first : Result ℕ Cause}
     → rest_of r m ≡ s → TakesNumber m a n → leaving b (Ok u) ≡ unit_read r (rest_of r a)
     → first ≡ checked_term (Some 0) n (r.table u).nanos

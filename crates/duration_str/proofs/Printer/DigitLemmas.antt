@@ -1,4 +1,3 @@
--- Lemmas about the steps of writing a number in decimal, and about the length of the digits.
 use Rattle.duration_str.proofs.Common.{ap, append_assoc, arith, common_steps, decimal, decimal_by_steps_wide, decimal_digit, decimal_step_wide, drop, length, length-append, length-decimal-le_wide, length-take-le, List, lit<, pow-succ', rules, suc, sym, take, take-add, take-append_seam, take_more_set, [], ℕ, ◌%◌, ◌++◌, ◌+◌, ◌/◌, ◌<◌, ◌^◌, ◌∙◌, ◌∷◌, ◌≡◌, ◌≤◌}
 
 pub length_one : (n : ℕ) → n < 10 → length (decimal n) ≡ 1
@@ -7,12 +6,10 @@ length_one n h = ap length (decimal_digit n h)
 pub length_step : (n : ℕ) → 10 ≤ n → n < 10 ^ 64 → length (decimal n) ≡ length (decimal (n / 10)) + 1
 length_step n low high = ap length (decimal_step_wide n low high) ∙ length-append _ _
 
--- If n is 10 or more, the digits of n / 10, and then the last digit of n, are the digits of n.
 pub put_last : (bytes before after : List ℕ) (n : ℕ) → after ≡ before ++ decimal (n % 10)
     → before ≡ bytes ++ decimal (n / 10) → 10 ≤ n → n < 10 ^ 64 → after ≡ bytes ++ decimal n
 put_last bytes before after n last first low high = search (rules, decimal_digit, decimal_step_wide, append_assoc)
 
--- Writing a byte keeps the bytes before it.
 pub same_before : (at : ℕ) (old new more : List ℕ) → at ≤ length old → at ≤ length new
     → take (at + 1) new ≡ take at old ++ more → take at new ≡ take at old
 same_before at old new more in_old in_new same =
@@ -28,17 +25,14 @@ some_decimal n h =
     decimal_by_steps_wide (λ n ds. 0 < length ds) (λ n small. lit< tt)
     (λ n ds big some. omega (arith, length-append ds ((48 + n % 10) ∷ []))) n h
 
--- a number with k digits is below 10^k
 below_power : (n : ℕ) → n < 10 ^ 64 → n < 10 ^ length (decimal n)
 below_power = decimal_by_steps_wide (λ n ds. n < 10 ^ length ds) (λ n small. omega arith) (λ n ds big below.
     let longer : length (ds ++ (48 + n % 10) ∷ []) ≡ suc (length ds) =
     omega (arith, length-append ds ((48 + n % 10) ∷ [])) in
     rw (longer, pow-succ' 10 (length ds)) (omega (arith, below)))
 
--- A smaller number has no more digits.
 pub length_smaller : (m n : ℕ) → m ≤ n → n < 10 ^ 64 → length (decimal m) ≤ length (decimal n)
 length_smaller m n h small = search (rules, below_power, length-decimal-le_wide, some_decimal)
 
--- A number of 64 bits has at most 20 digits.
 pub short_decimal : (n : ℕ) → n < 2 ^ 64 → length (decimal n) ≤ 20
 short_decimal n h = length-decimal-le_wide 20 n (omega arith) (omega arith) (omega arith)

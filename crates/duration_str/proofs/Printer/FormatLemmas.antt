@@ -16,7 +16,6 @@ use Rattle.std.proofs.lemmas.List.{take-append-le}
 abbrev is_days : TimeUnit → Bool
 is_days u = leb (nanos_of Day) (nanos_of u)
 
--- Units of a day or longer print nothing of a duration below a day.
 without_days : (style : Style) (longer shorter : List TimeUnit) (bytes : List ℕ) (most nanos : ℕ)
     → list_all is_days longer ≡ true → nanos < nanos_of Day
     → with_parts style bytes shorter most nanos ≡ with_parts style bytes (longer ++ shorter) most nanos
@@ -27,7 +26,6 @@ without_days style (u ∷ longer) shorter bytes most nanos long h =
     without_days style longer shorter bytes most nanos parts.1 h
     ∙ search rules
 
--- If all of these units are a day or longer, so are those among them that are in the set.
 days_chosen : (set : Units) (us : List TimeUnit) → list_all is_days us ≡ true
     → list_all is_days (chosen set us) ≡ true
 days_chosen set [] long = rw (chosen_none set)
@@ -52,13 +50,11 @@ chosen_below_day style set bytes most nanos h =
 
 -- ---- The parts
 
--- If no more parts are allowed, nothing is added to the bytes.
 pub with_none : (style : Style) (us : List TimeUnit) (bytes : List ℕ) (most nanos : ℕ) → most ≡ 0
     → bytes ≡ with_counts style bytes us (counts_within (map nanos_of us) most nanos)
 with_none style [] bytes most nanos none = refl
 with_none style (u ∷ us) bytes most nanos none = rw none (with_none style us bytes 0 nanos refl)
 
--- If no nanoseconds are left, nothing is added to the bytes.
 pub with_nothing : (style : Style) (us : List TimeUnit) (bytes : List ℕ) (most nanos : ℕ) → nanos ≡ 0
     → bytes ≡ with_counts style bytes us (counts_within (map nanos_of us) most nanos)
 with_nothing style [] bytes most nanos none = refl
@@ -83,7 +79,6 @@ part_more : (style : Style) (bytes : List ℕ) (u : TimeUnit) (n most : ℕ) →
     ≤ length (with_gap style bytes) + (length (decimal most) + name_len style u + length (between style))
 part_more style bytes u n most h small = search (rules, gap_more, length-append, length_part, length_smaller)
 
--- The parts take no more than `most_bytes`.
 parts_fit : (style : Style) (us : List TimeUnit) (limit : ℕ) (bytes : List ℕ) (most nanos : ℕ)
     → nanos < limit → limit ≤ 10 ^ 64
     → length (with_gap style (with_counts style bytes us (counts_within (map nanos_of us) most nanos)))
@@ -115,8 +110,6 @@ parts_fit style (u ∷ us) limit bytes most nanos h small = elim (cases_Bool (mo
       ]
 ]
 
--- The parts of a day or longer, of less than 1,000 years, take no more than 19 bytes, with a space
--- after each.
 pub days_fit : (y q m w d : ℕ) → y ≤ 999 → q ≤ 9 → m ≤ 9 → w ≤ 9 → d ≤ 9
     → length (with_gap Short (with_counts Short [] units (y ∷ q ∷ m ∷ w ∷ d ∷ []))) ≤ 19
 unfolding digits
@@ -151,7 +144,6 @@ worst_fits : (style : Style) → worst style (2 ^ 64 * 10 ^ 9) units ≤ most_le
 unfolding digits
 worst_fits style = search (rules, leb-true)
 
--- If the bytes and the gap after them fit, the bytes do.
 less_gap : (style : Style) (bytes : List ℕ) (most : ℕ) → length (with_gap style bytes) ≤ most + length (between style)
     → length bytes ≤ most
 less_gap style bytes most h = search (rules, length-append)
@@ -186,7 +178,6 @@ pub within_utf8 : (format : Format) (nanos : ℕ) → nanos < 10 ^ 64
     → IsUtf8 (encode_utf8_all (text_within format (counts_within (lengths_within format) format.parts nanos)))
 within_utf8 format nanos h = search (rules, IsUtf8-joined, within_short)
 
--- If the bytes are the text of the counts in a format, they print the duration.
 pub printed_within : (format : Format) (nanos : ℕ) (bytes : List ℕ) → IsUtf8 bytes
     → bytes ≡ encode_utf8_all (text_within format (counts_within (lengths_within format) format.parts nanos))
     → IsPrintedWithin format nanos (chars bytes)
@@ -221,18 +212,15 @@ letters_len : (u : TimeUnit) → length (printed_row u).letters ≡ 4
 unfolding lib.Utf8.encode
 letters_len = each_unit (λ u. length (printed_row u).letters ≡ 4) assumption
 
--- Bytes that are written into the middle of a buffer come after those before them.
 pub take_part : (at k end : ℕ) (bytes part : List ℕ) → at ≤ length bytes → end ≤ length part
     → take (at + end) (put_mid at k bytes part) ≡ take at bytes ++ take end part
 take_part at k end bytes part inside short = search (rules, take-append-add, take-append-le)
 
--- Copying the four bytes of a row writes the name.
 pub name_copied : (at k : ℕ) (bytes : List ℕ) (u : TimeUnit) → at ≤ length bytes
     → take (at + length (encode_utf8_all (row_of u).printed)) (put_mid at k bytes (printed_row u).letters)
     ≡ take at bytes ++ encode_utf8_all (row_of u).printed
 name_copied at k bytes u inside = search (rules, letters_len, name_first, name_short, take_part)
 
--- Copying the four bytes of a row also writes a space after the name.
 pub name_spaced : (at k : ℕ) (bytes : List ℕ) (u : TimeUnit) → at ≤ length bytes
     → take (at + length (encode_utf8_all (row_of u).printed) + 1) (put_mid at k bytes (printed_row u).letters)
     ≡ take at bytes ++ encode_utf8_all (row_of u).printed ++ 32 ∷ []

@@ -5,13 +5,9 @@ use Rattle.std.proofs.lemmas.Str.Ascii.{IsAscii-from_all}
 use Rattle.duration_str.specs.Buffers.{IsInFront}
 use Rattle.duration_str.specs.Laws.{LastLine}
 
--- If the bytes are at the start of the buffer, what holds for them holds for the start of the
--- buffer.
 pub front_has : (P : List ℕ → Type 0) (bytes : List ℕ) (result : Option ℕ) (buffer : List ℕ) → P bytes
     → IsInFront bytes result buffer → IfSome result (λ end. P (take end buffer))
 front_has P bytes result buffer h there = search rules
-
--- ---- UTF-8
 
 pub byte_text_utf8 : (place : ℕ) (line : List ℕ) → place < 2 ^ 64 → IsUtf8 line → IsUtf8 (byte_text place line)
 byte_text_utf8 place line small utf8 = search (rules, IsAscii-decimal, IsUtf8-append, IsUtf8-from_ascii)
@@ -25,13 +21,10 @@ caret_text_utf8 text spaces line utf8 line_utf8 =
     (IsUtf8-append (replicate spaces 32) _ (IsUtf8-from_ascii (replicate spaces 32) blanks)
     (IsUtf8-append (codes "^\n") line (IsUtf8-from_ascii (codes "^\n") (search rules)) line_utf8)))
 
--- ---- The last byte
-
 last_or-append : (o : Option ℕ) (xs ys : List ℕ) → last_or o (xs ++ ys) ≡ last_or (last_or o xs) ys
 last_or-append o [] ys = refl
 last_or-append o (x ∷ xs) ys = last_or-append (Some x) xs ys
 
--- The last byte of a line is no line feed, whatever stands before the line.
 line_last : (cause : Cause) (o : Option ℕ) → last_or o (encode_utf8_all (line_of cause)) ≢ Some 10
 unfolding lib.Utf8.encode
 line_last cause o = search rules
@@ -39,14 +32,10 @@ line_last cause o = search rules
 pub last_line_holds : LastLine
 last_line_holds = search (rules, line_last, last_or-append)
 
--- ---- Runs of spaces
-
--- one more run of 64 spaces
 pub run_longer : (n left : ℕ) → 64 < left → left ≤ n
     → ◌++◌ {A = ℕ} (replicate (n - left) 32) (replicate 64 32) ≡ replicate (n - (left - 64)) 32
 run_longer n left more h = replicate-append-replicate (n - left) 64 32 ∙ ap (λ (n : ℕ). replicate n 32) (omega arith)
 
--- the last run of spaces
 pub run_last : (n left : ℕ) → left ≤ n → ◌++◌ {A = ℕ} (replicate (n - left) 32) (replicate left 32) ≡ replicate n 32
 run_last n left within = replicate-append-replicate (n - left) left 32 ∙ ap (λ (n : ℕ). replicate n 32) (omega arith)
 

@@ -1,4 +1,3 @@
--- Lemmas about the table of near words.
 use Rattle.duration_str.proofs.Common.{ap, arith, Bool, bytes_eq, bytes_eq-Decides, cases_Bool, codes, encode_utf8_all, false, find, if◌then◌else◌, inl, inr, List, map, MicroSecond, None, Option, or_cases, refl, row_of, Some, sym, TimeUnit, to_ascii_lowercase, units, [], ℕ, ◌||◌, ◌∙◌, ◌∷◌, ◌≡◌, rules}
 use Rattle.duration_str.proofs.Characters.UnitLemmas.{each_unit}
 use Rattle.duration_str.specs.declared.one_line.TheConstants.{NEAR_WORDS}
@@ -6,11 +5,10 @@ use Rattle.std.specs.Option.{option_map}
 use Rattle.duration_str.specs.OneLine.{help_or_units, is_among, name_help, near_name, near_words, small_words, unit_help, us_words}
 use Rattle.duration_str.specs.Internal.UnitTable.{is_megabyte, is_near, trimmed}
 
--- a row of the table: a word in small letters, and the name to write, both in bytes
+-- a row of a table: a word, and the name to write, both in bytes
 abbrev Row : Type 0
 Row = List ℕ × List ℕ
 
--- for each of these words a row with this name, and after them the given rows
 abbrev with_words : List (List ℕ) → List ℕ → List Row → List Row
 with_words [] name rows = rows
 with_words (word ∷ words) name rows = (encode_utf8_all word, encode_utf8_all name) ∷ with_words words name rows
@@ -20,12 +18,10 @@ abbrev own_words : TimeUnit → List (List ℕ)
 own_words MicroSecond = codes "µsecs" ∷ codes "µseconds" ∷ []
 own_words u = near_words u
 
--- the rows of these units
 abbrev rows_of : List TimeUnit → List Row
 rows_of [] = []
 rows_of (u ∷ us) = with_words (own_words u) (row_of u).printed (rows_of us)
 
--- the name in the row of a word
 abbrev name_beside : List ℕ → List Row → Option (List ℕ)
 name_beside word rows = option_map (λ row. row.1) (find (λ row. bytes_eq word row.0) rows)
 
@@ -50,8 +46,6 @@ found_unit small (u ∷ us) none =
       | inr far ↦ found ∙ rw (own, far) (found_unit small us none)
     ]
 
--- the word of a row in the code's table, in small letters, and its name, both without the spaces
--- after them
 abbrev row_said : Row → Row
 row_said row = (map to_ascii_lowercase (trimmed row.0), trimmed row.1)
 
@@ -64,12 +58,10 @@ found_said small (row ∷ rows) = search (rules, cases_Bool, found_said small ro
 pub otherwise : {A : Type 0} (b : Bool) (x y : A) → b ≡ false → y ≡ (if b then x else y)
 otherwise b x y e = rw e refl
 
--- the row of a word in the code's table
 abbrev near_row : List ℕ → Option Row
 near_row word = if is_megabyte word then None else find (λ row. is_near row.0 word) NEAR_WORDS
 
--- The code's table gives the name that `near_name` does. First it has the words for which `us` is
--- written, and then the words of each unit.
+-- The code's table has first the words for which `us` is written, and then the words of each unit.
 near_found : (word : List ℕ)
     → option_map (λ row. trimmed row.1) (near_row word) ≡ option_map encode_utf8_all (near_name word)
 unfolding lib.Utf8.encode

@@ -1,4 +1,3 @@
--- Lemmas about a fault in one line.
 use Rattle.duration_str.proofs.Common.{ahead, and_parts, ap, append-nil, append_assoc, arith, Bool, cases_Bool, Cause, chars, chars-encodes, chars-nil, chars_from_encodes, chars_past_char, codes, common_steps, cond, decimal, decimal_by_steps, drop, Empty, encode_ascii, encode_utf8, encode_utf8_all, encodes-append, encodes-chars, eqb-true, Expected, false, find, ForSome, if◌then◌else◌, inl, inr, is_blank, IsCharBoundary, IsCharBoundary-at_seam, IsTrue, IsUtf8, IsUtf8-drop, IsUtf8-take, leb-true, len_utf8_bounds, length, length-append, length-decimal-le, length-encode, length-le-encodes, List, list_all, list_all-append, lit<, ltb-true, map, Mixed, nat_le, nat_tests, None, NotText, NumberTooLarge, Option, OutOfRange, Overflow, place_of, refl, row_of, rules, scalar, scalars, scalars-chars, slice_range, Some, suc, Syntax, take, take-nil, take_while, take_while-cons, TimeUnit, to_ascii_lowercase, true, units, zero, [], ℕ, ◌%◌, ◌&&◌, ◌*◌, ◌++◌, ◌+◌, ◌-◌, ◌<◌, ◌==◌, ◌^◌, ◌||◌, ◌∙◌, ◌∷◌, ◌≡◌, ◌≢◌, ◌≤◌}
 use Rattle.std.proofs.Common.{lit≤, nat_lt}
 use Rattle.std.proofs.lemmas.Bool.{le-leb, lt-leb}
@@ -11,7 +10,6 @@ use Rattle.std.specs.Int.{is_in_range}
 use Rattle.std.specs.Option.{option_map}
 use Rattle.std.proofs.Math.Utf8.{low_scalar}
 
--- The empty text has no characters.
 pub chars_of_none : (text : List ℕ) → length text ≡ 0 → chars text ≡ []
 chars_of_none text none = ap chars (nil_from_length text none) ∙ chars-nil
 
@@ -19,18 +17,15 @@ found_chars : (cs bytes : List ℕ) → encode_utf8_all cs ≡ bytes → (length
     → found_words cs ≡ codes ", found " ++ quoted cs
 found_chars cs bytes is some = search rules
 
--- Before a place there are at most as many characters as bytes.
 pub chars_before_le : (text : List ℕ) (place : ℕ) → IsUtf8 text → IsCharBoundary text place
     → chars_before text place ≤ place
 chars_before_le text place utf8 boundary = search (rules, IsUtf8-take, encodes-chars, length-le-encodes)
 
--- ---- Plain characters, and how many bytes
+-- ---- Plain characters, and numbers of bytes
 
--- whether a number is the code of a plain character
 abbrev is_good : ℕ → Bool
 is_good c = scalar c && is_plain c
 
--- The bytes are plain characters in UTF-8, and there are at most `most` bytes.
 pub record IsShort (most : ℕ) (bytes : List ℕ) : Type 0 where
   pub characters : List ℕ
   pub good : list_all is_good characters ≡ true
@@ -62,7 +57,6 @@ chosen : {most : ℕ} (b : Bool) {xs ys : List ℕ} → IsShort most xs → IsSh
     → IsShort most (if b then xs else ys)
 chosen b first second = search rules
 
--- whether a byte is a plain ASCII character
 abbrev is_plain_byte : ℕ → Bool
 is_plain_byte b = nat_le 32 b && nat_lt b 127
 
@@ -71,7 +65,6 @@ bytes_good : (bytes : List ℕ) → list_all is_plain_byte bytes ≡ true
 bytes_good [] e = (refl, refl)
 bytes_good (b ∷ bytes) e = search (rules, and_parts, ltb-true, encode_ascii, low_scalar, bytes_good bytes)
 
--- whether the bytes are plain ASCII characters, and there are at most `most` of them
 abbrev are_short : ℕ → List ℕ → Bool
 are_short most bytes = nat_le (length bytes) most && list_all is_plain_byte bytes
 
@@ -92,7 +85,6 @@ decimal_plain n h =
     (λ n ds big e. rw (list_all-append is_plain_byte ds ((48 + n % 10) ∷ []), e)
     (digit_plain (n % 10) (omega arith))) n h
 
--- The text is short enough for memory, and the place is a character boundary in it.
 pub record IsPlaced (text : List ℕ) (place : ℕ) : Type 0 where
   pub utf8 : IsUtf8 text
   pub small : length text < 2 ^ 63
@@ -270,7 +262,6 @@ text_short problem text help utf8 first last =
 overflow_short : (text : List ℕ) → IsUtf8 text → IsShort 294 (overflow_line text)
 overflow_short text utf8 = search (rules, chosen, literal, text_short)
 
--- The line has only plain characters, and at most 294 bytes.
 pub one_line_short : (text : List ℕ) (cause : Cause) → IsUtf8 text → length text < 2 ^ 63
     → ForSome (place_of cause) (IsCharBoundary text) → IsShort 294 (one_line_of text cause)
 unfolding lib.Utf8.encode
@@ -283,7 +274,6 @@ one_line_short text OutOfRange utf8 small placed = literal 294 _ refl
 one_line_short text (NotText true) utf8 small placed = literal 294 _ refl
 one_line_short text (NotText false) utf8 small placed = literal 294 _ refl
 
--- If no unknown unit stands at the place, the line says what was expected.
 pub no_unit_word : (text : List ℕ) (place : ℕ) (expected : Expected) (piece : List ℕ)
     → (expected.unit_word && begins_with_letter piece) ≡ false
     → found_line (expected_words expected) (chars_before text place + 1) piece
@@ -303,35 +293,29 @@ clear_end [] room fits e = (refl, refl)
 clear_end (c ∷ text) room fits e =
     grind (arith, common_steps, and_parts, leb-true, encode_ascii, le-leb, clear_end text (room - 1))
 
--- A short text of such characters is quoted as it is.
 pub quoted_clear : (text : List ℕ) → IsUtf8 text → length text ≤ 40 → list_all is_clear_byte text ≡ true
     → quoted (chars text) ≡ codes "\"" ++ (text ++ codes "\"")
 quoted_clear text utf8 fits e =
     let parts = clear_end text 40 fits e in rw (← chars_from_encodes text text utf8 parts.0, parts.1) refl
 
--- If there is no room for a part of a text, there is none for the whole.
 pub quoted_stops : (written after whole : List ℕ) (room : ℕ) → written ++ after ≡ whole → room < length written
     → room < length whole
 quoted_stops written after whole room all full = omega (arith, full, ap length all, length-append written after)
 
--- The bytes that are written end inside the buffer.
 pub end_inside : (bytes buffer : List ℕ) (end : ℕ) → end ≡ length bytes → take end buffer ≡ bytes → end ≤ length buffer
 end_inside bytes buffer end long is = omega (arith, long, ap length is, length-take end buffer)
 
--- If the next character fits, it is written, and the rest of the quote follows.
 pub quoted_more : (written whole rest after : List ℕ) (room c : ℕ) → length (shown c) ≤ room → IsUtf8 rest
     → rest ≡ encode_utf8 c ++ after → written ++ quoted_end room (chars rest) ≡ whole
     → (written ++ encode_utf8_all (shown c)) ++ quoted_end (room - length (shown c)) (chars after) ≡ whole
 quoted_more written whole rest after room c fits utf8 parts all = grind (arith, append_assoc, chars_past_char, le-leb)
 
--- If the next character does not fit, the quote ends with three dots.
 pub quoted_cut : (written whole rest after : List ℕ) (room c : ℕ) → room < length (shown c) → IsUtf8 rest
     → rest ≡ encode_utf8 c ++ after → written ++ quoted_end room (chars rest) ≡ whole
     → written ++ codes "\"..." ≡ whole
 quoted_cut written whole rest after room c full utf8 parts all =
     rw (chars_past_char rest after c utf8 parts, lt-leb (length (shown c)) room full) at all
 
--- If no character is left, the quote ends.
 pub quoted_all : (written whole rest : List ℕ) (left : ℕ) → length rest ≡ 0
     → written ++ quoted_end left (chars rest) ≡ whole → written ++ codes "\"" ≡ whole
 quoted_all written whole rest left none all = rw (chars_of_none rest none) at all
@@ -361,7 +345,6 @@ taken_first first text rest utf8 parts = record {
   whole = rw (chars_past_char text rest first utf8 parts) refl;
 }
 
--- If the next character is like the first one, and one more may follow, it is taken too.
 pub taken_more : (first : ℕ) (text rest after : List ℕ) (left c : ℕ) → IsUtf8 rest → rest ≡ encode_utf8 c ++ after
     → left ≢ 0 → is_like first c ≡ true → Taken first text rest left → Taken first text after (left - 1)
 taken_more first text rest after zero c utf8 parts some like before = absurd (some refl)
@@ -374,7 +357,6 @@ taken_more first text rest after (suc left) c utf8 parts some like before =
           ∙ rw (chars_past_char rest after c utf8 parts, take_while-cons (is_like first) c (chars after), like) (simp append_assoc);
     })
 
--- If the next character is not like the first one, no more are taken.
 pub taken_other : (first : ℕ) (rest after : List ℕ) (left c : ℕ) → IsUtf8 rest → rest ≡ encode_utf8 c ++ after
     → is_like first c ≡ false → take left (take_while (is_like first) (chars rest)) ≡ []
 taken_other first rest after left c utf8 parts other =
@@ -384,11 +366,9 @@ module _ (first : ℕ) (text rest : List ℕ) (left : ℕ) (is : Taken first tex
   long : length text - length rest ≡ length (encode_utf8_all is.taken)
   long = omega (arith, ap length is.parts, length-append (encode_utf8_all is.taken) rest)
 
-  -- A piece ends where a character begins.
   pub taken_boundary : IsUtf8 rest → IsCharBoundary text (length text - length rest)
   taken_boundary utf8 = rw long (IsCharBoundary-at_seam text (encode_utf8_all is.taken) rest is.parts utf8)
 
-  -- The piece has the characters that were taken.
   pub taken_all : (piece : List ℕ) → IsUtf8 piece → piece ≡ slice_range text 0 (length text - length rest)
       → take left (take_while (is_like first) (chars rest)) ≡ [] → chars piece ≡ first_piece (chars text)
   taken_all piece utf8 cut ends = grind (arith, common_steps, chars_from_encodes)

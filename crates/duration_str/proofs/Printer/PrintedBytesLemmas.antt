@@ -14,7 +14,6 @@ gap_some : (style : Style) (bytes : List ℕ) → 0 < length bytes
 unfolding lib.Utf8.encode
 gap_some style bytes h = search (rules, append-nil)
 
--- Each count has at most 64 digits.
 abbrev pub AreShort : List ℕ → Type 0
 AreShort [] = ⊤
 AreShort (n ∷ counts) = (n < 10 ^ 64) × AreShort counts
@@ -23,7 +22,6 @@ some_part : (style : Style) (bytes : List ℕ) (n : ℕ) (u : TimeUnit) → n < 
     → 0 < length (bytes ++ part_bytes style n u)
 some_part style bytes n u h = search (rules, length-append, some_decimal)
 
--- If there are bytes already, each part comes after what stands between two parts.
 parts_after : (style : Style) (us : List TimeUnit) (bytes counts : List ℕ) → 0 < length bytes → AreShort counts
     → with_counts style bytes us counts
     ≡ bytes ++ encode_utf8_all (flat_map (λ part. between style ++ part) (printed_parts style us counts))
@@ -70,7 +68,6 @@ utf8_ended : (zero bytes : List ℕ) → IsUtf8 zero → IsUtf8 bytes → IsUtf8
 utf8_ended zero [] zero_utf8 utf8 = zero_utf8
 utf8_ended zero (b ∷ bytes) zero_utf8 utf8 = utf8
 
--- The text of counts with at most 64 digits is UTF-8.
 pub IsUtf8-joined : (style : Style) (zero : TimeUnit) (us : List TimeUnit) (counts : List ℕ) → AreShort counts
     → IsUtf8 (encode_utf8_all (joined_parts style zero (printed_parts style us counts)))
 IsUtf8-joined style zero us counts short =

@@ -4,12 +4,10 @@ use Rattle.duration_str.proofs.Characters.NumberLemmas.{decimal_terminal}
 use Rattle.duration_str.proofs.LawProofs.GreatestBreakdown.{greatest_breakdown_holds, one_greatest}
 use Rattle.duration_str.proofs.Sentences.AnswerLemmas.{IsSumOf}
 
--- the counts, or a count of 0 of this unit if there are none
 abbrev pub or_zero : TimeUnit → List (TimeUnit × ℕ) → List (TimeUnit × ℕ)
 or_zero u [] = (u, 0) ∷ []
 or_zero u (p ∷ ps) = p ∷ ps
 
--- the lexemes of counts with their units
 abbrev pub lexemes : Style → List (TimeUnit × ℕ) → List (List ℕ)
 lexemes style [] = []
 lexemes style (p ∷ ps) = decimal p.1 ∷ name_in style (p.1 == 1) p.0 ∷ lexemes style ps
@@ -18,7 +16,6 @@ abbrev pub terminals : List (TimeUnit × ℕ) → List Terminal
 terminals [] = []
 terminals (p ∷ ps) = number p.1 ∷ word (Some p.0) ∷ terminals ps
 
--- the counts, with their units, in the printed text of a duration
 abbrev pub printed : ℕ → List (TimeUnit × ℕ)
 printed nanos = or_zero Second (nonzero units (counts_of unit_lengths nanos))
 
@@ -30,8 +27,6 @@ duration_lexemes style nanos = lexemes style (printed nanos)
 abbrev pub part : Style → TimeUnit × ℕ → List ℕ
 part style p = printed_part style p.1 p.0
 
--- Lexemes that spell the rest, with the two lexemes of a part before them, spell the part and the
--- rest.
 part_spelled : (style : Style) (blanks rest : List ℕ) (p : TimeUnit × ℕ) (ps : List (TimeUnit × ℕ)) → IsBlank blanks
     → Spells (lexemes style ps) rest → Spells (lexemes style (p ∷ ps)) (blanks ++ (part style p ++ rest))
 part_spelled style blanks rest p ps blank more = grind (arith, common_steps)
@@ -48,7 +43,6 @@ all_spelled style u (p ∷ ps) = part_spelled style [] _ p ps refl (later_spelle
 
 -- ---- The lexemes have these terminals
 
--- Each printed name is a name of its unit under all options.
 pub printed_terminal : (default_unit : Option TimeUnit) (o : Options) (style : Style) (one : Bool) (u : TimeUnit)
     → terminal_of (rules_with o default_unit) (name_in style one u) ≡ word (Some u)
 printed_terminal default_unit o style one u = search rules

@@ -1,19 +1,15 @@
--- Lemmas about the columns of a text, and about the length of a report.
 use Rattle.duration_str.proofs.Common.{and_parts, ap, arith, caret_text, cases_Bool, Cause, chars, chars-append, common_steps, drop, encode_utf8, encode_utf8_all, encodes-chars, ForSome, inl, inr, IsCharBoundary, IsUtf8, IsUtf8-take, leb-true, len_utf8_bounds, length, length-append, length-encode, length-le-encodes, List, place_of, refl, Syntax, take, take-append-drop, ℕ, [], ◌*◌, ◌+◌, ◌<◌, ◌^◌, ◌∷◌, ◌≡◌, ◌≤◌, rules}
 use Rattle.duration_str.proofs.Printer.OneLineLemmas.{chars_of_none, one_line_short}
 use Rattle.duration_str.specs.OneLine.{one_line_of}
 use Rattle.std.proofs.lemmas.List.Sums.{count_by-le-length}
 use Rattle.duration_str.specs.Report.{columns_of, is_clear_text, is_wide, report_of}
 
--- If no character is left, all columns are counted.
 pub columns_all : (rest : List ℕ) (n whole : ℕ) → length rest ≡ 0 → n + columns_of (chars rest) ≡ whole → n ≡ whole
 columns_all rest n whole none all = omega (arith, rw (chars_of_none rest none) at all)
 
--- A text takes at most two columns for each character.
 columns_le : (text : List ℕ) → columns_of text ≤ 2 * length text
 columns_le text = omega (arith, count_by-le-length is_wide text)
 
--- A text takes at most two columns for each byte.
 pub columns_short : (text : List ℕ) → IsUtf8 text → columns_of (chars text) ≤ 2 * length text
 columns_short text utf8 = search (rules, encodes-chars, length-le-encodes, columns_le)
 
@@ -22,7 +18,6 @@ bytes_le [] = omega arith
 bytes_le (c ∷ cs) =
     omega (arith, length-encode c, len_utf8_bounds c, length-append (encode_utf8 c) (encode_utf8_all cs), bytes_le cs)
 
--- The text before a place takes at most two columns for each character of the whole text.
 columns_before_le : (text : List ℕ) (place : ℕ) → IsUtf8 text → IsCharBoundary text place
     → columns_of (chars (take place text)) ≤ 2 * length (chars text)
 columns_before_le text place utf8 boundary =
@@ -40,7 +35,6 @@ caret_length : (text : List ℕ) (spaces : ℕ) (line : List ℕ)
     → length (caret_text text spaces line) ≡ length text + (spaces + (3 + length line))
 caret_length text spaces line = grind (arith, common_steps)
 
--- A report has at most 777 bytes.
 pub report_le : (text : List ℕ) (cause : Cause) → IsUtf8 text → length text < 2 ^ 63
     → ForSome (place_of cause) (IsCharBoundary text) → length (report_of text cause) ≤ 777
 report_le text (Syntax place expected) utf8 small placed = elim (cases_Bool (is_clear_text (chars text))) [

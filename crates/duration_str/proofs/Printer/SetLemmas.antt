@@ -41,7 +41,6 @@ ranks_each : (u : TimeUnit) → Each (SameRank u) units
 ranks_each Year = assumption
 ranks_each u = assumption
 
--- Units of the same rank are the same, and a unit of a higher rank is shorter.
 pub ranks : (u v : TimeUnit) → SameRank u v
 ranks u = each_unit (SameRank u) (ranks_each u)
 
@@ -130,15 +129,12 @@ out_skipped set us i inside h =
 suc_plus : (i : ℕ) → suc i ≡ i + 1
 suc_plus i = omega arith
 
--- If none of the first i units is in the set, the set chooses the same units from the others as
--- from all.
 chosen_from : (set : Units) (us : List TimeUnit) (i : ℕ) → i ≤ length us
     → ((j : ℕ) → j < i → is_in set (slice_index_or us j Year) ≡ false) → chosen set us ≡ chosen set (drop i us)
 chosen_from set us zero inside none = refl
 chosen_from set us (suc i) inside none =
     search (rules, suc_plus, out_skipped, chosen_from set us i (omega arith) (λ j h. none j (omega arith)))
 
--- If two sets have the same units among these, they choose the same ones.
 chosen_same : (a b : Units) (us : List TimeUnit)
     → ((j : ℕ) → j < length us → is_in a (slice_index_or us j Year) ≡ is_in b (slice_index_or us j Year))
     → chosen a us ≡ chosen b us
@@ -147,7 +143,6 @@ chosen_same a b [] same = refl
 chosen_same a b (u ∷ us) same =
     rw (same 0 (omega arith), chosen_same a b us (λ j h. same (suc j) (omega arith)))
 
--- Whether each number below a limit passes a test. The greatest number is tested first.
 abbrev passes_below : (ℕ → Bool) → ℕ → Bool
 passes_below test zero = true
 passes_below test (suc n) = test n && passes_below test n
@@ -161,7 +156,6 @@ below test (suc n) j h small =
       | inr other ↦ below test n j parts.1 (grind (arith, nat_tests))
     ]
 
--- A unit's index in the table is its rank.
 rank_at : (j : ℕ) → j < 11 → rank_of (slice_index_or units j Year) ≡ j
 rank_at j h = search (rules, eqb-true, below)
 

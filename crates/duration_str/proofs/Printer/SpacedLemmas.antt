@@ -9,13 +9,11 @@ three_digits n h = length-decimal-le_wide 3 n (omega arith) (omega arith) (omega
 spaced_some : (bytes : List ℕ) → 0 < length bytes → with_gap Short bytes ≡ bytes ++ 32 ∷ []
 spaced_some bytes h = search rules
 
--- Writing a part with a space after it gives the text with that part, and a space.
 pub spaced_part : (bytes : List ℕ) (u : TimeUnit) (n : ℕ) → 0 < n → n < 10 ^ 64
     → with_gap Short bytes ++ (decimal n ++ encode_utf8_all (row_of u).printed ++ 32 ∷ [])
     ≡ with_gap Short (with_part Short bytes u n)
 spaced_part bytes u n some short = search (rules, length-append, some_decimal, spaced_some, append_assoc)
 
--- Without its last byte, a text that ends with a space is the text of the parts.
 pub last_space : (end : ℕ) (buffer bytes : List ℕ) → end ≤ length buffer → take end buffer ≡ with_gap Short bytes
     → take (end - 1) buffer ≡ bytes
 last_space end buffer [] inside same =
@@ -26,7 +24,6 @@ last_space end buffer (b ∷ bytes) inside same =
     omega (arith, ap length same, length-take-le end buffer inside, length-append whole (32 ∷ [])) in
     sym (take-take (end - 1) end buffer (omega arith)) ∙ rw (same, before) (take-append_seam whole (32 ∷ []))
 
--- The counts of a duration are computed from its days, its other seconds and its other nanoseconds.
 pub counts_by_days : (days secs nanos : ℕ) → secs < 86400 → nanos < 10 ^ 9
     → counts_of unit_lengths ((days * 86400 + secs) * 10 ^ 9 + nanos)
     ≡ counts_of (365 ∷ 91 ∷ 30 ∷ 7 ∷ 1 ∷ []) days
@@ -58,7 +55,6 @@ pub no_counts : (bytes : List ℕ) (us : List TimeUnit) → with_counts Short by
 no_counts bytes [] = refl
 no_counts bytes (u ∷ us) = refl
 
--- After the next part, the parts that are left give the same text.
 pub next_part : (bytes : List ℕ) (us : List TimeUnit) (counts : List ℕ) (first i j : ℕ) → j ≡ first + i
     → i < length counts → first + i < length us
     → with_counts Short (with_part Short bytes (get_or us j Year) (get_or counts i 0)) (drop (first + (i + 1)) us)

@@ -11,7 +11,6 @@ use Rattle.duration_str.specs.OtherResults.{IsValueOrFault, Reads}
 
 -- ---- The faults of a sentence
 
--- Under `no_calc` the table allows no operator, so none is other than plus.
 pub allowed_plus : (r : Rules) (last : Option Terminal) (terminals : List Terminal) → r.options.no_calc ≡ true
     → AreAllowed r last terminals → AllPlus terminals
 allowed_plus r last [] calc h = tt
@@ -20,7 +19,6 @@ allowed_plus r last (word u ∷ terminals) calc h = allowed_plus r (Some (word u
 allowed_plus r last (operator op ∷ terminals) calc h = let none = no_operators r last calc in cc h.0
 allowed_plus r last (other ∷ terminals) calc h = cc h.0
 
--- A sentence evaluates exactly if it has neither an early nor a late fault.
 evaluates_by : (r : Rules) (terminals : List Terminal) → IsSentence r terminals
     → (Evaluates (terms_of r terminals) ↔ (early_fault r terminals [] ≡ None) × (late_fault r terminals ≡ None))
 evaluates_by r terminals s = elim (cases_Bool r.options.no_calc) [
@@ -59,7 +57,6 @@ has_value_below (t ∷ u ∷ later) e =
 sentence_front : (r : Rules) (terminals : List Terminal) → IsSentence r terminals → IsFront r terminals terminals []
 sentence_front r terminals s = search rules
 
--- These terminals are a sentence that evaluates and has this value.
 pub record EvaluatesTo (r : Rules) (terminals : List Terminal) (nanos : ℕ) : Type 0 where
   pub sentence : IsSentence r terminals
   pub evaluates : Evaluates (terms_of r terminals)
@@ -83,7 +80,6 @@ read_below {r} {nanos = nanos} read = search (rules, has_value_below)
 one_value : {r : Rules} {text : List ℕ} {m n : ℕ} → IsRead r text m → IsRead r text n → m ≡ n
 one_value h k = cc ((read_terminals h).value, (read_terminals k).value)
 
--- A front, its rest and the place of the rest determine the cause.
 one_cause_at : {r : Rules} {place : ℕ} {front rest : List Terminal} {c d : Cause}
     → IsRefusedAt r place front rest c → IsRefusedAt r place front rest d → c ≡ d
 one_cause_at (early h) (early k) = cc
@@ -100,7 +96,6 @@ evaluates_not_refused : {r : Rules} {place : ℕ} (terminals : List Terminal) (c
     → Evaluates (terms_of r terminals) → IsRefusedAt r place terminals [] cause → ⊥
 evaluates_not_refused {r} terminals cause s e h = search (rules, evaluates_by r, append-nil)
 
--- If a text that a sentence spells is refused, so are the terminals of the sentence.
 pub refused_sentence : (r : Rules) (text : List ℕ) (lexemes : List (List ℕ)) (cause : Cause) (place : ℕ)
     → IsSentenceOf r lexemes text → IsRefused r text cause
     → IsRefusedAt r place (map (terminal_of r) lexemes) [] cause
@@ -133,12 +128,10 @@ module _ (r : Rules) where
 
 -- ---- The computed answer
 
--- what a result says about a text
 abbrev Means : Rules → List ℕ → Result ℕ Cause → Type 0
 Means r text (Ok nanos) = IsRead r text nanos
 Means r text (Err cause) = IsRefused r text cause
 
--- what a result says about a front and the rest, which starts at byte `place`
 abbrev MeansAt : Rules → ℕ → List Terminal → List Terminal → Result ℕ Cause → Type 0
 MeansAt r place front rest (Ok nanos) = (rest ≡ []) × EvaluatesTo r front nanos
 MeansAt r place front rest (Err cause) = IsRefusedAt r place front rest cause
@@ -190,7 +183,6 @@ answer_means r (c ∷ text) =
     let f = table_front r terminals in
     text_means r c text _ _ _ f (rw (front_allowed r None terminals).1 (front_means r _ _ _ f _ refl))
 
--- Two results that are both true of a text are the same.
 only_meaning : (r : Rules) (text : List ℕ) (x y : Result ℕ Cause) → Means r text x → Means r text y → x ≡ y
 only_meaning r text x y h k = search (rules, one_value, not_both, one_cause)
 
@@ -206,13 +198,11 @@ one_reading_holds = record {
   not_both = not_both;
 }
 
--- The computed answer is a value exactly if the text is read as that value.
 pub answer_read : (r : Rules) (text : List ℕ) (nanos : ℕ) → (answer r text ≡ Ok nanos ↔ IsRead r text nanos)
 answer_read r text nanos =
     let is = answer_means r text in
     (λ e. rw e at is, only_meaning r text _ (Ok nanos) is)
 
--- The computed answer is a cause exactly if the text is refused for that cause.
 pub answer_refused : (r : Rules) (text : List ℕ) (cause : Cause) → (answer r text ≡ Err cause ↔ IsRefused r text cause)
 answer_refused r text cause =
     let is = answer_means r text in
@@ -221,9 +211,8 @@ answer_refused r text cause =
 pub answer_is_reading_holds : AnswerIsReading
 answer_is_reading_holds = record { read = answer_read; refused = answer_refused }
 
--- ---- A text that a sum spells is read as the sum, or overflows if that is 2^64 or more
+-- ---- Texts that a sum spells
 
--- The lexemes are a sentence without `*`, and they spell the text.
 pub record IsSumOf (r : Rules) (lexemes : List (List ℕ)) (text : List ℕ) : Type 0 where
   pub sentence : IsSentenceOf r lexemes text
   pub plus : AllPlus (map (terminal_of r) lexemes)
@@ -246,8 +235,6 @@ fitting_sum_read {r} {lexemes} s f e h =
       value = value_is_sum terms some added ∙ ap Some e;
     }
 
--- With the library's own table, each term of a sum below 2^64 fits, so a text that the sum spells
--- is read as it.
 pub sum_read : {default_unit : Option TimeUnit} {o : Options} {lexemes : List (List ℕ)} {text : List ℕ} {nanos : ℕ}
     → IsSumOf (rules_with o default_unit) lexemes text
     → sum_of (written_terms (rules_with o default_unit) lexemes) ≡ nanos → nanos < 2 ^ 64
@@ -276,7 +263,6 @@ sum_overflows {r} {lexemes} {text} s f h = search (rules, sentence_refused r, te
 
 -- ---- The result of a call, in terms of the sentences of the text
 
--- A result that is the computed answer is right for the text.
 pub reads_text : (r : Rules) (bytes : List ℕ) (result : Result ℕ Fault)
     → IsValueOrFault (λ nanos. answer r (chars bytes) ≡ Ok nanos) (λ cause. answer r (chars bytes) ≡ Err cause) bytes result
     → Reads r bytes result
@@ -287,11 +273,9 @@ reads_text r bytes (Err f) h = record {
   refused = (h.0, (answer_refused r (chars bytes) f.cause).0 h.1);
 }
 
--- The result is these nanoseconds as a duration, or the same fault.
 abbrev IsDurationOf : Result ℕ Fault → Result Duration Fault → Type 0
 IsDurationOf n r = MatchResult n (λ nanos. IsOkAnd r (λ d. as_nanos d ≡ nanos)) (λ fault. r ≡ Err fault)
 
--- If a result in nanoseconds is right, so is the same result as a duration.
 pub parses_text : (r : Rules) (bytes : List ℕ) (n : Result ℕ Fault) (result : Result Duration Fault)
     → IsDurationOf n result → Reads r bytes n → Parses r bytes result
 parses_text r bytes (Ok nanos) (Ok d) is h = search (arith, read_below)
@@ -299,7 +283,6 @@ parses_text r bytes (Ok nanos) (Err f) is h = absurd is
 parses_text r bytes (Err f) result is h =
     rw is (record { read = tt; accepts = h.accepts; refused = h.refused; fits = tt })
 
--- A right result of `parse` is also right by `ParsesAs`.
 pub parses_as : (bytes : List ℕ) (r : Result Duration Fault) → Parses (rules_of off) bytes r
     → ParsesAs (λ d. pos (as_nanos d)) bytes r
 parses_as bytes (Ok d) parsed = (as_nanos d, parsed.read, refl)

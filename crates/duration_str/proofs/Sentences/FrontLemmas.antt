@@ -1,18 +1,15 @@
 -- Lemmas about sentences and fronts, in terms of the table of what can follow a terminal.
 use Rattle.duration_str.proofs.Common.{[], allows, and_from, and_parts, ap, arith, BeginsSentence, CanFollow, cases_Bool, complete_terminals, drop, drop_at, Expected, expected_after, false, front_after, front_of, is_some, IsFront, IsSentence, IsTrue, last_of, le_antisymm, le_of_suc-le-suc, length, length-append, List, None, not, not-true, not_from_false, not_from_true, number, operator, Option, Plus, refl, Rules, same_from_decides, Second, Some, suc, sym, take, take-append-drop, take_at, Terminal, true, without_last_number, word, zero, zero-le, ℕ, ⊤, ◌++◌, ◌↔◌, ◌∷◌, ◌≡◌, ◌≤◌, rules}
 
--- The table allows each terminal after the one before it, and the first one after `last`.
 abbrev pub AreAllowed : Rules → Option Terminal → List Terminal → Type 0
 AreAllowed r last [] = ⊤
 AreAllowed r last (t ∷ terminals) =
     IsTrue (allows (expected_after r last) t) × AreAllowed r (Some t) terminals
 
--- The table allows the end after these terminals, which follow `last`.
 abbrev pub CanEnd : Rules → Option Terminal → List Terminal → Type 0
 CanEnd r last terminals =
     IsTrue (expected_after r (last_of last terminals)).text_end
 
--- Which kinds can follow a front is determined by the front.
 pub one_expected : {r : Rules} {front : List Terminal} {a b : Expected}
     → CanFollow r front a
     → CanFollow r front b → a ≡ b
@@ -23,7 +20,6 @@ one_expected {a = a} {b = b} h k =
     let end_same = same_from_decides a.text_end b.text_end h.end_expected k.end_expected in
     λ i. record { number = number_same i; unit_word = unit_same i; operator = operator_same i; text_end = end_same i }
 
--- Without a default unit the table lets no text end with a number.
 no_number_last : (r : Rules) (last : Option Terminal) (front : List Terminal) → is_some r.default_unit ≡ false
     → CanEnd r last front → without_last_number front ≡ front
 no_number_last r last [] none h = refl
@@ -32,12 +28,11 @@ no_number_last r last (number n ∷ t ∷ front) none h =
     ap (◌∷◌ (number n)) (no_number_last r (Some (number n)) (t ∷ front) none h)
 no_number_last r last (t ∷ front) none h = ap (◌∷◌ t) (no_number_last r (Some t) front none h)
 
--- If the end can follow these terminals, all their terms are complete.
 pub whole_complete : (r : Rules) (front : List Terminal) → CanEnd r None front → complete_terminals r front [] ≡ front
 whole_complete r front h = search (rules, no_number_last)
 
 module _ (r : Rules) where
-  -- ---- A sentence begins with exactly what the table allows
+  -- ---- The beginnings of sentences
 
   pub sentence_allowed : (terminals : List Terminal) → IsSentence r terminals
       → AreAllowed r None terminals
@@ -60,8 +55,6 @@ module _ (r : Rules) where
       → AreAllowed r None front
   begins_allowed front b = ((allowed-append None front b.0).0 (sentence_allowed (front ++ b.0) b.1)).0
 
-  -- Terminals that the table allows one after another begin a sentence, and they are a sentence
-  -- exactly if the table allows the end after them.
   allowed_begins : (terminals : List Terminal) → AreAllowed r None terminals
       → BeginsSentence r terminals
       × (CanEnd r None terminals ↔ IsSentence r terminals)

@@ -9,7 +9,6 @@ pub begins_with : {lexeme text : List ℕ} {IsRest : List ℕ → Type 0} (blank
     → text ≡ blanks ++ (lexeme ++ rest) → IsRest rest → BeginsWith lexeme IsRest text
 begins_with blanks rest blank parts is_rest = search (rules)
 
--- Characters whose terminal is of an expected kind are a lexeme.
 allowed_is_lexeme : (r : Rules) (expected : Expected) (w : List ℕ)
     → IsTrue (allows expected (terminal_of r w))
     → IsLexeme r.options w
@@ -17,7 +16,6 @@ allowed_is_lexeme r expected = terminal_cases r (λ w t. IsTrue (allows expected
     (λ h. cc) (λ c cs digits h. digits_are_lexeme r.options c cs digits) (λ c cs letters h. letters_are_lexeme r.options c cs letters)
     (λ c op _ _ sign h. (grind (arith, nat_tests), refl)) (λ c cs _ _ h. cc)
 
--- The table allows no terminal after one of its own sort.
 sorts_apart : (r : Rules) (s t : Terminal)
     → IsTrue (allows (expected_after r (Some s)) t)
     → sort_of s ≡ sort_of t → ⊥
@@ -37,7 +35,6 @@ module _ (o : Options) where
   tokens_spell text = tokens_spell_at 0 text (tokens_of o text) (tokens_are o 0 text)
 
 module _ (r : Rules) where
-  -- Two lexemes are not of one run if the table allows one after the other.
   stops_before : (c : ℕ) (cs blanks w rest : List ℕ) → IsBlank blanks → IsLexeme r.options (c ∷ cs) → IsLexeme r.options w
       → IsTrue (allows (expected_after r (Some (terminal_of r (c ∷ cs)))) (terminal_of r w))
       → goes_on r.options c (blanks ++ (w ++ rest)) ≡ false
@@ -46,8 +43,6 @@ module _ (r : Rules) where
   stops_before c cs [] (d ∷ ds) rest h p q a = false_from_ne_true _ (λ run.
       sorts_apart r _ _ a (sym (lexeme_sort r c cs p) ∙ grind (arith, or_cases, and_parts, letter-not_digit) ∙ lexeme_sort r d ds q))
 
-  -- A lexeme of a sentence is as long as possible: its run of characters ends where the lexeme
-  -- ends.
   ends_in_sentence : (w rest : List ℕ) (ws : List (List ℕ)) → IsLexeme r.options w
       → AreAllowed r (Some (terminal_of r w)) (map (terminal_of r) ws) → Spells ws rest
       → EndsRun r.options w rest
@@ -56,7 +51,6 @@ module _ (r : Rules) where
   ends_in_sentence (c ∷ cs) (d ∷ rest) [] p a s = stops_at_blank r.options c d (and_parts _ _ s).0
   ends_in_sentence (c ∷ cs) rest (v ∷ ws) p a s = search (rules, stops_before, allowed_is_lexeme r)
 
-  -- The lexemes of a sentence that spells the text are the characters of its tokens.
   spelled_tokens : (at : ℕ) (last : Option Terminal) (lexemes : List (List ℕ)) (text : List ℕ)
       → AreAllowed r last (map (terminal_of r) lexemes) → Spells lexemes text
       → (tokens : List Token) × AreTokens r.options at text tokens × (lexemes_of tokens ≡ lexemes)
@@ -89,7 +83,6 @@ module _ (r : Rules) where
   pub empty_no_sentence : (lexemes : List (List ℕ)) → IsSentenceOf r lexemes [] → ⊥
   empty_no_sentence lexemes s = rw (sentence_terminals [] lexemes s) at s.0
 
--- All characters of each lexeme pass the test.
 abbrev pub EachPasses : (ℕ → Bool) → List (List ℕ) → Type 0
 EachPasses test [] = ⊤
 EachPasses test (w ∷ lexemes) = IsTrue (list_all test w) × EachPasses test lexemes

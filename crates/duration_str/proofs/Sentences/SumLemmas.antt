@@ -3,7 +3,7 @@
 use Rattle.duration_str.proofs.Common.{[], AllPlus, ap, append-nil, append_assoc, arith, Bool, cases_lt, Cause, combination, CondUnit, Evaluates, evaluation_fault, fault_of_terms, first_fault, fits, is_same_operator, IsSentence, later_total, le-ltb, length, List, list_all, lt-ltb, ltb-true, Mixed, None, number, operator, Option, Options, or_else, Overflow, place_after, Plus, refl, Rules, rules, rules_with, running_fault, Second, Some, sum_of, Term, term_fault, Terminal, terms_after, terms_of, TimeUnit, true, unless, unwrap_or, value_of, value_of_term, word, ℕ, ⊤, ◌++◌, ◌+◌, ◌<◌, ◌^◌, ◌↔◌, ◌∷◌, ◌≡◌, ◌≤◌}
 use Rattle.duration_str.proofs.Characters.UnitLemmas.{some_length}
 
--- ---- When there is no fault: a set of equivalences for `simp`
+-- ---- When there is no fault
 
 pub or_else-none : (a b : Option Cause) → (or_else a b ≡ None) ↔ ((a ≡ None) × (b ≡ None))
 or_else-none a b = grind arith
@@ -27,7 +27,6 @@ term_below_no_fault place t l h = simp no_fault (l, h)
 
 -- ---- Terms that are added
 
--- Each term has the operator plus.
 abbrev pub AreAdded : List Term → Type 0
 AreAdded [] = ⊤
 AreAdded (t ∷ terms) = (t.operator ≡ Plus) × AreAdded terms
@@ -42,12 +41,10 @@ terms_added_after r op _ e a = tt
 pub terms_added : (r : Rules) (terminals : List Terminal) → AllPlus terminals → AreAdded (terms_of r terminals)
 terms_added r terminals a = terms_added_after r Plus terminals refl a
 
--- Each term has a length above 0.
 abbrev pub AreLong : List Term → Type 0
 AreLong [] = ⊤
 AreLong (t ∷ terms) = (1 ≤ t.length) × AreLong terms
 
--- With the library's own table, each term has a length above 0.
 pub terms_long : (default_unit : Option TimeUnit) (o : Options) (op : CondUnit) (terminals : List Terminal)
     → AreLong (terms_after (rules_with o default_unit) op terminals)
 terms_long default_unit o op (number n ∷ word (Some u) ∷ more) = (some_length u, terms_long default_unit o Plus more)
@@ -63,7 +60,6 @@ pub sum-append : (xs ys : List Term) → sum_of (xs ++ ys) ≡ sum_of xs + sum_o
 sum-append [] ys = omega arith
 sum-append (x ∷ xs) ys = rw (sum-append xs ys) (omega arith)
 
--- Each term's number and value are below 2^64.
 abbrev pub EachFits : List Term → Type 0
 EachFits [] = ⊤
 EachFits (t ∷ terms) = (t.number < 2 ^ 64) × (value_of_term t < 2 ^ 64) × EachFits terms
@@ -76,7 +72,7 @@ sum_fits_each [] l h = tt
 sum_fits_each (t ∷ terms) l h =
     (number_below t l.0 (omega arith), omega arith, sum_fits_each terms l.1 (omega arith))
 
--- ---- The only fault of terms that fit is that of their sum
+-- ---- The fault of a sum whose terms fit
 
 abbrev pub overflow : ℕ → Option Cause
 overflow n = unless (fits n) (Overflow None)

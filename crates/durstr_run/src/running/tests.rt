@@ -1,4 +1,3 @@
-// Runs with readers and writers in memory.
 ghost use Rattle.std.specs.Prelude.{◌≤◌};
 
 use super::run;
@@ -72,8 +71,8 @@ impl Read for Blanks {
 /// The bytes that a `Sink` can hold.
 const ROOM: usize = 2_048;
 
-/// A writer that takes at most `step` bytes per call into a fixed buffer, and counts the flushes.
-/// The call after `calls` calls fails, and so does the first flush if `flushes` is not set. Later
+/// A writer that takes at most `step` bytes per write into a fixed buffer, and counts the flushes.
+/// The write after `calls` writes fails, and so does the first flush if `flushes` is not set. Later
 /// calls work again.
 #[derive(Drop)]
 struct Sink {
@@ -137,7 +136,7 @@ impl Write for Sink {
 }
 
 /// Whether a run with all options off ends with this answer, has written this text, and has flushed
-/// it if no call failed. After a call failed, the run may make no other.
+/// it once if the answer is no error. After a call failed, the run may make no other.
 fn ends(
     alloc: Global,
     mut source: Source<'_>,

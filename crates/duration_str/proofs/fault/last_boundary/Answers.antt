@@ -6,7 +6,6 @@ some_place : (text : List ℕ) (place : ℕ) → IsCharBoundary text 0 → (IsCh
 some_place text zero start inside = absurd (inside start)
 some_place text (suc place) start inside = omega arith
 
--- A byte that a step has passed is the byte at the place, or was passed before.
 passed_one : (text : List ℕ) (place most : ℕ) → (IsCharBoundary text place → ⊥)
     → ((i : ℕ) → place < i → i ≤ most → IsCharBoundary text i → ⊥)
     → (i : ℕ) → place - 1 < i → i ≤ most → IsCharBoundary text i → ⊥

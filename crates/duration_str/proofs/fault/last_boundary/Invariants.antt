@@ -1,7 +1,6 @@
 use Rattle.duration_str.proofs.Common.{IsCharBoundary, ℕ, ◌<◌, ◌≤◌}
 use Rattle.duration_str.proofs.fault.last_boundary.Given as goal
 
--- no byte that was passed is a boundary
 abbrev pub invariant-loop-place : goal.invariant-loop-place
 invariant-loop-place l = record {
   bound : l.place ≤ l.initial.place;

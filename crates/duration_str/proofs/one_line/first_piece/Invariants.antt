@@ -4,7 +4,6 @@ use denote.Shadow.{shadow}
 use Rattle.duration_str.proofs.Printer.OneLineLemmas.{Taken}
 use Rattle.duration_str.proofs.one_line.first_piece.Given as goal
 
--- the characters that were passed are taken for the piece
 abbrev pub invariant-loop-c : goal.invariant-loop-c
 invariant-loop-c l = record {
   text : shadow (Utf8 l.rest);

@@ -3,7 +3,6 @@ use Rattle.std.specs.Char.Escape.{escape_default}
 use Rattle.std.specs.Char.Iter.{escape_end, escape_rest}
 use Rattle.duration_str.proofs.one_line.put_escaped.Given as goal
 
--- the bytes that are written, and the rest to write, are the whole text
 abbrev pub invariant-loop-part : goal.invariant-loop-part
 invariant-loop-part l = record {
   bound : escape_end l.part-iterator ≤ 10;

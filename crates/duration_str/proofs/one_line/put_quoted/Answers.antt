@@ -4,14 +4,12 @@ use Rattle.duration_str.proofs.Printer.OneLineLemmas.{end_inside, quoted_all, qu
 use Rattle.duration_str.proofs.one_line.put_quoted.Goals.{After-put_shown, After-put_text}
 use Rattle.duration_str.proofs.one_line.put_quoted.Goals as goal
 
--- the bytes that are written, the character, and the rest after it are the whole text
 more : (c : After-put_shown)
     → (take c.loop-c.end c.loop-c.buffer ++ encode_utf8_all (shown c.in-Some.c))
     ++ quoted_end (c.loop-c.room - c.shown_len-width.result) (chars (chars_rest c.next.new.self))
     ≡ take c.args.at c.args.buffer.now ++ quoted (chars c.args.text.now)
 more c = search (rules, quoted_more)
 
--- a short text of clear characters
 clear : (c : After-put_text)
     → (take c.in_ok-end.end c.put.new.buffer ++ c.args.text.now) ++ codes "\""
     ≡ take c.args.at c.args.buffer.now ++ quoted (chars c.args.text.now)

@@ -2,7 +2,6 @@ use Rattle.duration_str.proofs.Common.{chars, chars_rest, IsUtf8, length, take, 
 use Rattle.duration_str.specs.OneLine.{quoted, quoted_end}
 use Rattle.duration_str.proofs.one_line.put_quoted.Given as goal
 
--- the bytes that are written, and the rest to write, are the whole text
 abbrev pub invariant-loop-c : goal.invariant-loop-c
 invariant-loop-c l = record {
   utf8 : IsUtf8 (chars_rest l.chars);

@@ -4,8 +4,6 @@ use Rattle.duration_str.proofs.Printer.ReportLemmas.{columns_all, columns_short}
 use Rattle.duration_str.proofs.report.columns_of.Goals.{After-from}
 use Rattle.duration_str.proofs.report.columns_of.Goals as goal
 
--- the columns so far, those of the character, and those of what is left after it add up to all
--- columns
 more : (c : After-from)
     → (c.loop-c.columns + (1 + c.from.result)) + columns_of (chars (chars_rest c.next.new.self))
     ≡ columns_of (chars c.args.text.now)

@@ -2,7 +2,6 @@ use Rattle.duration_str.proofs.Common.{chars, chars_rest, IsUtf8, ◌+◌, ◌�
 use Rattle.duration_str.specs.Report.{columns_of}
 use Rattle.duration_str.proofs.report.columns_of.Given as goal
 
--- the columns of what was passed and of what is left add up to all columns
 abbrev pub invariant-loop-c : goal.invariant-loop-c
 invariant-loop-c l = record {
   utf8 : IsUtf8 (chars_rest l.chars);

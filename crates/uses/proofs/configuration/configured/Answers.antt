@@ -8,7 +8,6 @@ use Rattle.duration_str.specs.Messages.{IsErrorOf, IsOverflow}
 use Rattle.uses.specs.Configuration.{IsConfigured, Overflows}
 use Rattle.uses.proofs.configuration.configured.Goals as goal
 
--- The value is read as this, or refused by this fault.
 abbrev IsGiven : Data → Result Duration Fault → Type 0
 IsGiven value result = IsRequired (λ d. pos (as_nanos d)) value result
 

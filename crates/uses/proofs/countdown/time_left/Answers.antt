@@ -3,7 +3,6 @@ use Rattle.uses.specs.Countdown.{coarse}
 use Rattle.duration_str.specs.Format.{chosen, is_in}
 use Rattle.uses.proofs.countdown.time_left.Goals as goal
 
--- The format's units and all shorter ones are all units.
 all_lengths : map nanos_of (units_within coarse ++ shorter_units (units_within coarse)) ≡ unit_lengths
 unfolding chosen is_in
 all_lengths = refl

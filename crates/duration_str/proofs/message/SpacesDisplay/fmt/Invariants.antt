@@ -2,7 +2,6 @@ use Rattle.duration_str.proofs.Common.{replicate, ◌-◌, ◌≤◌}
 use Rattle.std.specs.Fmt.{HasWritten, IsPlainFormatter}
 use Rattle.duration_str.proofs.message.SpacesDisplay.fmt.Given as goal
 
--- all spaces except the ones that are left were written
 abbrev pub invariant-loop-left : goal.invariant-loop-left
 invariant-loop-left g l = record {
   within : l.left ≤ l.initial.left;
