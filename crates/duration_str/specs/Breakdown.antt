@@ -16,7 +16,6 @@ AreParts format nanos parts =
     (counts : List ℕ)
     × IsGreatestWithin (lengths_within format) format.parts nanos counts × (parts ≡ nonzero (units_within format) counts)
 
--- the nanoseconds of these parts together
 abbrev pub sum_of_parts : List (TimeUnit × ℕ) → ℕ
 sum_of_parts [] = 0
 sum_of_parts ((u, n) ∷ parts) = n * nanos_of u + sum_of_parts parts
@@ -25,7 +24,6 @@ sum_of_parts ((u, n) ∷ parts) = n * nanos_of u + sum_of_parts parts
 abbrev pub parts_in : List TimeUnit → ℕ → ℕ → List (TimeUnit × ℕ)
 parts_in us most nanos = nonzero us (counts_within (map nanos_of us) most nanos)
 
--- the parts that are still to come
 abbrev pub parts_left : Breakdown → List (TimeUnit × ℕ)
 parts_left b = parts_in (units_of b.bits) b.most b.rest
 
