@@ -9,8 +9,8 @@ use Rattle.duration_str.specs.Format.{IsGreatestWithin, counts_within, lengths_w
 use Rattle.duration_str.specs.Printing.{nonzero}
 use Rattle.duration_str.specs.Internal.UnitTable.{units_of}
 
--- These are the parts of a duration of `nanos` nanoseconds in this format: the counts of its
--- greatest breakdown that are not 0, each with its unit, the longest unit first.
+-- These are the parts of a duration of `nanos` nanoseconds in this format: of the greatest counts
+-- that fit (`IsGreatestWithin`), those that are not 0, each with its unit, the longest unit first.
 abbrev pub AreParts : Format → ℕ → List (TimeUnit × ℕ) → Type 0
 AreParts format nanos parts =
     (counts : List ℕ)

@@ -46,8 +46,8 @@ HasNoCapital text = IsTrue (list_all (λ c. not (is_ascii_uppercase c)) text)
 abbrev pub HasNoChinese : Characters → Type 0
 HasNoChinese text = IsTrue (list_all (λ c. not (is_chinese c)) text)
 
--- Two sentences that spell a text are equal. A sentence spells a text exactly if the sentence's
--- lexemes are those of the text's tokens.
+-- Two sentences that spell a text have the same lexemes. A sentence spells a text exactly if the
+-- sentence's lexemes are those of the text's tokens.
 pub record OneSentence : Type 0 where
   pub equal : (r : Rules) (text : Characters) (lexemes others : List Characters)
       → IsSentenceOf r lexemes text → IsSentenceOf r others text → lexemes ≡ others

@@ -100,8 +100,8 @@ near_words NanoSecond = codes "nsecs" ∷ codes "nanos" ∷ []
 abbrev pub is_among : List Characters → Bytes → Bool
 is_among words bytes = list_any (bytes_eq bytes) (map encode_utf8_all words)
 
--- the name to write instead of a word, if it is near one, given the word's bytes. It is the printed
--- name of the unit, but `us` instead of `µs` for a word without the micro sign
+-- the name to write instead of a word, if any, given the word's bytes. It is the printed name of
+-- the unit that the word is near, but `us` instead of `µs` for a word without the micro sign
 abbrev pub near_name : Bytes → Option Characters
 near_name word =
     let small = map to_ascii_lowercase word in

@@ -14,7 +14,7 @@ IsNumber text = (0 < length text) × IsTrue (list_all is_digit text)
 abbrev pub term_of : ℕ → TimeUnit → Term
 term_of n u = record { operator = Plus; number = n; length = nanos_of u }
 
--- the fault if there is one, otherwise the result
+-- the fault if there is one, and otherwise the result
 abbrev pub fault_or : {A : Type 0} → Option Cause → Result A Cause → Result A Cause
 fault_or (Some cause) result = Err cause
 fault_or None result = result

@@ -54,7 +54,7 @@ abbrev pub between : Style → Characters
 between Compact = []
 between style = codes " "
 
--- a count in decimal, followed by its unit's name
+-- a count in decimal, followed by its unit's name, in a style
 abbrev pub printed_part : Style → ℕ → TimeUnit → Characters
 printed_part style n u = decimal n ++ (before_name style ++ name_in style (n == 1) u)
 

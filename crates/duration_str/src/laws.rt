@@ -16,7 +16,7 @@ pub fn one_sentence()
 
 /// The last terminal of the beginning of a sentence, `no_calc` and whether there is a default unit
 /// decide what can follow. Nothing else does. The longest prefix of a text's terminals that begins
-/// a sentence ends before the first terminal that can't follow the one before it. So `1m` can be
+/// a sentence ends before the first terminal that can't follow those before it. So `1m` can be
 /// followed by a number, an operator (not under `no_calc`) or the end, and the longest such prefix
 /// of `1m 3-5` is `1m 3`.
 #[tactic(auto, using(crate::proofs::LawProofs::PlaceAndKinds::place_and_kinds_hold))]

@@ -99,7 +99,8 @@ checked_combination op x (Ok y) = ok_or (u64_from (combination op x y)) (Overflo
 checked_combination op x (Err cause) = Err cause
 
 -- the total of the later terms after one more term, or the fault of that step. The first argument
--- has the operator and the total of those so far, and `next` is the operator before the new term
+-- has the operator and the total of those so far, if there are any, and `next` is the operator
+-- before the new term
 abbrev pub total_with : Option (CondUnit × ℕ) → CondUnit → Option ℕ → ℕ → Result ℕ Cause
 total_with None next n length = checked_term None n length
 total_with (Some (op, total)) next n length =
@@ -125,7 +126,7 @@ pub record CutsOn {A : Type 0} (old new : Tokens) (result : Result A Cause) : Ty
   pub same_source : source new ≡ source old
   pub reached : IfErr result (IsPlacedUpTo (cut_place new))
 
--- After an operator a number is ahead; without an operator the whole source is cut.
+-- If there is an operator, a number is ahead. If there is none, the whole source is cut.
 abbrev pub IsFollowed : Tokens → Option CondUnit → Type 0
 IsFollowed s None = cut_place s ≡ length (source s)
 IsFollowed s (Some op) = IsAhead s (Some Number)
