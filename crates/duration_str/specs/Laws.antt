@@ -236,9 +236,8 @@ pub record IsSameUnit (older row : UnitRow) : Type 0 where
   pub long : long_name row ≡ long_name older
 
 -- Each name in the table from before the quarter still names its unit, and that unit has the same
--- length and the same printed names. A sentence with that table is a sentence with today's table,
--- and has the same terminals. So a text that was read then is read as the same value, and a text
--- whose evaluation was refused then is refused for the same cause.
+-- length and the same printed names. A text that was read then is read as the same value, and a
+-- text whose evaluation was refused then is refused for the same cause.
 pub record OlderTexts : Type 0 where
   pub names : (o : Options) (name : Characters) (u : TimeUnit) → unit_of_word (older_rules o) name ≡ Some u
       → unit_of_word (rules_of o) name ≡ Some u

@@ -21,7 +21,6 @@ pub record Term : Type 0 where
 abbrev pub value_of_term : Term → ℕ
 value_of_term t = t.number * t.length
 
--- the length of the unit `Second`
 abbrev pub one_second : ℕ
 one_second = nanos_of Second
 

@@ -7,8 +7,8 @@ use crate::settings::Settings;
 use crate::token::{TokenStart, Tokens};
 use crate::unit::TimeUnit;
 
-/// The operator between the later terms so far, and their total. It is `None` if there are none,
-/// and their first fault if they have one. Under `no_calc` the first term is counted among them.
+/// The operator of the later terms so far, and their total. It is `None` if there are none, and
+/// their first fault if they have one. Under `no_calc` the first term is counted among them.
 type Later = Result<Option<(CondUnit, u64)>, Cause>;
 
 /// Reads the tokens. Returns their value in nanoseconds, or the cause of their refusal.
