@@ -12,12 +12,9 @@ use Rattle.duration_str.specs.Value.{terms_of, value_of}
 use Rattle.duration_str.specs.OneTerm.{fault_or}
 use Rattle.duration_str.specs.Reading.{early_fault, late_fault}
 
--- what can start a text or follow an operator: a number
 abbrev pub expected_at_start : Expected
 expected_at_start = record { number = true; unit_word = false; operator = false; text_end = false }
 
--- what can follow a number: a unit, and, with a default unit, the end and (not under `no_calc`) an
--- operator
 abbrev pub expected_after_number : Rules → Expected
 expected_after_number r =
     record {
@@ -27,7 +24,6 @@ expected_after_number r =
       text_end = is_some r.default_unit;
     }
 
--- what can follow a unit: a number, the end, and (not under `no_calc`) an operator
 abbrev pub expected_after_unit : Rules → Expected
 expected_after_unit r =
     record { number = true; unit_word = false; operator = not r.options.no_calc; text_end = true }
@@ -41,7 +37,6 @@ expected_after r (Some (operator op)) = expected_at_start
 expected_after r (Some other) =
     record { number = false; unit_word = false; operator = false; text_end = false }
 
--- whether the terminal is of a kind that is expected
 abbrev pub allows : Expected → Terminal → Bool
 allows expected (number n) = expected.number
 allows expected (word u) = expected.unit_word && is_some u
@@ -63,13 +58,13 @@ front_after r last (terminal ∷ terminals) =
 abbrev pub front_of : Rules → List Terminal → ℕ
 front_of r terminals = front_after r None terminals
 
--- whether the front is a sentence and nothing follows it
+-- whether nothing follows the front, and the front can end there
 abbrev pub is_whole : Rules → List Terminal → List Terminal → Bool
 is_whole r front [] = (expected_after r (last_of None front)).text_end
 is_whole r front (terminal ∷ rest) = false
 
--- the answer to a sentence: the fault of its evaluation, or its value. If there is no fault there
--- is a value, so the 0 is never used
+-- the answer to a sentence: this fault, if there is one, or otherwise its value. A sentence without
+-- a fault has a value, so the 0 is never used
 abbrev pub late_answer : Rules → Option Cause → List Terminal → Result ℕ Cause
 late_answer r fault terminals = fault_or fault (Ok (unwrap_or (value_of (terms_of r terminals)) 0))
 

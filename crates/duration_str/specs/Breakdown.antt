@@ -9,14 +9,13 @@ use Rattle.duration_str.specs.Format.{IsGreatestWithin, counts_within, lengths_w
 use Rattle.duration_str.specs.Printing.{nonzero}
 use Rattle.duration_str.specs.Internal.UnitTable.{units_of}
 
--- These are the parts of a duration of `nanos` nanoseconds in this format: the counts of its
--- greatest breakdown that are not 0, each with its unit, the longest unit first.
+-- These are the parts of a duration of `nanos` nanoseconds in this format: of the greatest counts
+-- that fit (`IsGreatestWithin`), those that are not 0, each with its unit, the longest unit first.
 abbrev pub AreParts : Format → ℕ → List (TimeUnit × ℕ) → Type 0
 AreParts format nanos parts =
     (counts : List ℕ)
     × IsGreatestWithin (lengths_within format) format.parts nanos counts × (parts ≡ nonzero (units_within format) counts)
 
--- the nanoseconds of these parts together
 abbrev pub sum_of_parts : List (TimeUnit × ℕ) → ℕ
 sum_of_parts [] = 0
 sum_of_parts ((u, n) ∷ parts) = n * nanos_of u + sum_of_parts parts
@@ -25,7 +24,6 @@ sum_of_parts ((u, n) ∷ parts) = n * nanos_of u + sum_of_parts parts
 abbrev pub parts_in : List TimeUnit → ℕ → ℕ → List (TimeUnit × ℕ)
 parts_in us most nanos = nonzero us (counts_within (map nanos_of us) most nanos)
 
--- the parts that are still to come
 abbrev pub parts_left : Breakdown → List (TimeUnit × ℕ)
 parts_left b = parts_in (units_of b.bits) b.most b.rest
 

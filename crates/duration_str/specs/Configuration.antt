@@ -17,17 +17,12 @@ ParsesBy shows bytes result =
     IsValueOrFault (λ v. (nanos : ℕ) × IsRead (rules_of off) (chars bytes) nanos × shows v nanos)
     (IsRefused (rules_of off) (chars bytes)) bytes result
 
--- The bytes are read, and `nanos_of` gives the nanoseconds of the value in `Ok`. Or they are
--- refused for the cause in `Err`.
 abbrev pub ParsesAs : {T : Type 0} → (T → ℤ) → Bytes → Result T Fault → Type 0
 ParsesAs nanos_of bytes result = ParsesBy (λ v nanos. nanos_of v ≡ pos nanos) bytes result
 
--- The bytes are read, and `nanos_of` gives the nanoseconds of the value in `Ok (Some ..)`. Or they
--- are refused for the cause in `Err`.
 abbrev pub ParsesAsSome : {T : Type 0} → (T → ℤ) → Bytes → Result (Option T) Fault → Type 0
 ParsesAsSome nanos_of bytes result = ParsesBy (λ o nanos. IsSomeAnd o (λ v. nanos_of v ≡ pos nanos)) bytes result
 
--- The value is refused because it is not a text.
 abbrev pub IsNotText : {T : Type 0} → Bool → Result T Fault → Type 0
 IsNotText optional result = IsValueOrFault (λ v. ⊥) (λ cause. cause ≡ NotText optional) [] result
 

@@ -11,7 +11,6 @@ use Rattle.duration_str.specs.OtherResults.{IsValueOrFault}
 use Rattle.duration_str.specs.Reading.{IsRead, IsRefused}
 use Rattle.duration_str.specs.Rules.{rules_of}
 
--- the length of a day in nanoseconds
 abbrev pub day_nanos : ℕ
 day_nanos = 86_400_000_000_000
 
@@ -20,11 +19,10 @@ day_nanos = 86_400_000_000_000
 abbrev pub IsInDay : ℤ → ℤ → ℕ → Type 0
 IsInDay instant day k = (k < day_nanos) × (instant ≡ day *ℤ pos day_nanos +ℤ pos k)
 
--- This is the date and time of the instant.
+-- This is the date and time of the instant in UTC.
 abbrev pub IsCivil : ℤ → DateTime → Type 0
 IsCivil instant at = IsInDay instant (epoch_day at.date) (time_nanos at.time)
 
--- This is the date of the instant.
 abbrev pub IsCivilDay : ℤ → Date → Type 0
 IsCivilDay instant date = (k : ℕ) × IsInDay instant (epoch_day date) k
 
@@ -40,7 +38,6 @@ last_instant = pos 253_402_207_200_999_999_999
 abbrev pub IsInRange : ℤ → Type 0
 IsInRange instant = (first_instant ≤ℤ instant) × (instant ≤ℤ last_instant)
 
--- The instant is before the first or after the last that a `Timestamp` can hold.
 abbrev pub IsOutOfRange : ℤ → Type 0
 IsOutOfRange instant = (instant <ℤ first_instant) ⊎ (last_instant <ℤ instant)
 
@@ -52,8 +49,8 @@ IsDateFault reached bytes cause =
     ⊎ ((nanos : ℕ) × IsRead (rules_of off) (chars bytes) nanos × IsOutOfRange (reached nanos) × (cause ≡ OutOfRange))
 
 -- The text is read, the instant that its value reaches is in range, and `shows` holds for that
--- instant and the value in `Ok`. Otherwise the result is a fault with this text, and `IsDateFault`
--- holds for its cause.
+-- instant and the value in `Ok`. Or the result is a fault with this text, and `IsDateFault` holds
+-- for its cause.
 abbrev pub IsDated : {T : Type 0} → (ℤ → T → Type 0) → (ℕ → ℤ) → Bytes → Result T Fault → Type 0
 IsDated shows reached bytes result =
     IsValueOrFault (λ v. (nanos : ℕ)

@@ -10,18 +10,17 @@ use Rattle.duration_str.specs.declared.cause.Expected.{Expected}
 use Rattle.duration_str.specs.declared.cause.Cause.{Cause}
 use Rattle.duration_str.specs.declared.cause.Cause.TheVariants.{NumberTooLarge, Overflow, Syntax}
 
--- the byte offset of a fault, if it has a place
+-- the place of a fault, if it has one
 abbrev pub place_of : Cause → Option ℕ
 place_of (Syntax place expected) = Some place
 place_of (NumberTooLarge place) = place
 place_of (Overflow place) = place
 place_of cause = None
 
--- the token that starts at byte `place`
 abbrev pub token_at : ℕ → List Token → Option Token
 token_at place tokens = find (λ p. p.start == place) tokens
 
--- the token that starts at the place of a syntax fault
+-- the token that starts at the place of a syntax fault, if there is one
 abbrev pub found_token : Options → Characters → Cause → Option Token
 found_token o text (Syntax place expected) = token_at place (tokens_of o text)
 found_token o text cause = None

@@ -1,4 +1,4 @@
--- A duration printed in a format: in the units of a set, in at most a number of parts, and in a
+-- A duration printed in a format: in the units of a set, with a greatest number of parts, and in a
 -- style.
 use Rattle.std.specs.Prelude.{◌≡◌, ℕ, ◌+◌, ◌-◌, ◌/◌, ◌%◌, ◌≤◌, ◌*◌, ◌^◌, Bool, List, [], ◌∷◌, if◌then◌else◌, length, ◌⊎◌, ◌==◌, nat_lt, map, filter, bit_and, bit_or}
 use Rattle.std.specs.Int.{bit_at, bit_not, w16}
@@ -19,32 +19,25 @@ use Rattle.duration_str.specs.Printing.{weighted_sum, IsBefore, printed_parts, j
 unfoldable pub is_in : Units → TimeUnit → Bool
 is_in set u = bit_at set.bits (rank_of u) == 1
 
--- the units among these that are in the set
 unfoldable pub chosen : Units → List TimeUnit → List TimeUnit
 chosen set us = filter (is_in set) us
 
--- the set with this unit added
 abbrev pub with_unit : TimeUnit → Units → Units
 with_unit u set = record { bits = bit_or set.bits (2 ^ rank_of u) }
 
--- the set without this unit
 abbrev pub without_unit : TimeUnit → Units → Units
 without_unit u set = record { bits = bit_and set.bits (bit_not w16 (2 ^ rank_of u)) }
 
--- the set with these units added
 abbrev pub with_each : List TimeUnit → Units → Units
 with_each [] set = set
 with_each (u ∷ us) set = with_each us (with_unit u set)
 
--- the set of these units
 abbrev pub set_of : List TimeUnit → Units
 set_of us = with_each us (record { bits = 0 })
 
--- whether the unit is in this list
 abbrev pub is_one_of : List TimeUnit → TimeUnit → Bool
 is_one_of us u = list_any (λ v. nanos_of u == nanos_of v) us
 
--- the units that are in both sets
 abbrev pub intersection : Units → Units → Units
 intersection a b = record { bits = bit_and a.bits b.bits }
 
@@ -56,15 +49,12 @@ up_to largest set = record { bits = set.bits / 2 ^ rank_of largest * 2 ^ rank_of
 abbrev pub down_to : TimeUnit → Units → Units
 down_to smallest set = record { bits = set.bits % 2 ^ (rank_of smallest + 1) }
 
--- all units, as many parts as there are units, and the short style
 abbrev pub whole_format : Format
 whole_format = record { units = ALL; parts = length units; style = Short }
 
--- the units of the format, the longest first
 abbrev pub units_within : Format → List TimeUnit
 units_within format = chosen format.units units
 
--- the lengths of these units
 abbrev pub lengths_within : Format → List ℕ
 lengths_within format = map nanos_of (units_within format)
 
@@ -94,12 +84,11 @@ last_unit u (v ∷ us) = last_unit v us
 abbrev pub shorter_units : List TimeUnit → List TimeUnit
 shorter_units us = filter (λ u. nat_lt (nanos_of u) (nanos_of (last_unit Second us))) units
 
--- the unit with which a zero is printed: the smallest of these units. It is the second if the
--- smallest is shorter than a second, or if there are no units
+-- the unit with which a zero is printed: the second if there are no units or the last one is
+-- shorter than a second, and otherwise the last one
 abbrev pub zero_unit : List TimeUnit → TimeUnit
 zero_unit us = if nat_lt (nanos_of (last_unit Second us)) (nanos_of Second) then Second else last_unit Second us
 
--- the text that prints these counts
 abbrev pub text_within : Format → List ℕ → Characters
 text_within format counts =
     joined_parts format.style (zero_unit (units_within format))

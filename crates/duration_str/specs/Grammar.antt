@@ -24,7 +24,7 @@ sign_terminal (c ∷ []) = operator_or_other (operator_of c)
 sign_terminal _ = other
 
 -- the terminal that these characters stand for. Digits are a number, unit letters are a word with
--- the unit that it names, `+` and `*` are operators, and anything else is `other`
+-- the unit that it names, if any, `+` and `*` are operators, and anything else is `other`
 abbrev pub terminal_of : Rules → Characters → Terminal
 terminal_of r [] = other
 terminal_of r (c ∷ cs) =
@@ -56,11 +56,11 @@ pub record BeginsWith (lexeme : Characters) (IsRest : Characters → Type 0) (te
   pub is_rest : IsRest rest
 
 -- The text is blanks, then each lexeme followed by blanks. Here a lexeme need not be as long as
--- possible.
+-- possible: `3` and `1` spell `31`.
 abbrev pub Spells : List Characters → Characters → Type 0
 Spells [] text = IsBlank text
 Spells (w ∷ lexemes) text = BeginsWith w (Spells lexemes) text
 
--- The lexemes are a sentence, and they spell the text.
+-- The lexemes stand for the terminals of a sentence, and they spell the text.
 abbrev pub IsSentenceOf : Rules → List Characters → Characters → Type 0
 IsSentenceOf r lexemes text = IsSentence r (map (terminal_of r) lexemes) × Spells lexemes text

@@ -12,9 +12,8 @@ use Rattle.duration_str.specs.Rules.{Rules}
 abbrev pub with_names : List Characters → UnitRow → UnitRow
 with_names names row = record row { names = names ++ row.names }
 
--- The table: each unit has all names of the library's own table, and the names that only humantime
--- reads. A month has 30.44 days and a year 365.25 days. `M` is only a name if capitals are not read
--- as small letters.
+-- The table: each unit has all names of the library's own table, and some have further names. A
+-- month has 30.44 days and a year 365.25 days. `M` names the month only under `lowercase`.
 abbrev pub humantime_row_of : TimeUnit → UnitRow
 humantime_row_of Year = record (with_names (codes "yr" ∷ codes "yrs" ∷ []) (row_of Year)) { nanos = 31_557_600_000_000_000 }
 humantime_row_of Month = record (with_names (codes "M" ∷ []) (row_of Month)) { nanos = 2_630_016_000_000_000 }

@@ -1,5 +1,4 @@
--- What callers see of the iterator `Tokens`: the text, how far it is cut, and the tokens that are
--- left.
+-- The words for the iterator `Tokens`, such as the tokens that are left.
 use Rattle.std.specs.Prelude.{◌≡◌, ℕ, ◌+◌, List, length, Option, IfSome, IfNone, slice_range, chars, drop}
 use Rattle.std.specs.Iterator.{YieldsFirstBy}
 use Rattle.duration_str.specs.declared.options.Options.{Options}
@@ -12,7 +11,6 @@ use Rattle.duration_str.specs.Rules.{rules_of}
 use Rattle.duration_str.specs.Grammar.{Terminal, number, word, operator, other, terminal_of}
 use Rattle.duration_str.specs.Tokens.{Token, tokens_from}
 
--- what a token is, given its terminal
 abbrev pub what_of : Terminal → What
 what_of (number n) = whats.Number
 what_of (word u) = whats.Word u
@@ -23,7 +21,6 @@ what_of other = whats.Other
 abbrev pub source : Tokens → Bytes
 source s = s.eye.text.now
 
--- the options under which the text is cut
 abbrev pub options_of : Tokens → Options
 options_of s = s.options
 
@@ -35,7 +32,6 @@ cut_place s = s.eye.place
 abbrev pub looks_of : Tokens → ℕ
 looks_of s = s.eye.looks
 
--- the tokens that are left
 abbrev pub tokens_left : Tokens → List Token
 tokens_left s = tokens_from s.options s.eye.place (chars (drop s.eye.place s.eye.text.now))
 
@@ -43,7 +39,6 @@ tokens_left s = tokens_from s.options s.eye.place (chars (drop s.eye.place s.eye
 abbrev pub token_of : RustToken → Token
 token_of t = record { start = t.start; characters = chars t.text.now }
 
--- A call keeps the text that is cut, and the options.
 pub record KeepsInput (old new : Tokens) : Type 0 where
   pub text : source new ≡ source old
   pub options : options_of new ≡ options_of old

@@ -31,28 +31,23 @@ use Rattle.duration_str.specs.declared.format.Format.{Format}
 use Rattle.duration_str.specs.declared.format.Style.{Style}
 use Rattle.duration_str.specs.Format.{whole_format, lengths_within, part_count, shorter_units, units_within, IsPrintedWithin}
 
--- whether a character is `+` or `*`
 abbrev pub is_operator : ℕ → Bool
 is_operator c = is_some (operator_of c)
 
--- The text has no `*`.
 abbrev pub HasNoStar : Characters → Type 0
 HasNoStar text = IsTrue (list_all (λ c. not (c == 42)) text)
 
--- The text has neither `+` nor `*`.
 abbrev pub HasNoOperator : Characters → Type 0
 HasNoOperator text = IsTrue (list_all (λ c. not (is_operator c)) text)
 
--- The text has no ASCII capital.
 abbrev pub HasNoCapital : Characters → Type 0
 HasNoCapital text = IsTrue (list_all (λ c. not (is_ascii_uppercase c)) text)
 
--- The text has none of the Chinese characters of the units.
 abbrev pub HasNoChinese : Characters → Type 0
 HasNoChinese text = IsTrue (list_all (λ c. not (is_chinese c)) text)
 
--- Two sentences that spell a text are equal. A sentence spells a text exactly if the sentence's
--- lexemes are those of the text's tokens.
+-- Two sentences that spell a text have the same lexemes. A sentence spells a text exactly if the
+-- sentence's lexemes are those of the text's tokens.
 pub record OneSentence : Type 0 where
   pub equal : (r : Rules) (text : Characters) (lexemes others : List Characters)
       → IsSentenceOf r lexemes text → IsSentenceOf r others text → lexemes ≡ others
@@ -120,11 +115,9 @@ pub record PlaceAndKinds : Type 0 where
   pub only : (r : Rules) (terminals front rest : List Terminal) → IsFront r terminals front rest
       → (front ≡ take (front_of r terminals) terminals) × (rest ≡ drop (front_of r terminals) terminals)
 
--- these rules with `no_calc` on or off
 abbrev pub with_no_calc : Rules → Bool → Rules
 with_no_calc r on = record r { options = record (r.options) { no_calc = on } }
 
--- these rules with `lowercase` on or off
 abbrev pub with_lowercase : Rules → Bool → Rules
 with_lowercase r on = record r { options = record (r.options) { lowercase = on } }
 
@@ -243,9 +236,8 @@ pub record IsSameUnit (older row : UnitRow) : Type 0 where
   pub long : long_name row ≡ long_name older
 
 -- Each name in the table from before the quarter still names its unit, and that unit has the same
--- length and the same printed names. A sentence with that table is a sentence with today's table,
--- and has the same terminals. So a text that was read then is read as the same value, and a text
--- whose evaluation was refused then is refused for the same cause.
+-- length and the same printed names. A text that was read then is read as the same value, and a
+-- text whose evaluation was refused then is refused for the same cause.
 pub record OlderTexts : Type 0 where
   pub names : (o : Options) (name : Characters) (u : TimeUnit) → unit_of_word (older_rules o) name ≡ Some u
       → unit_of_word (rules_of o) name ≡ Some u
@@ -298,16 +290,16 @@ pub record PartsAndRest : Type 0 where
   pub rest : (old new : Breakdown) (parts : List (TimeUnit × ℕ)) → Yields YieldsPart old parts new
       → nanos_left old ≡ sum_of_parts parts + nanos_left new
 
--- Under these options the word is near the unit's names but names no unit, and the advised name
--- names the unit.
+-- Under these options the word is one of a unit's near words but names no unit, and the advised
+-- name names the unit.
 pub record IsAdvised (o : Options) (word name : Characters) : Type 0 where
   pub unit : TimeUnit
   pub near : is_among (near_words unit) (map to_ascii_lowercase (encode_utf8_all word)) ≡ true
   pub unread : unit_of_word (rules_of o) word ≡ None
   pub read : unit_of_word (rules_of o) name ≡ Some unit
 
--- Under all options, the name that is advised for a word names the unit that people mean by the
--- word, and the word itself names no unit.
+-- Under all options, the name that is advised for a word names the unit that the word is near, and
+-- the word itself names no unit.
 abbrev pub NearWords : Type 0
 NearWords = (o : Options) (word name : Characters) → near_name (encode_utf8_all word) ≡ Some name
     → IsAdvised o word name

@@ -12,13 +12,11 @@ use Rattle.duration_str.specs.declared.message.Layout.TheVariants.{Line, Byte, C
 use Rattle.duration_str.specs.Text.{Bytes, Characters}
 use Rattle.duration_str.specs.Faults.{place_of}
 
--- the character of an operator
 abbrev pub sign_of : CondUnit → Characters
 sign_of Plus = codes "+"
 sign_of Star = codes "*"
 
--- the line that says what is wrong. For a syntax fault it names the units if a unit could stand at
--- the place; or the operators if an operator could; or otherwise a number
+-- the line that says what is wrong
 abbrev pub line_of : Cause → Characters
 line_of Empty = codes "Empty input"
 line_of (Syntax place expected) =
@@ -39,21 +37,16 @@ line_of (NotText optional) =
 abbrev pub caret_text : Bytes → ℕ → Bytes → Bytes
 caret_text text spaces line = text ++ (codes "\n" ++ (replicate spaces 32 ++ (codes "^\n" ++ line)))
 
--- `byte N: ` with the place in decimal, and the line
 abbrev pub byte_text : ℕ → Bytes → Bytes
 byte_text place line = codes "byte " ++ (decimal place ++ (codes ": " ++ line))
 
--- whether the text has a line feed
 abbrev pub has_line_feed : Bytes → Bool
 has_line_feed text = list_any (λ b. b == 10) text
 
--- the number of characters before the place
 abbrev pub chars_before : Bytes → ℕ → ℕ
 chars_before text place = length (chars (take place text))
 
--- the message, given the place. Without a place it is the line alone. If the text has a line feed,
--- it is `byte N: ` and the line. Otherwise it is the text, a caret after one space for each
--- character before the place, and the line
+-- the message, given the place, if the fault has one
 abbrev pub placed_text : Bytes → Option ℕ → Bytes → Bytes
 placed_text text None line = line
 placed_text text (Some place) line =
@@ -67,20 +60,16 @@ EndsInsideLine bytes = last_or None bytes ≢ Some 10
 abbrev pub message_of : Bytes → Cause → Bytes
 message_of text cause = placed_text text (place_of cause) (encode_utf8_all (line_of cause))
 
--- ---- Layouts
-
 -- the bytes of a message, given the bytes of the text and of the line
 abbrev pub laid_out : Layout → Bytes → Bytes → Bytes
 laid_out Line text line = line
 laid_out (Byte place) text line = byte_text place line
 laid_out (Caret spaces) text line = caret_text text spaces line
 
--- The cause is an overflow.
 abbrev pub IsOverflow : Cause → Type 0
 IsOverflow (Overflow place) = ⊤
 IsOverflow _ = ⊥
 
--- The error is `ParseError` with these characters.
 abbrev pub IsParseError : {A : Type 0} → Characters → DError A → Type 0
 IsParseError line (ParseError text) = string_bytes text ≡ encode_utf8_all line
 IsParseError line OverflowError = ⊥

@@ -30,7 +30,6 @@ older_row_of NanoSecond = Some (record { nanos = 1; printed = codes "ns"; names 
 abbrev pub older_table : TimeUnit → UnitRow
 older_table u = unwrap_or (older_row_of u) (record { nanos = 0; printed = []; names = []; chinese = [] })
 
--- the rules from before the quarter was added, with these options
 abbrev pub older_rules : Options → Rules
 older_rules o = record { table = older_table; default_unit = Some Second; options = o }
 

@@ -16,8 +16,8 @@ use Rattle.duration_str.specs.Messages.{line_of, chars_before}
 
 -- ---- What is quoted
 
--- whether a character is plain. Not plain are control characters, blanks other than the space, and
--- some others that can't be seen, such as marks of direction, tags and the soft hyphen
+-- whether a character is plain. Not plain are control characters, white space other than the space,
+-- and some others that can't be seen, such as marks of direction, tags and the soft hyphen
 abbrev pub is_plain : ℕ → Bool
 is_plain c =
     not (is_control c || c == 0xA0 || c == 0xAD || c == 0x34F || c == 0x61C || is_in_range 0x115F 0x1160 c
@@ -31,12 +31,12 @@ abbrev pub is_clear : ℕ → Bool
 is_clear c = is_plain c && not (c == 34 || c == 92)
 
 -- the characters that show a character in a quote. They are the character itself, or its escape as
--- Rust writes it: `\"`, `\\`, `\t`, `\r`, `\n`, `\u{1b}`
+-- Rust writes it, such as `\"` or `\u{1b}`
 abbrev pub shown : ℕ → Characters
 shown c = if is_clear c then c ∷ [] else escape_default c
 
--- as much of the text as fits into this room, the closing quote, and three dots if something is
--- left out
+-- as much of the text as fits into `room` characters, the closing quote, and three dots if
+-- something is left out
 abbrev pub quoted_end : ℕ → Characters → Bytes
 quoted_end room [] = codes "\""
 quoted_end room (c ∷ text) =
@@ -56,12 +56,10 @@ is_letter c =
     is_ascii_alphabetic c || (nat_le 0x80 c && is_plain c && not (is_in_range 0xA1 0xB4 c || is_in_range 0xB6 0xBF c
     || c == 0xD7 || c == 0xF7 || is_in_range 0x2010 0x2BFF c || is_in_range 0x3001 0x303F c || is_in_range 0xFF00 0xFF20 c))
 
--- whether a text begins with a letter
 abbrev pub begins_with_letter : Characters → Bool
 begins_with_letter [] = false
 begins_with_letter (c ∷ text) = is_letter c
 
--- whether both characters are digits, or both are letters
 abbrev pub is_like : ℕ → ℕ → Bool
 is_like c d = (is_digit d && is_digit c) || (is_letter d && is_letter c)
 
@@ -99,12 +97,11 @@ near_words MilliSecond = codes "msecs" ∷ codes "millis" ∷ []
 near_words MicroSecond = codes "µsecs" ∷ codes "µseconds" ∷ us_words
 near_words NanoSecond = codes "nsecs" ∷ codes "nanos" ∷ []
 
--- whether these bytes are one of the words
 abbrev pub is_among : List Characters → Bytes → Bool
 is_among words bytes = list_any (bytes_eq bytes) (map encode_utf8_all words)
 
--- the name to write instead of a word, given the word's bytes. It is the printed name of the unit
--- that the word is near, but `us` instead of `µs` for a word without the micro sign
+-- the name to write instead of a word, if any, given the word's bytes. It is the printed name of
+-- the unit that the word is near, but `us` instead of `µs` for a word without the micro sign
 abbrev pub near_name : Bytes → Option Characters
 near_name word =
     let small = map to_ascii_lowercase word in
@@ -112,7 +109,6 @@ near_name word =
     else if is_among us_words small then Some (codes "us")
     else option_map (λ u. (row_of u).printed) (find (λ u. is_among (near_words u) small) units)
 
--- the help that advises a name
 abbrev pub name_help : Bytes → Bytes
 name_help name = codes " (did you mean \"" ++ (name ++ codes "\"?)")
 
@@ -120,18 +116,17 @@ name_help name = codes " (did you mean \"" ++ (name ++ codes "\"?)")
 abbrev pub listed_names : Bytes
 listed_names = codes "y, q, mon, w, d, h, min, s, ms, us or ns)"
 
--- this help, or the names of all units if it is empty
 abbrev pub help_or_units : Bytes → Bytes
 help_or_units help = if length help == 0 then codes " (write " ++ listed_names else help
 
 -- the help for a word that is no unit: the name that it is near, or otherwise the help for its
--- place, or otherwise the names of all units
+-- place, or otherwise a name of each unit
 abbrev pub unit_help : Option Characters → Bytes → Bytes
 unit_help (Some name) help = name_help (encode_utf8_all name)
 unit_help None help = help_or_units help
 
 -- the help for a piece that has only blanks before it, given the piece's bytes and the byte after
--- it. There is help for `-` or `+` before a digit or a point, and for `P` or `PT` before a digit
+-- it
 abbrev pub first_help : Bytes → ℕ → Bytes
 first_help piece next =
     let is_signed = is_digit next || next == 46 in
@@ -142,8 +137,7 @@ first_help piece next =
     then codes " (ISO 8601 is not read: write 1mon 30m for P1MT30M)"
     else []
 
--- the help for a piece after a digit, given the piece's bytes and the byte after it. There is help
--- for `e` before a digit, `-` or `+`, and for a comma, `_`, `'` or a colon before a digit
+-- the help for a piece after a digit, given the piece's bytes and the byte after it
 abbrev pub digit_help : Bytes → ℕ → Bytes
 digit_help piece next =
     let is_between = is_digit next in
@@ -153,10 +147,8 @@ digit_help piece next =
     else if is_between && bytes_eq piece (codes ":") then codes " (clock times are not read: write 1h 30m or 1m 30s)"
     else []
 
--- the help for the piece at byte `place`, given the piece's bytes. There is help for `,`, `&` and
--- `and` after a unit, which is where both a number and the end could stand. There is help for a
--- point after a letter or a byte beyond ASCII, or before a digit. And there is help for some pieces
--- that have only blanks, or a digit, before them
+-- the help for the piece at byte `place`, given the piece's bytes. Both a number and the end can
+-- stand at a place only after a unit
 abbrev pub help_at : Expected → Bytes → ℕ → Bytes → Bytes
 help_at expected text place piece =
     let before = take place text in
@@ -173,10 +165,9 @@ help_at expected text place piece =
     else if is_digit last then digit_help piece next
     else []
 
--- the help at the end of a line that says what was expected. It is the help for the place, if there
--- is some. Otherwise, if a unit could stand at the place, and neither an operator nor the end, a
--- number lacks its unit, and the help says what to write. That is `0s` if the whole text is zeros
--- and blanks, since zero is the same in each unit
+-- the help at the end of a line that says what was expected: this help, or what to write, if this
+-- help is empty and a unit could stand there, but neither an operator nor the end. For a text of
+-- zeros and blanks that is `0s`, since zero is the same in each unit
 abbrev pub missing_unit_help : Expected → Bytes → Bytes → Bytes
 missing_unit_help expected text help =
     let lacks_unit = expected.unit_word && not (expected.operator || expected.text_end) in
@@ -187,7 +178,6 @@ missing_unit_help expected text help =
 
 -- ---- The line
 
--- the words that say what was expected
 abbrev pub expected_words : Expected → Bytes
 expected_words expected =
     if expected.unit_word then
@@ -198,20 +188,16 @@ expected_words expected =
     else if expected.text_end then codes "expected a number or the end"
     else codes "expected a number"
 
--- the words that say the column
 abbrev pub at_column : ℕ → Bytes
 at_column column = codes " at column " ++ decimal column
 
--- the words that say what was found, given the piece of the text at the fault's place
 abbrev pub found_words : Characters → Bytes
 found_words [] = codes ", found the end"
 found_words (c ∷ piece) = codes ", found " ++ quoted (c ∷ piece)
 
--- the line that says what was expected, the column and what was found, with the help at the end
 abbrev pub found_line : Bytes → ℕ → Characters → Bytes → Bytes
 found_line words column piece help = words ++ (at_column column ++ (found_words piece ++ help))
 
--- the line for a word that is no unit: the word, its column, and the help
 abbrev pub unknown_line : ℕ → Characters → Bytes → Bytes
 unknown_line column word help = codes "unknown unit " ++ (quoted word ++ (at_column column ++ help))
 
@@ -224,7 +210,6 @@ syntax_line text place expected piece =
     if expected.unit_word && begins_with_letter piece then unknown_line column piece (unit_help (near_name bytes) help)
     else found_line (expected_words expected) column piece (missing_unit_help expected text help)
 
--- the line that says what is wrong and quotes the text, with the help at the end
 abbrev pub text_line : Bytes → Bytes → Bytes → Bytes
 text_line problem text help = problem ++ (codes " in " ++ (quoted (chars text) ++ help))
 

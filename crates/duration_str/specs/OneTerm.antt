@@ -8,15 +8,13 @@ use Rattle.duration_str.specs.Text.{Characters, is_digit}
 use Rattle.duration_str.specs.Units.{nanos_of}
 use Rattle.duration_str.specs.Value.{Term, term_fault, value_of_term}
 
--- The text is a nonempty run of digits.
 abbrev pub IsNumber : Characters → Type 0
 IsNumber text = (0 < length text) × IsTrue (list_all is_digit text)
 
--- the term of a number and a unit
 abbrev pub term_of : ℕ → TimeUnit → Term
 term_of n u = record { operator = Plus; number = n; length = nanos_of u }
 
--- the fault if there is one, otherwise the result
+-- the fault if there is one, and otherwise the result
 abbrev pub fault_or : {A : Type 0} → Option Cause → Result A Cause → Result A Cause
 fault_or (Some cause) result = Err cause
 fault_or None result = result

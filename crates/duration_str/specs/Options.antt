@@ -2,6 +2,5 @@
 use Rattle.std.specs.Prelude.{false}
 use Rattle.duration_str.specs.declared.options.Options.{Options}
 
--- all options off
 abbrev pub off : Options
 off = record { no_calc = false; lowercase = false; cn_unit = false }

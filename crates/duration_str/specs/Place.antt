@@ -22,7 +22,7 @@ pub record IsFront (r : Rules) (terminals front rest : List Terminal) : Type 0 w
   pub begins : BeginsSentence r front
   pub longest : (n : ℕ) → n ≤ length terminals → BeginsSentence r (take n terminals) → n ≤ length front
 
--- A kind is expected exactly if the front, followed by some terminal of this kind, begins a
+-- A number, a unit or an operator is expected exactly if the front, followed by one, begins a
 -- sentence. The end is expected exactly if the front is a sentence.
 pub record CanFollow (r : Rules) (front : List Terminal) (expected : Expected) : Type 0 where
   pub number_expected : IsTrue expected.number ↔ ((n : ℕ) × BeginsSentence r (front ++ number n ∷ []))

@@ -7,7 +7,7 @@ use Rattle.duration_str.specs.declared.format.Style.TheVariants.{Short, Compact,
 use Rattle.duration_str.specs.Text.{Characters}
 use Rattle.duration_str.specs.Units.{UnitRow, units, row_of, unit_lengths}
 
--- the sum of all counts, each multiplied by its length
+-- the sum of the counts, each multiplied by its length. If one list is longer, its end is left out
 abbrev pub weighted_sum : List ℕ → List ℕ → ℕ
 weighted_sum (l ∷ lengths) (n ∷ counts) = n * l + weighted_sum lengths counts
 weighted_sum _ _ = 0
@@ -27,14 +27,14 @@ pub record IsGreatestBreakdown (lengths : List ℕ) (nanos : ℕ) (counts : List
   pub breakdown : IsBreakdown lengths nanos counts
   pub greatest : (others : List ℕ) → IsBreakdown lengths nanos others → (others ≡ counts) ⊎ IsBefore others counts
 
--- the last name but one
+-- the last name but one, or the empty name if there are fewer than two names
 abbrev pub last_but_one : List Characters → Characters
 last_but_one [] = []
 last_but_one (name ∷ last ∷ []) = name
 last_but_one (_ ∷ names) = last_but_one names
 
--- the long name for a count of 1, which is the last name but one. With an `s` after it, it is the
--- last name
+-- the long name for a count of 1, which is the last name but one. In the library's own table, the
+-- last name is this one with an `s` after it
 abbrev pub long_name : UnitRow → Characters
 long_name row = last_but_one row.names
 
@@ -54,7 +54,7 @@ abbrev pub between : Style → Characters
 between Compact = []
 between style = codes " "
 
--- a count in decimal, followed by its unit's name
+-- a count in decimal, followed by its unit's name, in a style
 abbrev pub printed_part : Style → ℕ → TimeUnit → Characters
 printed_part style n u = decimal n ++ (before_name style ++ name_in style (n == 1) u)
 
@@ -67,7 +67,8 @@ nonzero _ _ = []
 abbrev pub printed_parts : Style → List TimeUnit → List ℕ → List Characters
 printed_parts style us counts = map (λ part. printed_part style part.1 part.0) (nonzero us counts)
 
--- the parts, one after another, or a part with the count 0 and this unit if there are none
+-- the parts, with what stands between two of them (`between`), or a part with the count 0 and this
+-- unit if there are none
 abbrev pub joined_parts : Style → TimeUnit → List Characters → Characters
 joined_parts style u [] = printed_part style 0 u
 joined_parts style u (part ∷ parts) = part ++ flat_map (λ p. between style ++ p) parts
@@ -81,6 +82,6 @@ abbrev pub IsPrintedIn : Style → ℕ → Characters → Type 0
 IsPrintedIn style nanos text =
     (counts : List ℕ) × IsGreatestBreakdown unit_lengths nanos counts × (text ≡ printed_counts style counts)
 
--- `IsPrintedIn`, in the short style.
+-- A duration of `nanos` nanoseconds prints in full and in the short style as this text.
 abbrev pub IsPrinted : ℕ → Characters → Type 0
 IsPrinted = IsPrintedIn Short

@@ -10,7 +10,8 @@ use Rattle.duration_str.specs.Tokens.{tokens_of}
 use Rattle.duration_str.specs.Place.{IsFront, CanFollow, start_after, terminals_of}
 use Rattle.duration_str.specs.Value.{Term, term_fault, sum_of, fits, or_else, unless, terms_of, written_terms, value_of, evaluation_fault, Evaluates}
 
--- Some sentence spells the text, and the sentence's evaluation gives this value in nanoseconds.
+-- Some sentence spells the text, and its evaluation has no fault and gives this value in
+-- nanoseconds.
 pub record IsRead (r : Rules) (text : Characters) (nanos : ℕ) : Type 0 where
   pub lexemes : List Characters
   pub spells : IsSentenceOf r lexemes text
@@ -29,7 +30,6 @@ abbrev pub complete_terminals : Rules → List Terminal → List Terminal → Li
 complete_terminals r front [] = if is_some r.default_unit then front else without_last_number front
 complete_terminals r front (terminal ∷ rest) = without_last_number front
 
--- the complete terms of the front
 abbrev pub complete_terms : Rules → List Terminal → List Terminal → List Term
 complete_terms r front rest = terms_of r (complete_terminals r front rest)
 
@@ -39,7 +39,7 @@ abbrev pub place_after : List Term → Option ℕ
 place_after [] = Some 0
 place_after (t ∷ before) = None
 
--- the fault of the first of these terms, with the place 0
+-- the fault of the first of these terms, if it has one, with the place 0
 abbrev pub first_fault : List Term → Option Cause
 first_fault [] = None
 first_fault (t ∷ terms) = term_fault (place_after []) t
@@ -63,7 +63,9 @@ early_fault r front rest =
 abbrev pub late_fault : Rules → List Terminal → Option Cause
 late_fault r terminals = if r.options.no_calc then None else evaluation_fault (terms_of r terminals)
 
--- The terminals `front ++ rest` are refused for this cause. The rest starts at byte `place`.
+-- The terminals `front ++ rest` are refused for this cause. It is the early fault if there is one.
+-- Otherwise it is a syntax fault at `place`, where the rest starts, if the terminals are no
+-- sentence, and the late fault if they are one.
 pub data IsRefusedAt (r : Rules) (place : ℕ) (front rest : List Terminal) (cause : Cause) : Type 0 where
   early : early_fault r front rest ≡ Some cause → IsRefusedAt r place front rest cause
   syntax_fault : (expected : Expected) → early_fault r front rest ≡ None → (IsSentence r (front ++ rest) → ⊥)
@@ -72,8 +74,8 @@ pub data IsRefusedAt (r : Rules) (place : ℕ) (front rest : List Terminal) (cau
   late : early_fault r front rest ≡ None → IsSentence r (front ++ rest) → late_fault r (front ++ rest) ≡ Some cause
       → IsRefusedAt r place front rest cause
 
--- The text is refused for this cause. The empty text is refused as `Empty`, and any other text by
--- its front and the rest after it.
+-- The text is refused for this cause. The empty text is refused as `Empty`. Any other text is
+-- refused for a cause that its front and the rest after it decide.
 abbrev pub IsRefused : Rules → Characters → Cause → Type 0
 IsRefused r [] cause = cause ≡ Empty
 IsRefused r (c ∷ text) cause =

@@ -8,7 +8,8 @@ use Rattle.duration_str.specs.Rules.{Rules}
 use Rattle.duration_str.specs.Reading.{IsRead, IsRefused}
 
 -- By these rules the bytes are read as the value in `Ok`, which is below 2^64 nanoseconds, or
--- refused for the cause in `Err`. If they are read as a value, the result is an `Ok` (`accepts`).
+-- refused for the cause in `Err`, which also has the bytes. If they are read as a value, the result
+-- is an `Ok` (`accepts`).
 pub record Parses (r : Rules) (bytes : Bytes) (result : Result Duration Fault) : Type 0 where
   pub read : IfOk result (λ d. IsRead r (chars bytes) (as_nanos d))
   pub accepts : (nanos : ℕ) → IsRead r (chars bytes) nanos → IsOk result

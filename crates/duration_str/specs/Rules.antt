@@ -8,8 +8,8 @@ use Rattle.duration_str.specs.declared.unit.TimeUnit.TheVariants.{Second}
 use Rattle.duration_str.specs.Text.{Characters}
 use Rattle.duration_str.specs.Units.{UnitRow, row_of, units}
 
--- The rules by which a text is read: the row of each unit, the default unit, which a number without
--- a unit has (or `None` if each number needs its unit), and the options.
+-- The rules by which a text is read: the row of each unit, the default unit, and the options. A
+-- number without a unit has the default unit. If that is `None`, each number needs its unit.
 pub record Rules : Type 0 where
   pub table : TimeUnit → UnitRow
   pub default_unit : Option TimeUnit
@@ -28,16 +28,17 @@ rules_of o = rules_with o (Some Second)
 abbrev pub comparison_form : Options → Characters → Characters
 comparison_form o word = if o.lowercase then word else map to_ascii_lowercase word
 
--- whether the word is a name in the row. (`bytes_eq` compares lists of numbers: here of characters)
+-- whether the word's comparison form is a name in the row. The Chinese names count only with
+-- `cn_unit`. (`bytes_eq` compares two lists of numbers, which are characters here.)
 abbrev pub is_in_row : Options → Characters → UnitRow → Bool
 is_in_row o word row =
     list_any (bytes_eq (comparison_form o word)) row.names
     || (o.cn_unit && list_any (bytes_eq (comparison_form o word)) row.chinese)
 
--- whether the word is a name of the unit
+-- whether the word is a name of the unit by these rules
 abbrev pub is_named : Rules → Characters → TimeUnit → Bool
 is_named r word u = is_in_row r.options word (r.table u)
 
--- the unit that a word names
+-- the first of the units that have the word as a name, if any
 abbrev pub unit_of_word : Rules → Characters → Option TimeUnit
 unit_of_word r word = find (is_named r word) units

@@ -35,7 +35,7 @@ is_chinese c = list_any (λ d. d == c) chinese_letters
 abbrev pub is_unit_letter : Options → ℕ → Bool
 is_unit_letter o c = is_ascii_alphabetic c || c == 0xB5 || (o.cn_unit && is_chinese c)
 
--- the operator that a character stands for: 43 is `+`, 42 is `*`
+-- the operator that a character stands for, if any: 43 is `+`, 42 is `*`
 abbrev pub operator_of : ℕ → Option CondUnit
 operator_of c = if c == 43 then Some Plus else if c == 42 then Some Star else None
 

@@ -4,7 +4,7 @@ use Rattle.std.specs.Prelude.{ℕ, ◌+◌, Bool, false, ◌&&◌, ◌||◌, Lis
 use Rattle.duration_str.specs.declared.options.Options.{Options}
 use Rattle.duration_str.specs.Text.{Characters, width, is_blank, is_digit, is_unit_letter}
 
--- a token: its characters, and the byte at which it starts
+-- a token: the byte at which it starts, and its characters
 pub record Token : Type 0 where
   pub start : ℕ
   pub characters : Characters
@@ -18,12 +18,15 @@ abbrev pub goes_on : Options → ℕ → Characters → Bool
 goes_on o c [] = false
 goes_on o c (d ∷ _) = are_of_one_run o c d
 
--- the tokens, with c, which is at byte `at`, added to the front of the first, or as the only token
+-- these tokens, with the character c, at byte `at`, put in front of the first one. If there are
+-- none, c is the only token
 abbrev pub with_first_character : ℕ → ℕ → List Token → List Token
 with_first_character at c [] = record { start = at; characters = c ∷ [] } ∷ []
 with_first_character at c (token ∷ tokens) = record { start = at; characters = c ∷ token.characters } ∷ tokens
 
--- the tokens of a text that starts at byte `at`, computed from the right
+-- the tokens of a text that starts at byte `at`. A blank is in no token. A character whose run
+-- continues is in the same token as the next character. Any other character is the last one of its
+-- token
 abbrev pub tokens_from : Options → ℕ → Characters → List Token
 tokens_from o at [] = []
 tokens_from o at (c ∷ text) =

@@ -5,15 +5,15 @@ use Rattle.duration_str.specs.declared.unit.TimeUnit.TheVariants.{Year, Quarter,
 use Rattle.duration_str.specs.Text.{Characters}
 
 -- a unit's length in nanoseconds, the name that the short and the compact style print, the names
--- that are read, and the names that are read only with `cn_unit`. Of the names that are read, the
--- last two are the long name and its plural, which the long style prints
+-- that are read, and the names that are read only with `cn_unit`
 pub record UnitRow : Type 0 where
   pub nanos : ℕ
   pub printed : Characters
   pub names : List Characters
   pub chinese : List Characters
 
--- The library's own table of units: the row of each.
+-- The library's own table of units: the row of each. The last two of `names` are the long name and
+-- its plural, which the long style prints.
 abbrev pub row_of : TimeUnit → UnitRow
 row_of Year = record { nanos = 31_536_000_000_000_000; printed = codes "y"; names = codes "y" ∷ codes "year" ∷ codes "years" ∷ []; chinese = codes "年" ∷ [] }
 row_of Quarter = record { nanos = 7_862_400_000_000_000; printed = codes "q"; names = codes "q" ∷ codes "quarter" ∷ codes "quarters" ∷ []; chinese = [] }
@@ -31,7 +31,7 @@ row_of NanoSecond = record { nanos = 1; printed = codes "ns"; names = codes "ns"
 abbrev pub units : List TimeUnit
 units = Year ∷ Quarter ∷ Month ∷ Week ∷ Day ∷ Hour ∷ Minute ∷ Second ∷ MilliSecond ∷ MicroSecond ∷ NanoSecond ∷ []
 
--- the length of a unit in nanoseconds
+-- the length of a unit in nanoseconds, by the library's own table
 abbrev pub nanos_of : TimeUnit → ℕ
 nanos_of u = (row_of u).nanos
 
@@ -39,6 +39,5 @@ nanos_of u = (row_of u).nanos
 abbrev pub rank_of : TimeUnit → ℕ
 rank_of u = count_by (λ v. nat_lt (nanos_of u) (nanos_of v)) units
 
--- the lengths of the units, the longest first
 abbrev pub unit_lengths : List ℕ
 unit_lengths = map nanos_of units

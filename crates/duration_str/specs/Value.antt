@@ -21,13 +21,12 @@ pub record Term : Type 0 where
 abbrev pub value_of_term : Term → ℕ
 value_of_term t = t.number * t.length
 
--- the length of the unit `Second`
 abbrev pub one_second : ℕ
 one_second = nanos_of Second
 
 -- the terms that these terminals write after the operator `op`. If an operator is left out, it is
--- plus. If a unit is left out, it is the default unit. Without a default unit no sentence leaves a
--- unit out, so none uses `Second`
+-- plus. If a unit is left out, it is the default unit. If there is no default unit, a sentence
+-- leaves no unit out, so `Second` is then not used
 abbrev pub terms_after : Rules → CondUnit → List Terminal → List Term
 terms_after r op (number n ∷ word (Some u) ∷ more) =
     record { operator = op; number = n; length = (r.table u).nanos } ∷ terms_after r Plus more
@@ -37,7 +36,7 @@ terms_after r op (number n ∷ more) =
 terms_after r op (operator next ∷ more) = terms_after r next more
 terms_after r op _ = []
 
--- the terms of a sentence. The operator of the first term is plus, and means nothing
+-- the terms of a sentence. The operator of the first term is plus, and has no effect
 abbrev pub terms_of : Rules → List Terminal → List Term
 terms_of r terminals = terms_after r Plus terminals
 
@@ -45,7 +44,6 @@ terms_of r terminals = terms_after r Plus terminals
 abbrev pub written_terms : Rules → List Characters → List Term
 written_terms r lexemes = terms_of r (map (terminal_of r) lexemes)
 
--- whether two operators are the same
 abbrev pub is_same_operator : CondUnit → CondUnit → Bool
 is_same_operator Plus Plus = true
 is_same_operator Star Star = true
@@ -96,13 +94,14 @@ abbrev pub unless : Bool → Cause → Option Cause
 unless true _ = None
 unless false cause = Some cause
 
--- the fault of a single term
+-- the fault of a single term, if it has one: its number is 2^64 or more, or otherwise its value is
 abbrev pub term_fault : Option ℕ → Term → Option Cause
 term_fault place t =
     or_else (unless (fits t.number) (NumberTooLarge place)) (unless (fits (value_of_term t)) (Overflow place))
 
--- the first fault of the later terms that follow those in `before`, which have no fault. `op` is
--- the operator of the first later term
+-- the first fault of these later terms, given those before them, which have no fault. For each
+-- term, an operator other than `op` comes first, then the fault of the term, then a total of 2^64
+-- or more. `op` is the operator of the first later term
 abbrev pub fault_of_terms : CondUnit → List Term → List Term → Option Cause
 fault_of_terms op before [] = None
 fault_of_terms op before (t ∷ later) =
@@ -111,8 +110,8 @@ fault_of_terms op before (t ∷ later) =
     (or_else (unless (fits (later_total op (before ++ t ∷ []))) (Overflow None))
     (fault_of_terms op (before ++ t ∷ []) later)))
 
--- the fault of a sentence whose first term has no fault. It is the fault of the later terms, or, if
--- there is none, the fault of the step that combines the first term with them
+-- the fault of a sentence whose first term has no fault. It is the first fault of the later terms,
+-- or, if they have none, the fault of the step that combines the first term with them
 abbrev pub evaluation_fault : List Term → Option Cause
 evaluation_fault (t ∷ u ∷ later) =
     or_else (fault_of_terms u.operator [] (u ∷ later))

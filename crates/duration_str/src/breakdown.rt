@@ -1,4 +1,4 @@
-//! The breakdown of a duration: how many of each unit of a format it has.
+//! The breakdown of a duration into parts.
 ghost use Rattle.std.specs.Prelude.{◌≡◌, ◌∷◌, ◌/◌, ◌%◌, ◌<◌, ◌^◌, IfNone, IfSome, [], MatchOption, ◌+◌, ◌*◌};
 ghost use Rattle.std.specs.Duration.{as_nanos};
 ghost use Rattle.std.specs.Iterator.{YieldsFirstBy, item_count};
@@ -34,7 +34,6 @@ pub struct Breakdown {
     bits: u32,
     /// How many parts there may still be.
     most: usize,
-    /// The nanoseconds that the parts so far leave.
     rest: u128,
 }
 
@@ -78,7 +77,6 @@ impl Breakdown {
         self.rest
     }
 
-    /// The breakdown of this many nanoseconds into the units of a set, in at most `most` parts.
     #[inline(always)]
     pub(crate) fn of(nanos: u128, set: Units, most: usize) -> Breakdown
         ensures { result ≡ record { bits = set.bits; most = most; rest = nanos } }
@@ -90,7 +88,6 @@ impl Breakdown {
         }
     }
 
-    /// Returns the next part, with its unit's row in the table for printing.
     #[inline(always)]
     pub(crate) fn next_part(&mut self) -> Option<(&'static Printed, u128)>
         ensures first { YieldsFirstBy (λ part. (part.0.now.unit, part.1)) parts_left
@@ -139,8 +136,6 @@ impl Iterator for Breakdown {
     }
 }
 
-/// The row of the longest unit of a set, and the bits of the set's other units. The set is given by
-/// its bits.
 #[inline(always)]
 fn longest(bits: u32) -> Option<(&'static Printed, u32)>
     ensures right { IfSome result (λ first. first.0.now ≡ printed_row first.0.now.unit) }

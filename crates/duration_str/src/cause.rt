@@ -34,7 +34,6 @@ pub struct Expected {
 }
 
 impl Expected {
-    /// What can stand at the start of a text or after an operator: a number.
     #[inline(always)]
     pub(crate) fn at_start() -> Expected
         ensures { result ≡ expected_at_start }

@@ -47,7 +47,6 @@ fn not_text<'a>(optional: bool) -> Fault<'a>
     }
 }
 
-/// The text of an optional value, or `None` if the value is null or the empty text.
 fn optional_text<'a>(value: &'a Value) -> Result<Option<&'a str>, Fault<'a>>
     ensures some { IfOk result (λ o. IfSome o (λ text.
         (view value.now ≡ string text.now) × (text.now ≢ []))) }

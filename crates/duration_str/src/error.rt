@@ -28,7 +28,7 @@ pub type DResult<T> = Result<T, DError>;
 
 impl Fault<'_> {
     /// Turns this fault into an error. An overflow becomes `OverflowError`. Any other cause becomes
-    /// `ParseError` with the fault's line, and this fails only if memory for the line is refused.
+    /// `ParseError` with the fault's line. The call fails only if memory for that line is refused.
     ///
     /// ```text
     /// match parse("") {

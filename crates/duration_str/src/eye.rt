@@ -1,11 +1,9 @@
-//! The only access to a text while it is cut into tokens. It takes one character after another, and
-//! counts each look.
+//! A text that is taken one character after another, with a count of the looks.
 ghost use Rattle.std.specs.Prelude.{◌≡◌, ◌+◌, ◌<◌, ◌≤◌, ◌^◌, [], is_some, IfSome, IfNone, if◌then◌else◌, slice_range, IsUtf8, length};
 ghost use Rattle.std.specs.Str.{IsCharBoundary};
 ghost use Rattle.duration_str.specs.Internal.Positions.{Stands, ahead};
 ghost use Rattle.duration_str.specs.Text.{width};
 
-/// A text, the place up to which it is cut into tokens, and the number of looks.
 #[derive(Drop)]
 pub(crate) struct Eye<'a> {
     text: &'a str,
@@ -44,8 +42,6 @@ impl<'a> Eye<'a> {
         self.looks
     }
 
-    /// Returns the character at the place, and counts the look. At the end of the text it returns
-    /// `None`, and counts nothing.
     #[inline(always)]
     pub(crate) fn look(&mut self) -> Option<char>
         requires { self.old.looks + 1 < 2 ^ 64 }
@@ -60,7 +56,6 @@ impl<'a> Eye<'a> {
         Some(c)
     }
 
-    /// Moves the place past `looked_at`, which is the character there.
     #[inline(always)]
     pub(crate) fn step(&mut self, looked_at: char)
         requires { Stands self.old.text.now self.old.place looked_at }

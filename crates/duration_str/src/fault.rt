@@ -62,8 +62,8 @@ impl<'a> Fault<'a> {
     /// Returns the token that starts at the place of a syntax fault, as a slice of the text.
     ///
     /// The text is cut into tokens under these options. The result is `None` if no token starts at
-    /// the place, and for every other cause. If these are the options under which the text was
-    /// read, a syntax fault has no token exactly if it is at the end of the text.
+    /// the place, or if the cause is not `Syntax`. If these are the options under which the text
+    /// was read, a syntax fault has no token exactly if it is at the end of the text.
     ///
     /// ```text
     /// parse("3ms-2ms").unwrap_err().found(Options::off()) // Some("-")
@@ -84,7 +84,6 @@ impl<'a> Fault<'a> {
     }
 }
 
-/// The last character boundary at or before `place`.
 fn last_boundary(text: &str, mut place: usize) -> usize
     ensures bound { result ≤ place }
     ensures boundary { IsCharBoundary text.now result }
@@ -96,7 +95,6 @@ fn last_boundary(text: &str, mut place: usize) -> usize
     place
 }
 
-/// The token that starts at `place`, if it is one of those that `tokens` has left.
 fn token_at<'a>(mut tokens: Tokens<'a>, place: usize) -> Option<&'a str>
     ensures { IsSliceOf (source tokens.entry) (token_at place (tokens_left tokens.entry)) result }
 {

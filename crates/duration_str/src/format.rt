@@ -118,7 +118,6 @@ impl Units {
         set
     }
 
-    /// Returns the units that are in both sets.
     #[inline]
     const fn intersection(self, other: Units) -> Units
         ensures value { result ≡ intersection self other }
@@ -183,7 +182,6 @@ impl Units {
         }
     }
 
-    /// Returns the set without the units that are longer than this one.
     #[inline]
     pub(crate) const fn up_to(self, largest: TimeUnit) -> Units
         ensures value { result ≡ up_to largest self }
@@ -195,7 +193,6 @@ impl Units {
         }
     }
 
-    /// Returns the set without the units that are shorter than this one.
     #[inline]
     const fn down_to(self, smallest: TimeUnit) -> Units
         ensures value { result ≡ down_to smallest self }
@@ -358,8 +355,6 @@ impl Format {
         Format { style, ..self }
     }
 
-    /// The unit with which a zero is printed: the smallest unit of the format. If that unit is
-    /// shorter than a second, or the format has no unit, it is the second.
     #[inline]
     pub(crate) fn zero_unit(self) -> TimeUnit
         ensures { result ≡ zero_unit (units_within self) }

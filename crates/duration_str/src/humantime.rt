@@ -10,7 +10,6 @@ use crate::unit::TimeUnit::{
     Quarter, Second, Week, Year,
 };
 
-/// The unit's length in nanoseconds.
 #[inline(always)]
 pub(crate) fn nanos(unit: TimeUnit) -> u64
     ensures { result ≡ (humantime_row_of unit).nanos }
@@ -30,7 +29,6 @@ pub(crate) fn nanos(unit: TimeUnit) -> u64
     }
 }
 
-/// The unit with a name that packs to this number.
 #[inline]
 pub(crate) fn unit_of_packed(packed: u64) -> Option<TimeUnit>
     ensures { result ≡ unit_of_packed humantime_row_of packed }
@@ -62,7 +60,6 @@ static SLOTS: [u8; 256] = [
     0, 0, 0, 0, 0, 0, 51, 20, 0, 0, 16, 0, 0, 0, 50, 59, 0, 0, 0, 0,
 ];
 
-/// The packed names.
 static NAMES: [u64; 64] = [
     1_018, // yr
     40_739, // yrs

@@ -4,8 +4,8 @@ ghost use Rattle.duration_str.specs.Laws.{OneSentence, OneCut, OneReading, Answe
 
 /// At most one sentence spells a text, and the lexemes of that sentence are those of the text's
 /// tokens. Each text is either read as one value or refused for one cause, and the computed answer
-/// says which. So `3m31s` is spelled by `3`, `m`, `31`, `s` and by no other sentence, and is read
-/// as 211 seconds.
+/// says which. So the only sentence that spells `3m31s` has the lexemes `3`, `m`, `31` and `s`, and
+/// the text is read as 211 seconds.
 #[tactic(auto, using(crate::proofs::LawProofs::OneSentence::each_holds))]
 pub fn one_sentence()
     ensures sentence { OneSentence }
@@ -16,7 +16,7 @@ pub fn one_sentence()
 
 /// The last terminal of the beginning of a sentence, `no_calc` and whether there is a default unit
 /// decide what can follow. Nothing else does. The longest prefix of a text's terminals that begins
-/// a sentence ends before the first terminal that can't follow the one before it. So `1m` can be
+/// a sentence ends before the first terminal that can't follow those before it. So `1m` can be
 /// followed by a number, an operator (not under `no_calc`) or the end, and the longest such prefix
 /// of `1m 3-5` is `1m 3`.
 #[tactic(auto, using(crate::proofs::LawProofs::PlaceAndKinds::place_and_kinds_hold))]
@@ -65,8 +65,9 @@ pub fn reorder()
 {}
 
 /// Unless `no_calc` is on, a product of two terms is accepted exactly if both numbers, both terms
-/// and the product, rounded down to nanoseconds, are below 2^64. If its terms are exchanged, it is
-/// accepted too, and has the same value. So `1m*10ms` and `10ms*1m` are both 600 milliseconds.
+/// and the product, rounded down to nanoseconds, are below 2^64. If the terms of an accepted
+/// product are exchanged, it has the same value. So `1m*10ms` and `10ms*1m` are both 600
+/// milliseconds.
 #[tactic(auto, using(crate::proofs::LawProofs::TwoFactors::two_factors_hold))]
 pub fn two_factors()
     ensures { TwoFactors }
@@ -94,8 +95,8 @@ pub fn reads_back()
     ensures { ReadsBack }
 {}
 
-/// Neither a cause's line nor a fault's message ends with a line feed. So a log entry with such a
-/// line ends with exactly one line feed, which the log adds.
+/// Neither a cause's line nor a fault's message ends with a line feed. So `println!` ends such a
+/// line with a single line feed.
 #[tactic(auto, using(crate::proofs::Printer::MessageLemmas::last_line_holds))]
 pub fn last_line()
     ensures { LastLine }
@@ -113,8 +114,8 @@ pub fn older_texts()
 {}
 
 /// With all units and at least as many parts as there are units, `write_format` prints the whole
-/// duration in the format's style. In the short style it prints what `write_human` prints. So
-/// eleven parts of 193,029 milliseconds are `3min 13s 29ms`.
+/// duration in the format's style. In the short style it prints what `write_human` prints. So in up
+/// to eleven parts, 193,029 milliseconds are `3min 13s 29ms`.
 pub fn all_parts()
     ensures { AllParts }
 {}
@@ -138,8 +139,8 @@ pub fn parts_and_rest()
     ensures { PartsAndRest }
 {}
 
-/// Under all options, the name that a fault's line advises for a word names the unit that people
-/// mean by the word, and the word itself names no unit. So if an error advises `min` for `mins`,
+/// Under all options, the name that a fault's line advises for a word names the unit that the word
+/// is near, and the word itself names no unit. So if an error advises `min` for `mins`,
 /// `parse_with` reads `mins` under no choice of options.
 #[tactic(auto, using(crate::proofs::LawProofs::NearWords::near_words_hold))]
 pub fn near_words()

@@ -58,10 +58,8 @@ impl fmt::Display for Fault<'_> {
     }
 }
 
-/// How a message is laid out around its line.
 #[derive(Clone, Copy)]
 pub(crate) enum Layout {
-    /// The line alone.
     Line,
     /// `byte N: ` with the place, and the line.
     Byte { place: usize },
@@ -179,7 +177,6 @@ pub(crate) fn put_decimal(buffer: &mut [u8], at: usize, number: usize) -> Option
     put(buffer, at, &digits[..end])
 }
 
-/// Prints as this many spaces, up to 64 at a time.
 #[derive(Clone, Copy)]
 struct Spaces(usize);
 

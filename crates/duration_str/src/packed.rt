@@ -52,7 +52,6 @@ pub(crate) const MOST_BYTES: usize = 12;
 /// The numbers that digits write, and the packed numbers of letters, are computed modulo this.
 pub(crate) const MODULUS: u128 = 1 << 64;
 
-/// A packed number with one more letter.
 #[inline(always)]
 pub(crate) fn with_letter(packed: u64, number: u64) -> u64
     ensures { result ≡ (packed * 40 + number) % 2 ^ 64 }
@@ -67,7 +66,6 @@ pub(crate) fn is_unit_letter(c: char, o: Options) -> bool
     letter_number(c, o).is_some()
 }
 
-/// The digit for a unit letter under these options, or `None` for any other character.
 #[inline(always)]
 pub(crate) fn letter_number(c: char, o: Options) -> Option<u64>
     ensures { result ≡ (if is_unit_letter o c then Some (letter_number o c) else None) }
@@ -84,7 +82,6 @@ pub(crate) fn letter_number(c: char, o: Options) -> Option<u64>
     }
 }
 
-/// The digit for a unit letter.
 #[inline(always)]
 pub(crate) fn first_number(c: char, o: Options) -> u64
     requires { is_unit_letter o c ≡ true }
@@ -96,9 +93,8 @@ pub(crate) fn first_number(c: char, o: Options) -> u64
     wide_number(c, o.cn_unit)
 }
 
-/// The digit for an ASCII letter: its code modulo 32, which is 1 to 26 for small letters and for
-/// capitals. Under `lowercase` `M` has a digit of its own, since it is a name of humantime, and the
-/// other capitals have a digit that no letter of a name has.
+/// Under `lowercase` `M` has a digit of its own, since it is a name of humantime, and the other
+/// capitals have a digit that no letter of a name has.
 #[inline(always)]
 fn ascii_number(c: char, o: Options) -> u64
     requires { is_ascii_alphabetic c ≡ true }
@@ -110,8 +106,6 @@ fn ascii_number(c: char, o: Options) -> u64
     u64::from(c as u32 % 32)
 }
 
-/// The digit for a unit letter beyond ASCII, which is `µ` or a letter that the option `cn_unit`
-/// adds. For any other character it is 0.
 #[inline]
 fn wide_number(c: char, cn_unit: bool) -> u64
     ensures { result ≡ (if c == 0xB5 || (cn_unit && is_chinese c) then wide_number c else 0) }
@@ -142,10 +136,8 @@ fn wide_number(c: char, cn_unit: bool) -> u64
 /// name.
 const CAPITAL: u64 = 26;
 
-/// The digit for `M` under `lowercase`.
 const CAPITAL_M: u64 = 39;
 
-/// The unit with a name that packs to this number.
 #[inline]
 pub(crate) fn unit_of_packed(packed: u64) -> Option<TimeUnit>
     ensures { result ≡ unit_of_packed row_of packed }
@@ -174,7 +166,6 @@ static SLOTS: [u8; 128] = [
     0, 0, 28, 0, 2, 51, 0, 31, 0, 0, 0, 0, 42, 16,
 ];
 
-/// The packed names.
 static NAMES: [u64; 54] = [
     25, // y
     1_608_058, // year

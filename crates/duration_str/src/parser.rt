@@ -127,7 +127,7 @@ pub fn parse_with_default_unit(
 /// Reads a text as `parse_with_default_unit` does, and returns the duration in nanoseconds.
 ///
 /// For this call the reader is compiled twice: once for the case that all options are off and the
-/// default unit is the second, which is faster, and once for all other cases.
+/// default unit is the second, and once for all other cases. The first is faster.
 ///
 /// # Errors
 ///
@@ -165,8 +165,8 @@ fn nanos_chosen(input: &str, o: Options, default_unit: Option<TimeUnit>) -> Resu
 }
 
 /// Returns what `parse_nanos` returns. The whole reader is compiled into each place in the source
-/// that calls this, and adds 3 to 6 kB to the program there. It is faster if the compiler knows the
-/// options of the call.
+/// that calls this, and adds some kilobytes to the program there. It is faster if the compiler
+/// knows the options of the call.
 ///
 /// # Errors
 ///
@@ -189,10 +189,10 @@ pub fn parse_nanos_specialized(
 /// Reads a text by the names and the lengths of the units of the crate humantime, and returns the
 /// duration in nanoseconds.
 ///
-/// A month has 30.44 days and a year 365.25. Each number needs a unit. The library's own names are
-/// read too, and, unless `no_calc` is on, `+` and `*`. For humantime's texts turn on `lowercase`,
-/// so that `1M` is a month and `1m` a minute. As with `parse_nanos_specialized`, the whole reader
-/// is compiled into each place in the source that calls this.
+/// A month has 30.44 days and a year 365.25 days. Each number needs a unit. The library's own names
+/// are read too. So are `+` and `*`, unless `no_calc` is on. For humantime's texts turn on
+/// `lowercase`, so that `1M` is a month and `1m` a minute. As with `parse_nanos_specialized`, the
+/// whole reader is compiled into each place in the source that calls this.
 ///
 /// # Errors
 ///

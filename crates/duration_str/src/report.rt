@@ -16,7 +16,6 @@ use crate::one_line::{ONE_LINE_BUFFER_SIZE, is_clear};
 /// each of them before the caret, the caret, two line feeds, and a line.
 pub const REPORT_BUFFER_SIZE: usize = 80 * 4 + 80 * 2 + 3 + ONE_LINE_BUFFER_SIZE;
 
-/// The most characters of a text that can stand above a caret.
 const MOST_ABOVE: usize = 80;
 
 impl Fault<'_> {
@@ -63,7 +62,6 @@ impl Fault<'_> {
     }
 }
 
-/// Whether a text can stand above a caret: it is short enough, and needs no escapes.
 #[tactic(auto, using(std::proofs::lemmas::Str::chars_from_encodes))]
 fn is_clear_text(text: &str) -> bool
     ensures { result ≡ is_clear_text (chars text.now) }
@@ -77,8 +75,6 @@ fn are_clear(text: &str) -> bool
     text.chars().all(is_clear)
 }
 
-/// How many columns of a terminal a text takes. Every character from U+2E80 on is counted as two,
-/// but only the Chinese letters among them can stand before a syntax fault.
 fn columns_of(text: &str) -> usize
     ensures columns { result ≡ columns_of (chars text.now) }
     ensures short { result ≤ 2 * length text.now }

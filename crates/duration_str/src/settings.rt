@@ -7,7 +7,6 @@ use crate::unit::TimeUnit;
 /// The settings of the reader, which name the rules by which it reads a text.
 #[derive(Clone, Copy)]
 pub(crate) struct Settings {
-    /// The table with the names and the lengths of the units.
     pub(crate) table: UnitTable,
     /// The unit of a number without one, or `None` if each number needs its unit.
     pub(crate) default_unit: Option<TimeUnit>,
@@ -19,7 +18,6 @@ impl Settings {
     ghost use Rattle.duration_str.specs.Internal.UnitTable.{meaning_of};
     ghost use Rattle.duration_str.specs.Rules.{rules_with, rules_of};
 
-    /// The settings with the table of the library.
     #[inline(always)]
     pub(crate) const fn with(o: Options, default_unit: Option<TimeUnit>) -> Settings
         ensures { meaning_of result ≡ rules_with o default_unit }
@@ -31,7 +29,6 @@ impl Settings {
         }
     }
 
-    /// The settings with the table of the library, and with the second as the default unit.
     #[inline(always)]
     pub(crate) const fn of(o: Options) -> Settings
         ensures { meaning_of result ≡ rules_of o }

@@ -31,8 +31,8 @@ fn to_signed(length: Duration) -> SignedDuration
     SignedDuration::from_nanos_i128(length.as_nanos() as i128)
 }
 
-/// Reads a text as `parse` does, and returns a signed duration, which can hold the value of every
-/// text.
+/// Reads a text as `parse` does, and returns a signed duration. It refuses the same texts as
+/// `parse`, for the same causes.
 ///
 /// ```text
 /// parse_chrono("1h+30s") // Ok(SignedDuration::from_secs(3_630))

@@ -22,7 +22,7 @@ use crate::packed::{
 use crate::settings::Settings;
 use crate::unit::TimeUnit;
 
-/// What a token is: a number, a word with the unit that it names, an operator, or another
+/// What a token is: a number, a word with the unit that it names, if any, an operator, or another
 /// character.
 ///
 /// ```
@@ -169,8 +169,6 @@ impl<'a> Tokens<'a> {
         self.eye.place()
     }
 
-    /// Moves past the character ahead, and looks at the next one. This takes an operator, or
-    /// another single character, as a token.
     #[inline(always)]
     pub(crate) fn advance(&mut self)
         ensures kept { KeepsInput self.old self.new }
@@ -200,7 +198,6 @@ impl<'a> Tokens<'a> {
         }
     }
 
-    /// Moves past the digits ahead, and returns the number that they write, modulo 2^64.
     #[inline(always)]
     fn take_digits(&mut self) -> u64
         ensures kept { KeepsInput self.old self.new }
@@ -221,7 +218,6 @@ impl<'a> Tokens<'a> {
         number
     }
 
-    /// Takes the number ahead. Returns its value, or `None` if it is 2^64 or more.
     #[inline(always)]
     pub(crate) fn take_number(&mut self) -> Option<u64>
         requires { IsAhead self.old (Some a_number) }
@@ -235,9 +231,8 @@ impl<'a> Tokens<'a> {
         fits(self.eye.bytes_since(start), low).then_some(low)
     }
 
-    /// Moves past the letters of the word ahead, and returns their packed number modulo 2^64. The
-    /// word's first character is known to be a unit letter, and is handled before the loop, since
-    /// that takes fewer instructions.
+    /// The word's first character is known to be a unit letter, and is handled before the loop,
+    /// since that takes fewer instructions.
     #[inline(always)]
     fn take_letters(&mut self) -> u64
         requires { IsAhead self.old (Some a_word) }
@@ -262,7 +257,6 @@ impl<'a> Tokens<'a> {
         packed
     }
 
-    /// Takes the word ahead. Returns the unit that it names by these settings, if any.
     #[inline(always)]
     pub(crate) fn take_word(&mut self, settings: Settings) -> Option<TimeUnit>
         requires { IsAhead self.old (Some a_word) }
@@ -299,7 +293,6 @@ impl<'a> Tokens<'a> {
         }
     }
 
-    /// Moves past the blanks. Returns the sort of the token ahead, or `None` at the end.
     #[inline(always)]
     pub(crate) fn sort_ahead(&mut self) -> Option<TokenStart>
         ensures { LooksAhead self.old self.new result }
@@ -309,7 +302,6 @@ impl<'a> Tokens<'a> {
         Some(TokenStart::at(first, self.options))
     }
 
-    /// Moves past the blanks, and returns whether a number is ahead.
     #[inline(always)]
     pub(crate) fn is_number_ahead(&mut self) -> bool
         ensures { LooksForNumber self.old self.new result }
@@ -321,8 +313,7 @@ impl<'a> Tokens<'a> {
         }
     }
 
-    /// Returns what `sort_ahead` returns. After a number a word is most likely, so letters are
-    /// tested first.
+    /// After a number a word is most likely, so letters are tested first.
     #[inline(always)]
     pub(crate) fn sort_after_number(&mut self) -> Option<TokenStart>
         ensures { LooksAhead self.old self.new result }
@@ -365,7 +356,6 @@ static BLANKS: [bool; 33] = [
     false, false, false, false, false, true,
 ];
 
-/// Whether a character is a space, a tab, a carriage return or a line feed.
 #[inline]
 pub(crate) fn is_blank(c: char) -> bool
     ensures { result ≡ is_blank c }
@@ -373,10 +363,9 @@ pub(crate) fn is_blank(c: char) -> bool
     c <= ' ' && BLANKS[c as usize]
 }
 
-/// Whether a number of more than 19 digits is below 2^64. `low` is that number modulo 2^64. Before
-/// its last 19 digits, a number below 2^64 has only zeros, or zeros and then a `1`. With the `1`
-/// the number is from 10^19 to below 2 * 10^19, so it is below 2^64 exactly if `low` is 10^19 or
-/// more.
+/// `low` is the number modulo 2^64. Before its last 19 digits, a number below 2^64 has only zeros,
+/// or zeros and then a `1`. With the `1` the number is from 10^19 to below 2 * 10^19, so it is
+/// below 2^64 exactly if `low` is 10^19 or more.
 #[cold]
 #[inline(never)]
 fn fits(digits: &[u8], low: u64) -> bool

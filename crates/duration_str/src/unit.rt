@@ -99,7 +99,6 @@ impl TimeUnit {
         }
     }
 
-    /// The long name for a count of 1, such as `minute`.
     #[tactic(auto, unfolding(std::specs::Prelude::encode_utf8))]
     #[inline(always)]
     pub(crate) const fn long_name(self) -> &'static str
@@ -120,7 +119,6 @@ impl TimeUnit {
         }
     }
 
-    /// How many units are longer than this one.
     #[inline(always)]
     pub(crate) const fn rank(self) -> usize
         ensures { result ≡ rank_of self }
@@ -171,7 +169,7 @@ const QUARTER: u64 = 91 * DAY;
 
 const YEAR: u64 = 365 * DAY;
 
-/// A unit's printed name, and its length for the divisions that printing needs.
+/// A unit's printed name and its length.
 #[derive(Clone, Copy)]
 pub(crate) struct Printed {
     pub(crate) unit: TimeUnit,
@@ -186,9 +184,8 @@ pub(crate) struct Printed {
 }
 
 impl Printed {
-    /// Divides nanoseconds by the unit's length, and returns the quotient and the remainder. It
-    /// multiplies by the reciprocal, which is faster than a division and gives the quotient or one
-    /// less.
+    /// It multiplies by the reciprocal, which is faster than a division and gives the quotient or
+    /// one less.
     #[inline(always)]
     pub(crate) fn division(&self, nanos: u64) -> (u64, u64)
         requires right { self.now ≡ printed_row self.now.unit }
@@ -204,7 +201,6 @@ impl Printed {
         }
     }
 
-    /// Divides as `division` does, also if there are 2^64 nanoseconds or more.
     #[inline(always)]
     pub(crate) fn wide_division(&self, nanos: u128) -> (u128, u128)
         requires right { self.now ≡ printed_row self.now.unit }

@@ -1,5 +1,5 @@
 // Made by tools/erase of crates/duration_str/src/breakdown.rt.
-//! The breakdown of a duration: how many of each unit of a format it has.
+//! The breakdown of a duration into parts.
 
 use crate::format::{Format, Units};
 use crate::unit::{PRINTED, Printed, TimeUnit, UNITS};
@@ -28,7 +28,6 @@ pub struct Breakdown {
     bits: u32,
     /// How many parts there may still be.
     most: usize,
-    /// The nanoseconds that the parts so far leave.
     rest: u128,
 }
 
@@ -67,7 +66,6 @@ impl Breakdown {
         self.rest
     }
 
-    /// The breakdown of this many nanoseconds into the units of a set, in at most `most` parts.
     #[inline(always)]
     pub(crate) fn of(nanos: u128, set: Units, most: usize) -> Breakdown {
         Breakdown {
@@ -77,7 +75,6 @@ impl Breakdown {
         }
     }
 
-    /// Returns the next part, with its unit's row in the table for printing.
     #[inline(always)]
     pub(crate) fn next_part(&mut self) -> Option<(&'static Printed, u128)> {
         if self.most == 0 || self.rest == 0 {
@@ -111,8 +108,6 @@ impl Iterator for Breakdown {
     }
 }
 
-/// The row of the longest unit of a set, and the bits of the set's other units. The set is given by
-/// its bits.
 #[inline(always)]
 fn longest(bits: u32) -> Option<(&'static Printed, u32)> {
     let rank = bits.trailing_zeros();

@@ -31,7 +31,6 @@ pub struct Expected {
 }
 
 impl Expected {
-    /// What can stand at the start of a text or after an operator: a number.
     #[inline(always)]
     pub(crate) fn at_start() -> Expected {
         Expected {

@@ -1,8 +1,6 @@
 // Made by tools/erase of crates/duration_str/src/eye.rt.
-//! The only access to a text while it is cut into tokens. It takes one character after another, and
-//! counts each look.
+//! A text that is taken one character after another, with a count of the looks.
 
-/// A text, the place up to which it is cut into tokens, and the number of looks.
 pub(crate) struct Eye<'a> {
     text: &'a str,
     place: usize,
@@ -29,8 +27,6 @@ impl<'a> Eye<'a> {
         self.looks
     }
 
-    /// Returns the character at the place, and counts the look. At the end of the text it returns
-    /// `None`, and counts nothing.
     #[inline(always)]
     pub(crate) fn look(&mut self) -> Option<char> {
         let c = character_at(self.text, self.place)?;
@@ -38,7 +34,6 @@ impl<'a> Eye<'a> {
         Some(c)
     }
 
-    /// Moves the place past `looked_at`, which is the character there.
     #[inline(always)]
     pub(crate) fn step(&mut self, looked_at: char) {
         self.place += looked_at.len_utf8();

@@ -108,7 +108,6 @@ impl Units {
         set
     }
 
-    /// Returns the units that are in both sets.
     #[inline]
     const fn intersection(self, other: Units) -> Units {
         Units {
@@ -160,7 +159,6 @@ impl Units {
         }
     }
 
-    /// Returns the set without the units that are longer than this one.
     #[inline]
     pub(crate) const fn up_to(self, largest: TimeUnit) -> Units {
         Units {
@@ -168,7 +166,6 @@ impl Units {
         }
     }
 
-    /// Returns the set without the units that are shorter than this one.
     #[inline]
     const fn down_to(self, smallest: TimeUnit) -> Units {
         Units {
@@ -314,8 +311,6 @@ impl Format {
         Format { style, ..self }
     }
 
-    /// The unit with which a zero is printed: the smallest unit of the format. If that unit is
-    /// shorter than a second, or the format has no unit, it is the second.
     #[inline]
     pub(crate) fn zero_unit(self) -> TimeUnit {
         let mut smallest = TimeUnit::Second;

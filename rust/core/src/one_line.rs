@@ -11,7 +11,7 @@ use crate::fault::Fault;
 use crate::message::{chars_before, put, put_decimal};
 use crate::token::is_blank;
 
-/// No line has more bytes than this.
+/// No fault's line has more bytes than this.
 ///
 /// ```
 /// use duration_str_core::{MAX_ONE_LINE_LEN, ONE_LINE_BUFFER_SIZE, Options, parse_with};
@@ -22,17 +22,16 @@ use crate::token::is_blank;
 /// ```
 pub const MAX_ONE_LINE_LEN: usize = 294;
 
-/// The size of a buffer that has room for every line.
+/// The size of a buffer that has room for every fault's line.
 pub const ONE_LINE_BUFFER_SIZE: usize = 384;
 
-/// The most characters of a quote.
 const MOST_SHOWN: usize = 40;
 
 impl Fault<'_> {
     /// Writes the fault in one line to the start of a buffer, and returns the line. It says what is
-    /// wrong, and for a syntax fault at which column, and what stands there. A quote has at most 40
-    /// characters. In it, characters that aren't safe in a line or can't be seen are escaped. The
-    /// buffer's old contents do not matter. The call allocates nothing and cannot fail.
+    /// wrong, and for a syntax fault at which column, and what stands there. A quote shows at most
+    /// 40 characters. In it, characters that aren't safe in a line or can't be seen are escaped.
+    /// The buffer's old contents do not matter. The call allocates nothing and cannot fail.
     ///
     /// ```
     /// use duration_str_core::{ONE_LINE_BUFFER_SIZE, Options, parse_with};
@@ -76,7 +75,6 @@ fn put_syntax(buffer: &mut [u8], text: &str, place: usize, expected: Expected) -
     }
 }
 
-/// The column of a place, counted in characters from 1.
 #[inline(always)]
 fn column_at(text: &str, place: usize) -> usize {
     chars_before(text, place) + 1
@@ -140,8 +138,7 @@ fn put_text(buffer: &mut [u8], at: usize, text: &str) -> Option<usize> {
     put(buffer, at, text.as_bytes())
 }
 
-/// Writes a text in quotes, cut to what fits into 40 characters. Most texts are short and need no
-/// escapes, so they are copied whole.
+/// Most texts are short and need no escapes, so they are copied whole.
 #[inline(never)]
 fn put_quoted(buffer: &mut [u8], at: usize, text: &str) -> Option<usize> {
     let mut end = put(buffer, at, b"\"")?;
@@ -162,7 +159,6 @@ fn put_quoted(buffer: &mut [u8], at: usize, text: &str) -> Option<usize> {
     put(buffer, end, b"\"")
 }
 
-/// Whether all of these bytes are ASCII characters that need no escape.
 fn are_clear(bytes: &[u8]) -> bool {
     bytes
         .iter()
@@ -194,8 +190,6 @@ fn put_escaped(buffer: &mut [u8], at: usize, c: char) -> Option<usize> {
     Some(end)
 }
 
-/// The run of digits or of letters at the start of a text, or its first character if that is
-/// neither. A run is cut to 41 characters, one more than a quote shows.
 fn first_piece(text: &str) -> &str {
     let mut chars = text.chars();
     let Some(first) = chars.next() else {
@@ -224,8 +218,6 @@ fn begins_with_letter(text: &str) -> bool {
     }
 }
 
-/// Whether a character is an ASCII letter, or a character beyond ASCII that is plain and is no
-/// sign.
 #[inline(never)]
 fn is_letter(c: char) -> bool {
     if c.is_ascii() {
@@ -240,13 +232,11 @@ pub(crate) fn is_clear(c: char) -> bool {
     is_plain(c) && c != '"' && c != '\\'
 }
 
-/// Whether a character is plain: no control character, and none that `is_hidden` lists.
 #[inline(always)]
 fn is_plain(c: char) -> bool {
     c >= ' ' && (c <= '~' || !is_hidden(c))
 }
 
-/// Whether a character after `~` is not plain.
 #[inline(never)]
 fn is_hidden(c: char) -> bool {
     matches!(c, '\x7f'..='\u{a0}' | '\u{1680}' | '\u{2800}' | '\u{3000}')
@@ -278,8 +268,6 @@ fn expected_words(expected: Expected) -> &'static str {
     }
 }
 
-/// Writes the help for a word that is no unit. It is the name that the word is near; or, if there
-/// is none, the help for the word's place; or, if there is none either, the names of all units.
 fn put_unit_help(buffer: &mut [u8], at: usize, word: &str, help: &str) -> Option<usize> {
     match near_row(word) {
         Some(row) => put_name_help(buffer, at, row.1.trim_ascii_end()),
@@ -301,7 +289,6 @@ fn put_name_help(buffer: &mut [u8], at: usize, name: &[u8]) -> Option<usize> {
     put(buffer, end, b"\"?)")
 }
 
-/// The row of `NEAR_WORDS` for a word, if it has one.
 fn near_row(word: &str) -> Option<([u8; 9], [u8; 3])> {
     if is_megabyte(word) {
         return None;
@@ -313,8 +300,7 @@ fn row_beside(word: &str) -> Option<([u8; 9], [u8; 3])> {
     NEAR_WORDS.iter().copied().find(|row| is_near(&row.0, word))
 }
 
-/// Whether a word is `mo` or `mos` with a capital. No name is advised for these, since `Mo` can
-/// mean a megabyte.
+/// No name is advised for `Mo`, since it can mean a megabyte.
 fn is_megabyte(word: &str) -> bool {
     (is_word(word, "mo") || is_word(word, "mos")) && word != "mo" && word != "mos"
 }
@@ -357,13 +343,11 @@ static NEAR_WORDS: [([u8; 9], [u8; 3]); 28] = [
     (*b"nanos    ", *b"ns "),
 ];
 
-/// Whether `word` is `name`, if ASCII capitals are read as small letters.
 fn is_word(word: &str, name: &str) -> bool {
     word.eq_ignore_ascii_case(name)
 }
 
-/// The help for the piece at a place, or an empty text if there is none. The place is after a unit
-/// exactly if both a number and the end could stand there.
+/// The place is after a unit exactly if both a number and the end could stand there.
 fn help_at(expected: Expected, text: &[u8], place: usize, piece: &str) -> &'static str {
     let before = &text[..place];
     let last = last_byte(before);
@@ -384,7 +368,6 @@ fn help_at(expected: Expected, text: &[u8], place: usize, piece: &str) -> &'stat
     }
 }
 
-/// The help for a piece with nothing before it except blanks, or an empty text if there is none.
 fn first_help(piece: &str, next: u8) -> &'static str {
     let is_signed = next.is_ascii_digit() || next == b'.';
     if is_signed && piece == "-" {
@@ -398,7 +381,6 @@ fn first_help(piece: &str, next: u8) -> &'static str {
     }
 }
 
-/// The help for a piece after a digit, or an empty text if there is none.
 fn digit_help(piece: &str, next: u8) -> &'static str {
     let is_between = next.is_ascii_digit();
     let is_exponent = (is_between || next == b'+' || next == b'-') && is_word(piece, "e");
@@ -411,10 +393,6 @@ fn digit_help(piece: &str, next: u8) -> &'static str {
     }
 }
 
-/// The help at the end of a line that says what was expected. It is `help`, if that is not empty.
-/// Otherwise, if a unit could stand at the place, and neither an operator nor the end, a number
-/// lacks its unit, and the help says what to write. That is `0s` if the whole text is zeros and
-/// blanks, since zero is the same in each unit.
 fn missing_unit_help(expected: Expected, text: &[u8], help: &'static str) -> &'static str {
     let lacks_unit = expected.unit_word && !expected.operator && !expected.text_end;
     if !lacks_unit || !help.is_empty() {

@@ -38,7 +38,6 @@ pub(crate) const MOST_BYTES: usize = 12;
 /// The numbers that digits write, and the packed numbers of letters, are computed modulo this.
 pub(crate) const MODULUS: u128 = 1 << 64;
 
-/// A packed number with one more letter.
 #[inline(always)]
 pub(crate) fn with_letter(packed: u64, number: u64) -> u64 {
     ((packed as u128 * 40 + number as u128) % MODULUS) as u64
@@ -49,7 +48,6 @@ pub(crate) fn is_unit_letter(c: char, o: Options) -> bool {
     letter_number(c, o).is_some()
 }
 
-/// The digit for a unit letter under these options, or `None` for any other character.
 #[inline(always)]
 pub(crate) fn letter_number(c: char, o: Options) -> Option<u64> {
     if c.is_ascii_alphabetic() {
@@ -64,7 +62,6 @@ pub(crate) fn letter_number(c: char, o: Options) -> Option<u64> {
     }
 }
 
-/// The digit for a unit letter.
 #[inline(always)]
 pub(crate) fn first_number(c: char, o: Options) -> u64 {
     if c.is_ascii() {
@@ -73,9 +70,8 @@ pub(crate) fn first_number(c: char, o: Options) -> u64 {
     wide_number(c, o.cn_unit)
 }
 
-/// The digit for an ASCII letter: its code modulo 32, which is 1 to 26 for small letters and for
-/// capitals. Under `lowercase` `M` has a digit of its own, since it is a name of humantime, and the
-/// other capitals have a digit that no letter of a name has.
+/// Under `lowercase` `M` has a digit of its own, since it is a name of humantime, and the other
+/// capitals have a digit that no letter of a name has.
 #[inline(always)]
 fn ascii_number(c: char, o: Options) -> u64 {
     if o.lowercase && c < 'a' {
@@ -84,8 +80,6 @@ fn ascii_number(c: char, o: Options) -> u64 {
     u64::from(c as u32 % 32)
 }
 
-/// The digit for a unit letter beyond ASCII, which is `µ` or a letter that the option `cn_unit`
-/// adds. For any other character it is 0.
 #[inline]
 fn wide_number(c: char, cn_unit: bool) -> u64 {
     if c == 'µ' {
@@ -114,10 +108,8 @@ fn wide_number(c: char, cn_unit: bool) -> u64 {
 /// name.
 const CAPITAL: u64 = 26;
 
-/// The digit for `M` under `lowercase`.
 const CAPITAL_M: u64 = 39;
 
-/// The unit with a name that packs to this number.
 #[inline]
 pub(crate) fn unit_of_packed(packed: u64) -> Option<TimeUnit> {
     // The product is computed in 128 bits, which the compiler turns into a multiplication of 64
@@ -144,7 +136,6 @@ static SLOTS: [u8; 128] = [
     0, 0, 28, 0, 2, 51, 0, 31, 0, 0, 0, 0, 42, 16,
 ];
 
-/// The packed names.
 static NAMES: [u64; 54] = [
     25, // y
     1_608_058, // year

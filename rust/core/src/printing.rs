@@ -1,13 +1,8 @@
 // Made by tools/erase of crates/duration_str/src/printing.rt.
 //! Durations printed for people, such as `3min 13s 29ms`: whole, or in a format.
 //!
-//! The text has the greatest possible count of the largest unit, then the greatest count of the
-//! next unit in what is left, and so on down to the smallest unit, or until there are as many parts
-//! as were asked for. Counts of 0 are left out, and so is what remains at the end. If there are no
-//! parts, the text is a zero, such as `0s`.
-//!
-//! A function with an argument `at` keeps the first `at` bytes of the buffer, writes its part after
-//! them, and returns where that part ends.
+//! A function with an argument `at` writes its part after the first `at` bytes of the buffer, and
+//! returns where the part ends.
 
 use crate::breakdown::Breakdown;
 use crate::format::{Format, Style, Units};
@@ -110,9 +105,8 @@ pub(crate) fn put_number(buffer: &mut [u8], at: usize, n: u64) -> usize {
     put_digit(buffer, end, n % 10)
 }
 
-/// Writes a number of one or two digits. A single digit is written over a `0` that was written to
-/// its place, so that no branch on the number of digits is needed. (Such a branch is hard to
-/// predict.)
+/// A single digit is written over a `0` that was written to its place, so that no branch on the
+/// number of digits is needed. (Such a branch is hard to predict.)
 #[inline(always)]
 fn put_tens(buffer: &mut [u8], at: usize, n: u64) -> usize {
     let tens = n / 10;
@@ -121,7 +115,6 @@ fn put_tens(buffer: &mut [u8], at: usize, n: u64) -> usize {
     put_digit(buffer, last, n - 10 * tens)
 }
 
-/// Writes a number of up to three digits, as `put_tens` does.
 #[inline(always)]
 fn put_hundreds(buffer: &mut [u8], at: usize, n: u64) -> usize {
     let tens = n / 10;
@@ -130,7 +123,7 @@ fn put_hundreds(buffer: &mut [u8], at: usize, n: u64) -> usize {
     put_digit(buffer, last, n - 10 * tens)
 }
 
-/// Writes a number of any length. Most counts have up to three digits, for which it makes no call.
+/// Most counts have up to three digits, for which this makes no call.
 #[inline(always)]
 fn put_count(buffer: &mut [u8], at: usize, n: u64) -> usize {
     if n < 100 {
@@ -151,7 +144,6 @@ fn put_str(buffer: &mut [u8], at: usize, text: &str) -> usize {
     end
 }
 
-/// Writes the space between two parts, unless this is the first part or the style is compact.
 #[inline(always)]
 fn put_gap(buffer: &mut [u8], at: usize, style: Style) -> usize {
     if at == 0 || style == Style::Compact {
@@ -168,8 +160,7 @@ fn put_wide(buffer: &mut [u8], at: usize, n: u128) -> usize {
     put_digit(buffer, end, (n % 10) as u64)
 }
 
-/// Writes a unit's printed name. It copies four bytes (the name, and the spaces after it in the
-/// row), which takes no call.
+/// It copies four bytes, the name and the spaces after it in the row, since that takes no call.
 #[inline(always)]
 fn put_name(buffer: &mut [u8], at: usize, row: &Printed) -> usize {
     buffer[at..at + 4].copy_from_slice(&row.letters);
@@ -201,7 +192,6 @@ fn put_part(buffer: &mut [u8], at: usize, count: u64, row: &Printed, style: Styl
     put_name_in(buffer, end, row, count == 1, style)
 }
 
-/// The set, without the units longer than an hour if the duration is below a day.
 #[inline(always)]
 fn set_for(nanos: u64, set: Units) -> Units {
     if nanos < TimeUnit::Day.nanos() {
@@ -210,7 +200,6 @@ fn set_for(nanos: u64, set: Units) -> Units {
     set
 }
 
-/// Writes this many nanoseconds in the units of a set, in at most `most` parts.
 #[inline(never)]
 fn put_parts(
     buffer: &mut [u8],
@@ -239,8 +228,7 @@ fn put_spaced(buffer: &mut [u8], at: usize, count: u32, unit: TimeUnit) -> usize
     if count == 0 { at } else { at + next + 1 }
 }
 
-/// Writes the parts with these counts, and a space after each. The first count is that of the unit
-/// `UNITS[first]`.
+/// The first count is that of the unit `UNITS[first]`.
 #[inline(always)]
 fn put_counts(buffer: &mut [u8], at: usize, first: usize, counts: &[u32]) -> usize {
     let mut end = at;
@@ -250,8 +238,6 @@ fn put_counts(buffer: &mut [u8], at: usize, first: usize, counts: &[u32]) -> usi
     end
 }
 
-/// Writes the parts of the days in these seconds, and a space after each. Returns where they end,
-/// and the seconds that are left.
 #[inline(always)]
 fn put_days(buffer: &mut [u8], secs: u64) -> (usize, u32) {
     if secs < 24 * 3_600 {
@@ -272,9 +258,8 @@ fn put_days(buffer: &mut [u8], secs: u64) -> (usize, u32) {
     (end, (secs % (24 * 3_600)) as u32)
 }
 
-/// Writes all parts of a duration below 1,000 years. From the hour on, each count is computed from
-/// the seconds after the days or from the nanoseconds after the seconds, so that none has to wait
-/// for the count before it.
+/// From the hour on, each count is computed from the seconds after the days or from the nanoseconds
+/// after the seconds, so that none has to wait for the count before it.
 #[inline(never)]
 fn put_whole(buffer: &mut [u8], d: Duration) -> usize {
     let nanos = d.subsec_nanos();
@@ -294,15 +279,13 @@ fn put_whole(buffer: &mut [u8], d: Duration) -> usize {
     end.saturating_sub(1)
 }
 
-/// Writes the first part, whose count may need more than 64 bits.
 #[inline(always)]
 fn put_first(buffer: &mut [u8], count: u128, row: &Printed, style: Style) -> usize {
     let end = put_wide(buffer, 0, count);
     put_name_in(buffer, end, row, count == 1, style)
 }
 
-/// Writes a duration of 2^60 nanoseconds or more in the units of a set. The first part leaves less
-/// than that.
+/// The first part leaves less than 2^60 nanoseconds.
 #[inline(never)]
 fn put_long(buffer: &mut [u8], set: Units, most: usize, d: Duration, style: Style) -> usize {
     let mut parts = Breakdown::of(d.as_nanos(), set, most);

@@ -7,9 +7,8 @@ use crate::settings::Settings;
 use crate::token::{TokenStart, Tokens};
 use crate::unit::TimeUnit;
 
-/// What is known of the later terms, which are all terms except the first: the operator between
-/// them and their total. It is `None` if there are no later terms, and their first fault if they
-/// have one.
+/// The operator of the later terms so far, and their total. It is `None` if there are none, and
+/// their first fault if they have one. Under `no_calc` the first term is counted among them.
 type Later = Result<Option<(CondUnit, u64)>, Cause>;
 
 /// Reads the tokens. Returns their value in nanoseconds, or the cause of their refusal.
@@ -44,7 +43,6 @@ pub(crate) fn read(tokens: &mut Tokens<'_>, settings: Settings) -> Result<u64, C
     }
 }
 
-/// Moves to the number that must stand at the start and after an operator.
 #[inline(always)]
 fn expect_number(tokens: &mut Tokens<'_>) -> Result<(), Cause> {
     if tokens.is_number_ahead() {
@@ -53,8 +51,6 @@ fn expect_number(tokens: &mut Tokens<'_>) -> Result<(), Cause> {
     Err(Cause::syntax(tokens.place(), Expected::at_start()))
 }
 
-/// Reads the unit after a number. If the end follows, or an operator (not under `no_calc`), no
-/// token is taken, and the unit is the default unit, if there is one.
 #[inline(always)]
 fn read_unit(tokens: &mut Tokens<'_>, settings: Settings) -> Result<TimeUnit, Cause> {
     let Some(sort) = tokens.sort_after_number() else {
@@ -74,8 +70,6 @@ fn read_unit(tokens: &mut Tokens<'_>, settings: Settings) -> Result<TimeUnit, Ca
     }
 }
 
-/// Returns the default unit, which a number without a unit has. If there is no default unit,
-/// returns a syntax fault at `place`, where only a unit could stand.
 #[inline(always)]
 fn unit_left_out(place: usize, settings: Settings) -> Result<TimeUnit, Cause> {
     match settings.default_unit {
@@ -84,14 +78,11 @@ fn unit_left_out(place: usize, settings: Settings) -> Result<TimeUnit, Cause> {
     }
 }
 
-/// The syntax fault at a place where no unit follows the number.
 #[inline(always)]
 fn no_unit(place: usize, settings: Settings) -> Cause {
     Cause::syntax(place, Expected::after_number(settings))
 }
 
-/// Reads the operator after a unit, and moves to the number that must follow. If the operator is
-/// left out, it is a plus. At the end of the text the result is `None`.
 #[inline(always)]
 fn read_operator(tokens: &mut Tokens<'_>, settings: Settings) -> Result<Option<CondUnit>, Cause> {
     let Some(sort) = tokens.sort_ahead() else {
@@ -111,13 +102,12 @@ fn read_operator(tokens: &mut Tokens<'_>, settings: Settings) -> Result<Option<C
     }
 }
 
-/// The syntax fault of a token that can't follow a unit.
 #[inline(always)]
 fn no_operator(place: usize, settings: Settings) -> Cause {
     Cause::syntax(place, Expected::after_unit(settings))
 }
 
-/// Combines the later terms with one more. `next` is the operator before it.
+/// `next` is the operator before the new term.
 #[inline(always)]
 fn with_term(
     later: Later,
@@ -152,8 +142,6 @@ fn combination(operator: CondUnit, left: u64, right: u64) -> Option<u64> {
     }
 }
 
-/// The product of two values in seconds, rounded down to nanoseconds, or `None` if it is 2^64 or
-/// more.
 #[inline]
 fn scaled(left: u64, right: u64) -> Option<u64> {
     const SECOND: u128 = 1_000_000_000;

@@ -10,7 +10,6 @@ use crate::one_line::{ONE_LINE_BUFFER_SIZE, is_clear};
 /// each of them before the caret, the caret, two line feeds, and a line.
 pub const REPORT_BUFFER_SIZE: usize = 80 * 4 + 80 * 2 + 3 + ONE_LINE_BUFFER_SIZE;
 
-/// The most characters of a text that can stand above a caret.
 const MOST_ABOVE: usize = 80;
 
 impl Fault<'_> {
@@ -51,7 +50,6 @@ impl Fault<'_> {
     }
 }
 
-/// Whether a text can stand above a caret: it is short enough, and needs no escapes.
 fn is_clear_text(text: &str) -> bool {
     text.chars().count() <= MOST_ABOVE && are_clear(text)
 }
@@ -60,8 +58,6 @@ fn are_clear(text: &str) -> bool {
     text.chars().all(is_clear)
 }
 
-/// How many columns of a terminal a text takes. Every character from U+2E80 on is counted as two,
-/// but only the Chinese letters among them can stand before a syntax fault.
 fn columns_of(text: &str) -> usize {
     let mut columns = 0;
     let mut chars = text.chars();

@@ -8,7 +8,6 @@ use crate::unit::TimeUnit;
 /// The settings of the reader, which name the rules by which it reads a text.
 #[derive(Clone, Copy)]
 pub(crate) struct Settings {
-    /// The table with the names and the lengths of the units.
     pub(crate) table: UnitTable,
     /// The unit of a number without one, or `None` if each number needs its unit.
     pub(crate) default_unit: Option<TimeUnit>,
@@ -16,7 +15,6 @@ pub(crate) struct Settings {
 }
 
 impl Settings {
-    /// The settings with the table of the library.
     #[inline(always)]
     pub(crate) const fn with(o: Options, default_unit: Option<TimeUnit>) -> Settings {
         Settings {
@@ -26,7 +24,6 @@ impl Settings {
         }
     }
 
-    /// The settings with the table of the library, and with the second as the default unit.
     #[inline(always)]
     pub(crate) const fn of(o: Options) -> Settings {
         Settings::with(o, Some(TimeUnit::Second))

@@ -1,23 +1,19 @@
 // Made by tools/erase of crates/duration_str/src/table.rt.
-//! The tables of units by which a text can be read: the names of the units, their lengths, and the
-//! values of terms.
+//! The tables of units by which a text can be read.
 
 use crate::cause::Cause;
 use crate::humantime;
 use crate::packed::unit_of_packed;
 use crate::unit::TimeUnit;
 
-/// A table of units.
 #[derive(Clone, Copy)]
 pub(crate) enum UnitTable {
-    /// The table of the library.
     Own,
     /// The table of the crate humantime, with the library's own names added.
     Humantime,
 }
 
 impl UnitTable {
-    /// The unit with a name that packs to this number.
     #[inline(always)]
     pub(crate) fn unit_of_packed(self, packed: u64) -> Option<TimeUnit> {
         match self {
@@ -26,8 +22,7 @@ impl UnitTable {
         }
     }
 
-    /// The nanoseconds of a term with this number and this unit. `number` is `None` if it is 2^64
-    /// or more, and `place` is the place of the error.
+    /// `number` is `None` if it is 2^64 or more, and `place` is the place of the fault.
     #[inline]
     pub(crate) fn times(
         self,

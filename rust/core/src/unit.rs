@@ -88,7 +88,6 @@ impl TimeUnit {
         }
     }
 
-    /// The long name for a count of 1, such as `minute`.
     #[inline(always)]
     pub(crate) const fn long_name(self) -> &'static str {
         match self {
@@ -106,7 +105,6 @@ impl TimeUnit {
         }
     }
 
-    /// How many units are longer than this one.
     #[inline(always)]
     pub(crate) const fn rank(self) -> usize {
         self as usize
@@ -148,7 +146,7 @@ const QUARTER: u64 = 91 * DAY;
 
 const YEAR: u64 = 365 * DAY;
 
-/// A unit's printed name, and its length for the divisions that printing needs.
+/// A unit's printed name and its length.
 #[derive(Clone, Copy)]
 pub(crate) struct Printed {
     pub(crate) unit: TimeUnit,
@@ -163,9 +161,8 @@ pub(crate) struct Printed {
 }
 
 impl Printed {
-    /// Divides nanoseconds by the unit's length, and returns the quotient and the remainder. It
-    /// multiplies by the reciprocal, which is faster than a division and gives the quotient or one
-    /// less.
+    /// It multiplies by the reciprocal, which is faster than a division and gives the quotient or
+    /// one less.
     #[inline(always)]
     pub(crate) fn division(&self, nanos: u64) -> (u64, u64) {
         let count = (nanos as u128 * self.most as u128 >> 64) as u64;
@@ -177,7 +174,6 @@ impl Printed {
         }
     }
 
-    /// Divides as `division` does, also if there are 2^64 nanoseconds or more.
     #[inline(always)]
     pub(crate) fn wide_division(&self, nanos: u128) -> (u128, u128) {
         if let Ok(small) = u64::try_from(nanos) {

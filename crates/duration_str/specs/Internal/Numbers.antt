@@ -4,7 +4,6 @@ use Rattle.duration_str.specs.declared.cause.Cause.{Cause}
 use Rattle.duration_str.specs.declared.cause.Cause.TheVariants.{NumberTooLarge, Overflow}
 use Rattle.duration_str.specs.Value.{fits}
 
--- the number if it is below 2^64, and otherwise `None`
 abbrev pub u64_from : ℕ → Option ℕ
 u64_from n = if fits n then Some n else None
 

@@ -14,11 +14,9 @@ pub record StandsAt (text : Bytes) (place next c : ℕ) : Type 0 where
   pub head : ahead text place ≡ c ∷ ahead text next
   pub bytes : next ≡ place + width c
 
--- The character c is at byte `place`.
 abbrev pub Stands : Bytes → ℕ → ℕ → Type 0
 Stands text place c = StandsAt text place (place + width c) c
 
--- These are the characters from byte `place` to byte `next`.
 pub record Between (text : Bytes) (place next : ℕ) (characters : Characters) : Type 0 where
   pub cut : ahead text place ≡ characters ++ ahead text next
   pub bytes : next ≡ place + byte_len characters
@@ -28,7 +26,6 @@ abbrev pub Stops : (ℕ → Bool) → Characters → Type 0
 Stops test [] = ⊤
 Stops test (c ∷ _) = test c ≡ false
 
--- The characters from `place` to `next` all pass the test.
 pub record Passes (test : ℕ → Bool) (text : Bytes) (place next : ℕ) : Type 0 where
   pub characters : Characters
   pub between : Between text place next characters
@@ -61,18 +58,13 @@ abbrev pub packed_number_after : Options → ℕ → Characters → ℕ
 packed_number_after o n [] = n
 packed_number_after o n (c ∷ letters) = packed_number_after o (n * 40 + letter_number o c) letters
 
--- unit letters packed into a number
 abbrev pub packed_number : Options → Characters → ℕ
 packed_number o letters = packed_number_after o 0 letters
 
--- The characters from `place` to `next` are digits, and `value` is the number that they write,
--- modulo 2^64.
 pub record TakesDigits (text : Bytes) (place next value : ℕ) : Type 0 where
   pub run : Passes is_digit text place next
   pub number : value ≡ number_of run.characters % 2 ^ 64
 
--- The characters from `place` to `next` are unit letters, and `value` is their packed number modulo
--- 2^64.
 pub record TakesLetters (o : Options) (text : Bytes) (place next value : ℕ) : Type 0 where
   pub run : Passes (is_unit_letter o) text place next
   pub number : value ≡ packed_number o run.characters % 2 ^ 64

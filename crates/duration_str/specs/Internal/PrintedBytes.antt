@@ -16,28 +16,22 @@ with_gap Compact bytes = bytes
 with_gap style [] = []
 with_gap style (b ∷ bytes) = (b ∷ bytes) ++ 32 ∷ []
 
--- what follows a count
 abbrev pub name_part : Style → Bool → TimeUnit → Characters
 name_part style one u = before_name style ++ name_in style one u
 
--- the bytes of a count and its unit's name
 abbrev pub part_bytes : Style → ℕ → TimeUnit → Bytes
 part_bytes style n u = decimal n ++ encode_utf8_all (name_part style (n == 1) u)
 
--- the bytes, followed by one more part unless the part's count is 0
 abbrev pub with_part : Style → Bytes → TimeUnit → ℕ → Bytes
 with_part style bytes u n = if n == 0 then bytes else with_gap style bytes ++ part_bytes style n u
 
--- the bytes, followed by a part for each of these units and its count
 abbrev pub with_counts : Style → Bytes → List TimeUnit → List ℕ → Bytes
 with_counts style bytes (u ∷ us) (n ∷ counts) = with_counts style (with_part style bytes u n) us counts
 with_counts style bytes _ _ = bytes
 
--- the bytes, followed by a duration in these units, in at most `most` parts
 abbrev pub with_parts : Style → Bytes → List TimeUnit → ℕ → ℕ → Bytes
 with_parts style bytes us most nanos = with_counts style bytes us (counts_within (map nanos_of us) most nanos)
 
--- the bytes, followed by these parts
 abbrev pub with_each : Style → Bytes → List (TimeUnit × ℕ) → Bytes
 with_each style bytes [] = bytes
 with_each style bytes ((u, n) ∷ parts) = with_each style (with_part style bytes u n) parts

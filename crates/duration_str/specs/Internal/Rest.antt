@@ -20,20 +20,16 @@ use Rattle.duration_str.specs.Iteration.{source, cut_place, tokens_left}
 use Rattle.duration_str.specs.Internal.Steps.{IsAhead, rules_at}
 use Rattle.duration_str.specs.declared.token.TokenStart.TheVariants.{Number}
 
--- ---- What is left, and what is read next
-
 -- The terminals that are left, each with the byte at which it starts, and the byte at which the
 -- text ends.
 pub data Rest : Type 0 where
   terminal_at : ℕ → Terminal → Rest → Rest
   end_at : ℕ → Rest
 
--- what is left of a text of `len` bytes, given the tokens that are left
 abbrev pub rest_from : Rules → ℕ → List Token → Rest
 rest_from r len [] = end_at len
 rest_from r len (p ∷ tokens) = terminal_at p.start (terminal_of r p.characters) (rest_from r len tokens)
 
--- what is left to read
 abbrev pub rest_of : Rules → Tokens → Rest
 rest_of r s = rest_from (rules_at r s) (length (source s)) (tokens_left s)
 
@@ -44,21 +40,17 @@ start_left n (end_at at) = at
 start_left zero (terminal_at at terminal rest) = at
 start_left (suc n) (terminal_at at terminal rest) = start_left n rest
 
--- the terminals of the rest, without their places
 abbrev pub terminals_left : Rest → List Terminal
 terminals_left (terminal_at at terminal rest) = terminal ∷ terminals_left rest
 terminals_left (end_at at) = []
 
--- the syntax fault at the start of the rest, where these kinds could stand
 abbrev pub misplacement : Expected → Rest → Cause
 misplacement expected rest = Syntax (start_left 0 rest) expected
 
--- what was read, and the rest after it
 pub record ReadItem (A : Type 0) : Type 0 where
   pub item : A
   pub rest : Rest
 
--- a result together with the rest after it, or the result's fault
 abbrev pub leaving : {A : Type 0} → Rest → Result A Cause → Result (ReadItem A) Cause
 leaving rest (Ok item) = Ok (record { item = item; rest = rest })
 leaving rest (Err cause) = Err cause
@@ -89,17 +81,11 @@ operator_read r (terminal_at at (operator op) rest) =
 operator_read r (end_at at) = leaving (end_at at) (Ok None)
 operator_read r rest = Err (misplacement (expected_after_unit r) rest)
 
--- ---- Places
-
--- The fault has no place, or one at or before byte `at`.
 abbrev pub IsPlacedUpTo : ℕ → Cause → Type 0
 IsPlacedUpTo at cause = ForSome (place_of cause) (λ place. place ≤ at)
 
--- The fault has no place.
 abbrev pub IsPlaceless : Cause → Type 0
 IsPlaceless cause = place_of cause ≡ None
-
--- ---- The answer
 
 -- the answer to a text when this rest is left and must start with a number
 abbrev pub answer_left : Rules → Rest → Result ℕ Cause
@@ -108,47 +94,39 @@ answer_left r rest =
     let n = front_of r terminals in
     answer_at r (start_left n rest) (take n terminals) (drop n terminals)
 
--- ---- Values, or the first fault
-
--- the combination of two values if it is below 2^64, and otherwise an overflow. If the second value
--- is a fault, it is that fault
 abbrev pub checked_combination : CondUnit → ℕ → Result ℕ Cause → Result ℕ Cause
 checked_combination op x (Ok y) = ok_or (u64_from (combination op x y)) (Overflow None)
 checked_combination op x (Err cause) = Err cause
 
 -- the total of the later terms after one more term, or the fault of that step. The first argument
--- has the operator and the total of those so far, and `next` is the operator before the new term
+-- has the operator and the total of those so far, if there are any, and `next` is the operator
+-- before the new term
 abbrev pub total_with : Option (CondUnit × ℕ) → CondUnit → Option ℕ → ℕ → Result ℕ Cause
 total_with None next n length = checked_term None n length
 total_with (Some (op, total)) next n length =
     fault_or (unless (is_same_operator op next) (Mixed op next))
     (checked_combination op total (checked_term None n length))
 
--- the later terms or the fault of their total, given the operator between the terms, and this total
--- or its fault
 abbrev pub by_operator : CondUnit → Result ℕ Cause → Result (Option (CondUnit × ℕ)) Cause
 by_operator op (Ok total) = Ok (Some (op, total))
 by_operator op (Err cause) = Err cause
 
--- the later terms after one more term, or their first fault
 abbrev pub with_term : Result (Option (CondUnit × ℕ)) Cause → CondUnit → Option ℕ → ℕ
     → Result (Option (CondUnit × ℕ)) Cause
 with_term (Ok later) next n length = by_operator next (total_with later next n length)
 with_term (Err cause) next n length = Err cause
-
--- ---- Steps of the reader
 
 -- The result is what `f` reads from the rest, and the rest after it is left.
 abbrev pub ReadsItem : {A : Type 0} → Rules → (Rest → Result (ReadItem A) Cause) → Tokens → Tokens → Result A Cause
     → Type 0
 ReadsItem r f old new result = leaving (rest_of r new) result ≡ f (rest_of r old)
 
--- The source stays the same, and the place of a fault is not beyond the place reached.
+-- The source stays the same, and a fault has no place after the place reached.
 pub record CutsOn {A : Type 0} (old new : Tokens) (result : Result A Cause) : Type 0 where
   pub same_source : source new ≡ source old
   pub reached : IfErr result (IsPlacedUpTo (cut_place new))
 
--- After an operator a number is ahead; without an operator the whole source is cut.
+-- If there is an operator, a number is ahead. If there is none, the whole source is cut.
 abbrev pub IsFollowed : Tokens → Option CondUnit → Type 0
 IsFollowed s None = cut_place s ≡ length (source s)
 IsFollowed s (Some op) = IsAhead s (Some Number)

@@ -14,16 +14,13 @@ use Rattle.duration_str.specs.Internal.Positions.{Between}
 
 -- ---- Sorts
 
--- the sort of an operator, or `Other` if there is none
 abbrev pub sign_sort : Option CondUnit → TokenStart
 sign_sort (Some op) = sorts.Operator op
 sign_sort None = sorts.Other
 
--- the sort of a token that begins with this character
 abbrev pub sort_at : Options → ℕ → TokenStart
 sort_at o c = if is_digit c then sorts.Number else if is_unit_letter o c then sorts.Word else sign_sort (operator_of c)
 
--- the sort of a token that stands for this terminal
 abbrev pub sort_of : Terminal → TokenStart
 sort_of (number n) = sorts.Number
 sort_of (word u) = sorts.Word
@@ -32,7 +29,6 @@ sort_of other = sorts.Other
 
 -- ---- What is ahead
 
--- The character ahead starts a token of this sort.
 pub record StartsToken (s : Tokens) (sort : TokenStart) : Type 0 where
   pub character : ℕ
   pub is_head : s.head ≡ Some character
@@ -51,12 +47,10 @@ pub record LooksAhead (old new : Tokens) (sort : Option TokenStart) : Type 0 whe
   pub same_left : tokens_left new ≡ tokens_left old
   pub ahead : IsAhead new sort
 
--- whether a number is ahead
 abbrev pub is_number : Option TokenStart → Bool
 is_number (Some sorts.Number) = true
 is_number _ = false
 
--- Blanks are skipped, and the answer is whether a number is ahead.
 pub record LooksForNumber (old new : Tokens) (answer : Bool) : Type 0 where
   pub sort : Option TokenStart
   pub look : LooksAhead old new sort
@@ -70,7 +64,6 @@ IsSign _ = ⊤
 
 -- ---- What is taken
 
--- these rules with the options under which the text is cut
 abbrev pub rules_at : Rules → Tokens → Rules
 rules_at r s = record r { options = options_of s }
 
@@ -91,7 +84,6 @@ pub record TakesNumber (old new : Tokens) (value : Option ℕ) : Type 0 where
   pub token : (r : Rules) → TakesToken r old new (number n)
   pub is_value : value ≡ u64_from n
 
--- The first token that is left is taken. It stands for a terminal for which `Has` holds.
 pub record TakesTokenWith (r : Rules) (old new : Tokens) (Has : Terminal → Type 0) : Type 0 where
   pub terminal : Terminal
   pub token : TakesToken r old new terminal

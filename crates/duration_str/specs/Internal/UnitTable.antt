@@ -26,28 +26,22 @@ printed_row u = record {
   width = length (encode_utf8_all (row_of u).printed);
 }
 
--- the units of a set that is given by its bits
 abbrev pub units_of : ℕ → List TimeUnit
 units_of bits = chosen (record { bits = bits }) units
 
--- a table of units
 abbrev pub Table : Type 0
 Table = TimeUnit → UnitRow
 
--- the table that the code names so
 abbrev pub table_of : UnitTable → Table
 table_of Own = row_of
 table_of Humantime = humantime_row_of
 
--- the rules that the reader's settings mean
 abbrev pub meaning_of : Settings → Rules
 meaning_of s = record { table = table_of s.table; default_unit = s.default_unit; options = s.options }
 
--- all names of a unit in a table
 abbrev pub all_names_in : Table → TimeUnit → List Characters
 all_names_in table u = (table u).names ++ (table u).chinese
 
--- all names of a unit
 abbrev pub all_names : TimeUnit → List Characters
 all_names u = all_names_in row_of u
 
@@ -60,7 +54,6 @@ packs_to n name = packed_number (record off { lowercase = true }) name == n
 unfoldable pub unit_of_packed : Table → ℕ → Option TimeUnit
 unit_of_packed table n = find (λ u. list_any (packs_to n) (all_names_in table u)) units
 
--- the bytes without the white space at their end
 abbrev pub trimmed : Bytes → Bytes
 trimmed bytes = take (length bytes - suffix_len is_ascii_whitespace bytes) bytes
 
@@ -68,7 +61,7 @@ trimmed bytes = take (length bytes - suffix_len is_ascii_whitespace bytes) bytes
 abbrev pub is_megabyte : Bytes → Bool
 is_megabyte word = is_among small_words (map to_ascii_lowercase word) && not (is_among small_words word)
 
--- whether a word is that in a row of the table, without the spaces at the row's end, if ASCII
--- capitals are read as small letters
+-- whether a word is `near` without the spaces at its end, if ASCII capitals are read as small
+-- letters
 abbrev pub is_near : Bytes → Bytes → Bool
 is_near near word = bytes_eq (map to_ascii_lowercase word) (map to_ascii_lowercase (trimmed near))
