@@ -61,7 +61,7 @@ def options_told():
 
 
 def in_manual(text):
-    """A text in the notation of mdoc, in which each macro stands at the start of a line."""
+    """A text in the notation of mdoc."""
     return re.sub(" ?`(.*?)` ?", r"\n.Ql \1\n", text).strip()
 
 

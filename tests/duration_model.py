@@ -42,7 +42,7 @@ VALUES = (
         [""],
     )
 )
-# The options of commands with `--pattern`
+# A command with `--pattern` can have these options.
 READING = {"pattern", "lowercase", "cn-unit", "require-unit", "from", "zero-terminated"}
 WRONG_WORDS = """--to= --to=mins --to=年 --from=secs --largest=mo --smallest=5s --style=Long --round=half --decimals=10
 --units= --units=y, --units=y,mins --units=年 --parts=0 --parts=256 --parts=two --field=0

@@ -1,5 +1,5 @@
 """Makes files of lists for several languages, such as the units, the styles, and the regular
-expressions. tests/repository compares the texts with the files, and writes them.
+expressions. tests/repository compares them with what is there, and writes them.
 """
 import json
 import pathlib

@@ -235,7 +235,7 @@ PACKAGES = (
     "shell/README.md",
     "web/page.html",
 )
-# Files that don't have that sentence.
+# Further files, in which that sentence must not stand.
 OTHERS = ("docs/GRAMMAR.md", "docs/MIGRATING.md", "docs/SPEED.md")
 
 
@@ -348,7 +348,7 @@ def misspelt():
         print("repository: spelling skipped, codespell is missing (make setup)")
         return []
     files = tracked_files("*.md", "program/*.in", "c/*.in", "c/include/*.h")
-    # A word of Rust, and two requests of manual pages, which codespell takes for mistakes.
+    # Codespell takes a word of Rust and two requests of manual pages for mistakes.
     words = ["codespell", "--ignore-words-list", "crate,nd,fo", *files]
     return subprocess.run(words, cwd=ROOT, capture_output=True, text=True).stdout.splitlines()
 

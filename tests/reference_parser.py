@@ -428,8 +428,8 @@ def standing_fault(front, default_unit):
 
 
 def answer_of(text, options, default_unit=SECOND):
-    """`lowercase` and `cn_unit` are turned off for a text without capitals or Chinese letters, so
-    that fewer answers are computed.
+    """Without capitals `lowercase` is turned off, and without Chinese letters `cn_unit`, so that
+    fewer answers are computed.
     """
     folds = options.lowercase and text != text.translate(FOLDED)
     knows = options.cn_unit and any(character in CHINESE for character in text)
@@ -582,7 +582,7 @@ def message(text, answer):
 
 # ---- A fault in one line
 
-# The words that people write for a unit, by the name to write instead. Those of SMALL_WORDS count
+# Words that people write for a unit, by the name to write instead. Those of SMALL_WORDS count
 # only in small letters. tests/repository takes the last row for that of `us`.
 SMALL_WORDS = {"mon": "mo mos"}
 NEAR_WORDS = {
