@@ -1,8 +1,10 @@
-"""Makes laws of the library for fewer rules. While tests/edits judges wrong bodies of `uses`, they
-can call the laws of `crate::by_own_table` and `crate::by_second`. A caller in `uses` that needs a
-law in general must not be proved with such a law.
+"""The laws of the library for fewer rules. A caller in `uses` that needs a law in general must not
+be proved with such a law. While tests/edits judges wrong bodies of `uses`, they can call the laws
+of `crate::by_own_table` and `crate::by_second`. These hold for the rules of the library's own table
+of units, and for those of them whose default unit is the second.
 
-The law `never_more` stays as it is, since it speaks of a default unit only within another record.
+Each clause of a law that begins with its rules or its default unit is weakened. `never_more` stays,
+since it speaks of a default unit only within another record.
 """
 import re
 
@@ -46,6 +48,7 @@ def weaken(crates):
 
 
 def proof_of(module, law, contract, weaker):
+    """The proof of a weaker law: each of its clauses follows from the same clause of the law."""
     proof = f"use Rattle.uses.proofs.{module}.{law}.Goals as goal\n"
     for label, name in re.findall(r"ensures (\w*) ?\{ (\w+) \}", contract):
         goal = f"returns-clause-{label}" if label else "returns"
