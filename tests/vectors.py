@@ -52,7 +52,7 @@ def in_unit(name):
 
 
 def refusals():
-    """The rows of refusals, each with what the reference parser has instead, and with its line."""
+    """The rows of refusals, each with what the reference parser has for it, and with its line."""
     rows = tables()
     for row in rows["refused"]:
         text, names, *_, line, spaces = row

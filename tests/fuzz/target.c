@@ -184,7 +184,7 @@ static void check_plain(struct text text, struct duration_str_answer answer) {
 }
 
 #ifdef WITH_LIBFUZZER
-/* The library is built without libFuzzer's counters, so these tell it which answers are new. */
+/* These tell libFuzzer which answers are new, since the library is built without its counters. */
 __attribute__((section("__libfuzzer_extra_counters"))) static uint8_t counters[1 << 12];
 
 static void count(struct duration_str_answer answer) {
