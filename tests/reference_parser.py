@@ -6,6 +6,7 @@ into a sentence, and fails if it finds two. tests/compare compares the packages 
 import fractions
 import functools
 import itertools
+import pathlib
 import re
 import typing
 import unicodedata
@@ -601,13 +602,20 @@ NEAR_WORDS = {
 NAMES = "y, q, mon, w, d, h, min, s, ms, us or ns"
 QUOTED = 40
 
-# Characters that a quote escapes, such as control characters.
-HIDDEN = re.compile(
-    "[\0-\x1f\x7f-\xa0\xad\u034f\u061c\u115f\u1160\u1680\u17b4\u17b5\u180b-\u180f\u2000-\u200f\u2028-\u202f\u205f-\u206f"
-    "\u2800\u3000\u3164\ufe00-\ufe0f\ufeff\uffa0\ufff0-\ufffb\U0001bca0-\U0001bca3\U0001d173-\U0001d17a\U000e0000-\U000e0fff]"
-)
-# Characters beyond ASCII that are not taken for letters, such as punctuation and arrows.
-SIGNS = re.compile("[\xa1-\xb4\xb6-\xbf\xd7\xf7\u2010-\u2bff\u3001-\u303f\uff00-\uff20]")
+
+def listed(words):
+    """A class of the characters that GRAMMAR lists as `U+..` in the paragraph with these words."""
+    told = GRAMMAR.read_text(encoding="utf-8").split(words)[1].split("\n\n")[0]
+    pairs = re.findall(r"U\+(\w+)(?:-(\w+))?", told)
+    ends = ((chr(int(first, 16)), chr(int(last or first, 16))) for first, last in pairs)
+    return "[" + "".join(f"{first}-{last}" for first, last in ends) + "]"
+
+
+GRAMMAR = pathlib.Path(__file__).resolve().parent.parent / "docs/GRAMMAR.md"
+# Characters that a quote escapes
+HIDDEN = re.compile(r"[\0-\x1f\x7f-\x9f]|" + listed("Of the characters that can't be seen"))
+# Characters beyond ASCII that are not taken for letters, such as punctuation and arrows
+SIGNS = re.compile("[×÷]|(?!µ)" + listed("nor are these signs"))
 ESCAPES = {'"': '\\"', "\\": "\\\\", "\t": "\\t", "\n": "\\n", "\r": "\\r"}
 
 # The help for a text that matches a pattern at the place.
