@@ -216,6 +216,28 @@ def other_printed():
             yield f"{name}: {length} prints as `{text}`, and not as {told}"
 
 
+# Texts that end as the first column of GRAMMAR's table of kinds says, each with its options
+ENDS = {
+    "the start": ("", []),
+    "a number": ("1", []),
+    "a number, without a default unit": ("1", ["require_unit"]),
+    "a unit": ("1m", []),
+    "an operator": ("1+", []),
+}
+
+
+def other_kinds():
+    for row in rows_of_tables("docs/GRAMMAR.md"):
+        for column, names in ("can follow", []), ("can follow with `no_calc`", ["no_calc"]):
+            told = row.get(column, "(")
+            if told.startswith("("):
+                continue
+            text, given = ENDS[row["after"]]
+            kinds = reference_parser.Choice.named(given + names).answer(f"{text}-").expected
+            if {each.split()[1] for each in told.split(", ")} != set(kinds):
+                yield f"docs/GRAMMAR.md: after {row['after']} {column}: {', '.join(kinds)}"
+
+
 # ---- What is proved
 
 PROMISES = "docs/PROMISES.md"
@@ -386,6 +408,7 @@ def problems():
         other_helps,
         other_answers,
         other_printed,
+        other_kinds,
         wrong_names,
         misspelt,
         other_pictures,
