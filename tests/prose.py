@@ -216,6 +216,15 @@ def other_printed():
             yield f"{name}: {length} prints as `{text}`, and not as {told}"
 
 
+def untested_examples():
+    code = read("rust/tests/printers.rs")
+    for row in rows_of_tables("docs/MIGRATING.md"):
+        if function := re.fullmatch("function `(.*)`", row.get("how to print it here", "")):
+            for wanted in (f"fn {function[1]}(", *re.findall("`(.*?)`", row["prints"])):
+                if f"\n{wanted}" not in code and f'"{wanted}"' not in code:
+                    yield f"docs/MIGRATING.md: rust/tests/printers.rs does not have {wanted}"
+
+
 # Texts that end as the first column of GRAMMAR's table of kinds says, each with its options
 ENDS = {
     "the start": ("", []),
@@ -409,6 +418,7 @@ def problems():
         other_answers,
         other_printed,
         other_kinds,
+        untested_examples,
         wrong_names,
         misspelt,
         other_pictures,
