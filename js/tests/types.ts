@@ -1,5 +1,4 @@
-// Tests the types of the package by the compiler alone. Code that must be wrong stands below a line
-// that expects an error.
+// Tests the types of the package by the compiler alone.
 import {
     type Breakdown, breakdown, DurationError, type Expected, type Fault, formatNs, format,
     type Format, type Options, parseNs, parse, type Part, type PartFormat, type Parts, parts,
@@ -24,7 +23,6 @@ const timeouts: (number | bigint | undefined)[] = [
     parse(1500, { defaultUnit: "seconds", noCalc: false }),
 ];
 void [withoutFactors, inSeconds];
-/** Options of which some may be left out */
 function chosen(unit: Unit | undefined, isRequired: boolean | undefined): Options[] {
     return [{ defaultUnit: unit }, { requireUnit: isRequired }, { noCalc: isRequired }];
 }
