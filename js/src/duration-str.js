@@ -190,7 +190,7 @@ function breakDown(value, options, all, longest) {
     // `breakdown` counts all units, and `parts` all except the quarter.
     if (named & ~all) throw new RangeError("parts has no quarters");
     const most = countOf(chosen.parts);
-    // At least one part is allowed, and each count is below 2^64, so the call refuses nothing.
+    // The call refuses nothing, since the duration is below 2^64 ns.
     calls.duration_str_breakdown(low, high, nanos, left, most, WRITTEN, ANSWER);
     return left;
 }

@@ -240,7 +240,7 @@ test("prints milliseconds", () => {
             assert.deepEqual(parts(whole + fraction), parts(nanoseconds));
         }
     }
-    // The types say that `format` prints each nanosecond below 2^33 ms.
+    // index.d.ts says that `format` prints every nanosecond below 2^33 ms.
     for (const [text, isSame] of [["8589934591999999ns", true], ["8589934592000001ns", false]]) {
         assert.equal(format(parse(text)) === formatNs(parseNs(text)), isSame);
     }
