@@ -26,7 +26,7 @@ function rustReading(text, { requireUnit, defaultUnit, ...options }) {
     const isPlain = names.length === 0;
     if (requireUnit && isPlain) return `parse_require_unit(${literal})`;
     if (defaultUnit && isPlain) return `parse_in(${literal}, ${rustUnit(defaultUnit)})`;
-    // Only `parse_in` turns `no_calc` on by itself.
+    // `parse_in` turns `no_calc` on, but `parse_with_default_unit` doesn't.
     if (defaultUnit) names.unshift("noCalc");
     const fields = names.map((name) => `${idOf(name)}: true, `).join("");
     const taken = fields ? `Options { ${fields}..Options::off() }` : "Options::off()";
@@ -57,7 +57,7 @@ function keywords(values) {
     return words.join("");
 }
 
-/** A `timedelta` counts microseconds, so a text with nanoseconds is read by `parse_ns`. */
+/** A `timedelta` counts microseconds, so `parse_ns` reads what is finer. */
 function python(text, options, format) {
     const isWhole = parseNs(text, options) % 1_000n === 0n;
     const [name, call] = isWhole ? ["duration", "parse"] : ["nanoseconds", "parse_ns"];

@@ -1,18 +1,15 @@
-// Converts texts in other notations, with their exact values. A notation is converted if all of the
-// following is true:
+// Converts texts in other notations. These are the rules for a notation that is added:
 //
 // - People write durations like this: another program reads or prints it, a standard has it, or it
 //   is ordinary prose.
-// - It is recognised by the whole text, and not by a part of it.
-// - The text itself says what is meant. `10' 30"` is minutes and seconds; `5'` may be feet, so it is
-//   left out. No calendar is needed: `P1M` is left out, since months vary.
-// - If people use a text with two meanings, such as `1:30`, both are offered. A text with more
-//   meanings is left out.
+// - The whole text is in this notation, and not only a part of it.
+// - The text itself says what is meant. `10' 30"` is minutes and seconds; `5'` may be feet, so it
+//   is left out. No calendar is needed: `P1M` is left out, since months vary.
+// - If people use a text with two meanings, such as `1:30`, both are offered.
 // - texts.json has texts in this notation with their values, and similar texts that mean something
 //   else.
 //
-// If people type a notation that is left out, it should have a row in REFUSED, with a sentence that
-// says why.
+// A notation that is left out should have a row in REFUSED if people type it.
 import { tryParseNs } from "../js/dist/duration-str.js";
 import { defaultUnitOf, terms, UNITS, unitOf } from "./units.js";
 import { say } from "./sentences.js";
@@ -107,8 +104,7 @@ function nanosOf([digits, power, divisor = 1n], { nanos }) {
     return above % below === 0n ? above / below : null;
 }
 
-/** The reading with this value. Its text counts this unit, and those smaller units that are a day
- * or shorter. */
+/** The text counts this unit, and those smaller units that are a day or shorter. */
 function reading(nanos, longest) {
     let rest = nanos ?? 0n;
     const parts = UNITS.slice(UNITS.indexOf(DAY)).filter((unit) => unit.nanos < longest.nanos);
@@ -145,7 +141,7 @@ const LED = new RegExp(String.raw`^(?:${KEY}|(?<word>(?:${LEADING})(?=[=\s])|\+)
     + String.raw`(?<words>\S.*?)\s*[,;]?$`, "is");
 const ENCLOSED = /^(?:"(.+)"|'(.+)'|`(.+)`|“(.+)”|‘(.+)’|«(.+)»|\((.+)\)|\[(.+)\]|\{(.+)\})$/s;
 
-/** This bounds a recursion. */
+/** This bounds a recursion, which takes off one quote, bracket or word at a time. */
 const MOST_AROUND = 4;
 
 function inside(text, options, around) {

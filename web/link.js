@@ -47,7 +47,7 @@ function isChoice(id, value) {
     return Array.from(lists[id].options, (one) => one.value).includes(value);
 }
 
-/** Returns whether all its units exist, and one or more are left to print. */
+/** Returns whether all names are units, and one or more units are left to print. */
 function takeUnits(id, names) {
     const places = names.map((name) => printedNames.indexOf(name));
     if (places.includes(-1)) return false;

@@ -75,8 +75,8 @@ export function decode(bytes) {
     return decoder.decode(bytes);
 }
 
-/** `String.fromCharCode` also takes an array of codes, by `apply`, but is slower then. So a text is
- * cut from that of 9, 16 or 28 codes. */
+/** `String.fromCharCode` also takes an array of codes, by `apply`, but is slower then. So it gets
+ * 9, 16 or 28 codes, and the text is cut. */
 function textOf(c, length) {
     let whole;
     if (length <= 9) {

@@ -44,8 +44,8 @@ function hideLong(cause, name) {
     Object.defineProperty(cause, name, { get: () => text });
 }
 
-/** The fault's fields are in `cause`, since a structured clone of an error can keep that, but no
- * fields of this class. */
+/** Except the message, the fault's fields are in `cause`, since a structured clone of an error can
+ * keep that, but no fields of this class. */
 export class DurationError extends Error {
     #report;
 

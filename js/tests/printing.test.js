@@ -115,7 +115,7 @@ test("refuses formats that there are not", () => {
         [{ style: "wide" }, new RangeError(`${style} wide`)],
         [{ style: 1 }, new TypeError("the option style must be a string, not number")],
         [{ parts: "2" }, new TypeError("the option parts must be a number, not string")],
-        // Names that would make another text than one term with this unit
+        // None of these is a name of a unit.
         ...["x", "", "d 6d", "1d", " d", "d*1d", "分", "__proto__"].map(
             (name) => [{ units: ["d", name] }, noUnit(name)],
         ),

@@ -386,7 +386,7 @@ def try_code(page):
             "c": "sizeof text - 1, DURATION_STR_OPTION_REQUIRE_UNIT, &answer);",
             "shell": "duration --require-unit -- '1h 30m'",
         },
-        # No program has both options.
+        # Neither `durstr` nor `duration` has both options.
         "1h%2030m&no_calc&require_unit": {"shell": None},
         "1h%2030m&cn_unit&require_unit": {
             "rust": 'parse_with_default_unit("1h 30m", Options { cn_unit: true, ..Options::off() }, None)?;',
