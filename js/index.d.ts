@@ -364,6 +364,8 @@ export function formatNs(nanoseconds: bigint, format?: Format): string;
  * The parts are those that the printed text has, so a duration of 0 has none. The counts, each
  * times the length of its unit, and the rest are together the duration.
  *
+ * A number with a fraction is rounded first, as by `format`.
+ *
  * ```js
  * const { parts, restNs } = breakdown(193_029, { parts: 2 });
  * console.log(parts); // [ { count: 3n, unit: "min" }, { count: 13n, unit: "s" } ]

@@ -12,7 +12,7 @@ const CALC = { noCalc: false };
 const CAPITALS = { lowercase: false };
 const CHINESE = { cnUnit: true };
 
-/** Those with fewer changes come first. */
+/** Options with fewer changes come first. */
 function optionsToTry(options, text) {
     const both = { ...CALC, ...CAPITALS };
     const changes = [{}, CALC, CAPITALS, CHINESE, both];

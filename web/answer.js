@@ -10,7 +10,7 @@ import { AROUND, lineOf } from "./sentences.js";
 import { LONG } from "./units.js";
 import { counts, decimal, groupDigits, iso, seconds, termRows } from "./values.js";
 
-/** The texts that the copy buttons copy, by the names of the elements that show them. */
+/** The texts that the copy buttons copy, by the ids of elements. */
 export const copied = {};
 
 function show(id, words, shown = words) {

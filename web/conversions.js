@@ -65,8 +65,8 @@ function isOneEdit(one, other) {
     return less === otherLess || less === otherRest || rest === otherLess || swapped === otherRest;
 }
 
-/** The name must begin with the same letter and be one edit away, and no other unit may have such a
- * name. */
+/** The name must begin with the same letter as the word and be one edit away from it. No other unit
+ * may have such a name. */
 function correction(word) {
     if (word.length < 4) return null;
     const isNear = (name) => name[0] === word[0] && isOneEdit(name, word);

@@ -117,7 +117,7 @@ function showLanguages() {
     element("codes").replaceChildren(...Object.entries(LANGUAGES).map(placeForCode));
 }
 
-/** Digits are copied without groups. What can't be copied is selected. */
+/** Digits are copied without groups. A text that can't be copied is selected. */
 async function copy(id) {
     if (id === "link-note") copied[id] = writeLink();
     let said = `Copied: ${copied[id].split("\n", 1)}`;

@@ -7,8 +7,7 @@ const LONE_SURROGATE = /\p{Surrogate}/gu;
 
 /** The size of the buffer that the module writes to. Everything that it writes fits. */
 const WRITTEN_SIZE = 867;
-/** Copying a short text takes less time than calling an encoder or a decoder. A text to read is
- * short up to this many UTF-16 units, and a written text up to this many bytes. */
+/** A text to read is short up to this many UTF-16 units, a written text up to this many bytes. */
 const SHORT_TEXT = 40;
 const SHORT_WRITTEN = 28;
 
