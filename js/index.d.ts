@@ -65,7 +65,7 @@ export type NumberOptions = CountingOptions & { defaultUnit: Unit } | SecondsOpt
 
 /**
  * The names of the units, with a line for each unit, the longest first. If all options are off, a
- * text may use these names, also with ASCII capitals. So may code without type checks.
+ * text may have these names, also in ASCII capitals. Code without type checks may use capitals too.
  */
 // Made by tests/repository --write.
 export type Unit =

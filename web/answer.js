@@ -1,4 +1,3 @@
-// Shows the answer below the text.
 import { formatNs, tryParseNs } from "../js/dist/duration-str.js";
 import { markedParts, notesOn, offersFor, sentence } from "./advice.js";
 import {

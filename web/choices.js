@@ -1,4 +1,3 @@
-// The choices in the page: the options, and how a duration is printed.
 import { element, make } from "./elements.js";
 import { UNITS } from "./units.js";
 

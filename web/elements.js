@@ -15,7 +15,7 @@ export function make(name, ...content) {
     return one;
 }
 
-/** `bdi` keeps the direction of the words from changing what is around them. */
+/** `bdi` keeps a quoted text from turning the direction of what is around it. */
 const quotation = (words) => make("code", make("bdi", shorten(words)));
 
 export function parts(sentence) {

@@ -17,7 +17,7 @@ const OPTIONS = {
 const ASCII = Array.from({ length: 128 }, (_, code) => String.fromCharCode(code));
 const STRANGE = [...ASCII, ..."\x85\xa0\u2028\ufeff٣０μſK", "\ud800", "\u{1f600}"];
 
-/** HTML's `pattern` has the flag `v` and these anchors. */
+/** HTML compiles a `pattern` with the flag `v` and these anchors. */
 function* expressions(source) {
     yield new RegExp(source);
     yield new RegExp(source, "u");

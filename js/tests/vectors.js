@@ -4,9 +4,8 @@ export const VECTORS = JSON.parse(
     readFileSync(new URL("../../rust/vectors.json", import.meta.url), "utf8"),
 );
 
-/** Names are as in vectors.json, such as `no_calc` or `default_unit=ms`. The other options are
- * false. With a default unit they are left out, since beside most of them `noCalc` can't be false.
- * */
+/** Names are as in vectors.json, such as `no_calc` or `default_unit=ms`. With a default unit, the
+ * other options are left out, since beside most units `noCalc` can't be false. */
 export function optionsOf(names) {
     const camel = (name) => name.replace(/_(.)/, (_, letter) => letter.toUpperCase());
     const given = names.map((name) => name.split("="));
