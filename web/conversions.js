@@ -343,8 +343,7 @@ function anyNumberOf(fraction, numeral, words, name) {
 
 function termOf(fraction, numeral, words, name) {
     const number = anyNumberOf(fraction, numeral, words, name);
-    // Before a foreign word, the language decides whether a comma groups thousands or begins a
-    // decimal.
+    // Before a foreign word, the language decides what groups digits and what begins a decimal.
     if (number?.counts.length === 2 && FOREIGN.has(name.toLowerCase())) return null;
     if (number && /^fortnights?$/i.test(name)) {
         const weeks = number.counts.map(([digits, ...rest]) => [2n * digits, ...rest]);
