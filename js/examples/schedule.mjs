@@ -9,7 +9,7 @@ export function schedule({ every, until }, job, now = new Date()) {
     const period = setting("every", () => parse(every));
     const end = setting("until", () => new Date(now.getTime() + parse(until)));
     // A timer would take a longer period as 1 ms.
-    if (period < 1 || period >= 2 ** 31) throw new RangeError("every: from 1 ms to 24 days");
+    if (period < 1 || period > 2 ** 31 - 1) throw new RangeError("every: from 1 ms to 24 days");
     const timer = setInterval(() => (new Date() < end ? job() : clearInterval(timer)), period);
     return { timer, period, end };
 }
