@@ -5,7 +5,6 @@ use serde_json::{Value, from_value, json};
 use std::fmt::Debug;
 use std::time::Duration;
 
-/// A struct with a required and an optional duration, which `serde_json` reads.
 #[derive(Debug, Deserialize, PartialEq)]
 #[serde(bound = "T: DeserializeDuration<'de>, Option<T>: DeserializeDuration<'de>")]
 struct Settings<T> {
@@ -15,8 +14,6 @@ struct Settings<T> {
     keep_alive: Option<T>,
 }
 
-/// Reads settings from this value and from its text, checks that the answers agree, and returns
-/// that for the value.
 fn settings<T>(value: Value) -> Result<Settings<T>, String>
 where
     T: for<'de> DeserializeDuration<'de> + Debug + PartialEq,
@@ -37,8 +34,7 @@ where
     of_value
 }
 
-/// Checks what each row is read as, for a type of durations. `length` makes a duration of this type
-/// from seconds.
+/// `length` makes a duration from seconds.
 fn reads_settings<T>(length: impl Fn(u64) -> T)
 where
     T: for<'de> DeserializeDuration<'de> + Debug + PartialEq,
@@ -117,8 +113,7 @@ fn reads_durations_of_time() {
     reads_settings(|secs| time::Duration::seconds(secs as i64));
 }
 
-/// A struct within another. For it serde keeps the values first, and passes them on by other calls
-/// than a format does.
+/// With `flatten`, serde keeps the values until the inner struct reads them.
 #[derive(Debug, Deserialize, PartialEq)]
 struct Job {
     name: String,

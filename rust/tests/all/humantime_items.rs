@@ -7,7 +7,6 @@ use std::collections::HashSet;
 use std::error::Error;
 use std::time::Duration as StdDuration;
 
-/// Checks that an error can be shared between threads.
 fn is_shared(_: &(dyn Error + Send + Sync + 'static)) {}
 
 #[test]
