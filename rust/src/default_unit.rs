@@ -69,8 +69,7 @@ pub fn parse_in(input: &str, default_unit: TimeUnit) -> Result<Duration, Duratio
         .map_err(Fault::into_owned)
 }
 
-/// The options under which texts are read in a default unit that is named. With any other unit than
-/// seconds `+` and `*` are not read.
+/// Calls that name a default unit read under these options.
 pub(crate) fn naming(default_unit: TimeUnit) -> Options {
     Options {
         no_calc: default_unit != TimeUnit::Second,

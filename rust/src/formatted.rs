@@ -1,4 +1,3 @@
-//! A duration that is printed in units, parts and a style that you choose.
 use crate::human_duration::HumanDuration;
 use alloc::string::String;
 use core::fmt::{self, Write};
@@ -143,7 +142,6 @@ impl FormattedDuration {
         Breakdown::new(&self.magnitude, self.format)
     }
 
-    /// The sign, which is `-` or empty, and the text of the magnitude.
     #[inline(always)]
     fn parts_of_text<'b>(
         &self,
@@ -156,8 +154,6 @@ impl FormattedDuration {
     }
 }
 
-/// The calls that choose how a duration is printed. `FormattedDuration` and [`HumanDuration`] have
-/// them, and each call returns a `FormattedDuration`.
 macro_rules! chooses {
     ($($(#[$doc:meta])* $name:ident: $Value:ty,)+) => {
         impl FormattedDuration {$(
@@ -268,7 +264,6 @@ impl fmt::Display for FormattedDuration {
     }
 }
 
-/// Writes the parts of a text, and pads them to the formatter's width.
 #[inline]
 pub(crate) fn pad(f: &mut fmt::Formatter<'_>, parts: &[&str]) -> fmt::Result {
     let count: usize = parts.iter().map(|part| part.chars().count()).sum();
