@@ -8,8 +8,8 @@
 # make setup           installs what most tests need, on Debian, as root or by sudo without a
 #                      password; with all=yes also the many packages that few tests need
 # make prove           proves everything, by the Rattle toolchain's command rt
-# make check           proves everything, if there is rt, and tests everything that is built; this
-#                      can take over an hour
+# make check           proves everything, if there is rt, and runs the tests; this can take over an
+#                      hour
 # make quick           runs the tests that take seconds and the checks of what has changed
 # make format          lays out Rust, Python, C, Go and shell scripts, by the usual tool of each
 #                      language
@@ -100,8 +100,8 @@ library:
 	echo $(built)
 
 # cargo hashes the absolute path of a crate outside of the workspace, and so makes other bytes in
-# each folder. So out/command is a workspace around the command and the crate for Rust. It has copies
-# of both, since the gate refuses links.
+# each folder. So out/command is a workspace around the command and the crate for Rust. It has
+# copies of both, since the gate refuses links.
 command = out/cargo/$(host)/release/duration
 crates = clap clap_complete clap_derive serde_json
 commanded = shell/Cargo.toml shell/src rust/Cargo.toml rust/macros rust/src
@@ -159,10 +159,10 @@ installed = $(addprefix $(bindir)/,durstr duration) $(addprefix $(mandir)/man1/,
     $(addprefix $(libdir)/,libduration_str.a $(shared) pkgconfig/duration_str.pc $(cmake_files)) \
     $(patsubst %,$(mandir)/man3/%.3,duration_str $(calls)) $(addprefix $(docdir)/,LICENSE NOTICE)
 
-# `put_text` writes its input to a file first, since without /proc there is no /dev/stdin. $$said has
-# the output of `install`, which names the folders that were made. Except below DESTDIR, $(folders)
-# keeps them for uninstalling. $(owned) gives what root has built to the owner of the checkout, who
-# could otherwise not build here again.
+# `put_text` writes its input to a file first, since without /proc there is no /dev/stdin. $$said
+# has the output of `install`, which names the folders that were made. Except below DESTDIR,
+# $(folders) keeps them for uninstalling. $(owned) gives what root has built to the owner of the
+# checkout, who could otherwise not build here again.
 owned = [ -O . ] || [ ! -e out ] || [ "$$(id -u)" != 0 ] || chown -hR --reference=. out
 put = said=$$(mktemp) && trap 'rm -f "$$said"*; $(owned)' EXIT; \
     put() { LC_ALL=C $(INSTALL_DATA) -v -D "$$1" "$$DESTDIR$$2" >>"$$said"; }; \
@@ -231,9 +231,9 @@ install install-library: installable
 	put "$$libraries/libduration_str.a" $(libdir)/libduration_str.a
 	put "$$libraries/libduration_str.so" $(libdir)/$(soname)
 	ln -sf $(soname) "$$DESTDIR$(libdir)/libduration_str.so"
-	# Before the soname 2 the library's file was named by its version. So the link of an older soname
-	# may lead to a file that a newer version has replaced, and programs that use such a link crash.
-	# A link is removed if the library to which it leads does not contain the link's name.
+	# Before the soname 2 the library's file was named by its version. So the link of an older
+	# soname may lead to a file that a newer version has replaced, and programs that use it can
+	# crash. A link is removed if the library to which it leads does not contain the link's name.
 	for link in "$$DESTDIR$(libdir)"/libduration_str.so.[0-9]*; do
 	    [ ! -L "$$link" ] || grep -aqF "$${link##*/}" "$$link" || rm -fv "$$link"
 	done
