@@ -26,7 +26,7 @@
 # cargo, from Rust 1.85 on, builds the programs and the library. It needs no network. For another
 # machine, set target=TARGET to rustc's name of it, such as aarch64-unknown-linux-gnu. With
 # static=yes the program needs no shared library. If there is rt but no cargo, rt builds the
-# program.
+# program for this machine.
 SHELL := bash
 .SHELLFLAGS := -euo pipefail -c
 .ONESHELL:

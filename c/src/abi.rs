@@ -1,5 +1,5 @@
-//! Makes slices of C's pointers, and calls the proved functions of the same names. A pointer to write
-//! to is an `Option` if the header lets it be null.
+//! Makes slices of C's pointers, and calls the proved functions of the same names. A pointer to
+//! write to is an `Option` if the header lets it be null.
 #![deny(clippy::no_mangle_with_rust_abi)]
 use crate::{answer::Answer, breakdown, format, message, unit};
 use core::mem::{MaybeUninit, offset_of, zeroed};
@@ -17,9 +17,9 @@ unsafe fn bytes<'a>(start: *const u8, len: usize) -> &'a [u8] {
     }
 }
 
-/// C may not have initialised its buffer. Rust may make no `&mut [u8; SIZE]` of such memory, since a
-/// reference must point to a valid value (the Rust Reference, "Behavior considered undefined"). So
-/// the text is copied.
+/// C may not have initialised its buffer. Rust may make no `&mut [u8; SIZE]` of such memory, since
+/// a reference must point to a valid value (the Rust Reference, "Behavior considered undefined").
+/// So the text is copied.
 #[cfg(not(target_family = "wasm"))]
 fn written<const SIZE: usize>(
     out: &mut MaybeUninit<[u8; SIZE]>,

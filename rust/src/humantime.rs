@@ -23,10 +23,9 @@
 //! A number without a unit is refused. Unlike humantime, this module reads `+`, `*`, `mon` and the
 //! quarter of 91 days. `docs/MIGRATING.md` in the repository lists the differences.
 //!
-//! All items and traits of humantime 2.4 that are about durations are here, except the variants of
-//! its error. Use [`DurationError::cause`] to find out why a text is refused. humantime's
-//! timestamps are not here. In place of the crate humantime-serde, use the module
-//! `humantime_serde`.
+//! humantime's items for durations are here, except the variants of its error. Use
+//! [`DurationError::cause`] to find out why a text is refused. humantime's timestamps are not here.
+//! In place of the crate humantime-serde, use the module `humantime_serde`.
 //!
 //! ```
 //! use duration_str::humantime;

@@ -130,7 +130,7 @@ impl Run<'_> {
         Ok(())
     }
 
-    /// Reads a line with its line end, or the beginning of a line that is too long.
+    /// Reads a line, or the beginning of a line that is too long.
     fn next(&mut self, input: &mut BufReader<File>, line: &mut Vec<u8>) -> io::Result<bool> {
         line.clear();
         // A search that compares byte by byte finds the end of a short line quickly.
@@ -257,9 +257,8 @@ impl Run<'_> {
             .write_all(format!("duration: {what} {number}{field}:{gap}{said}{advice}\n").as_bytes())
     }
 
-    /// Whether the shell has perhaps cut a text at a blank before this argument. If so, the
-    /// argument begins with an operator, as in `3m + 13s`, or with a word whose number is the end
-    /// of the argument before it, as in `5 min`.
+    /// Whether the shell has perhaps cut a text at a blank before this argument, as in `3m + 13s`
+    /// and `5 min`.
     fn is_cut(&self, refusal: &Refusal, number: u64) -> bool {
         let texts = &self.choices.texts;
         let Some(before) = number.checked_sub(2).and_then(|at| texts.get(at as usize)) else {

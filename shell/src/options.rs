@@ -143,7 +143,6 @@ impl Choices {
         }
     }
 
-    /// The format for printing to people.
     fn format(&self) -> Format {
         let format = Format::whole()
             .largest(self.largest)
@@ -156,12 +155,10 @@ impl Choices {
         }
     }
 
-    /// The parts that are printed for people, as numbers.
     pub fn breakdown(&self, nanos: u64) -> Breakdown {
         Breakdown::new(&Duration::from_nanos(nanos), self.format())
     }
 
-    /// What is printed for these nanoseconds: a number, or a text that is written to the buffer.
     pub fn printed<'b>(
         &self,
         nanos: u64,

@@ -1,5 +1,5 @@
-//! Uses every item of humantime 2.1 for durations and each of their traits, except the variants of
-//! its error. The example `service` compiles this file with humantime too.
+//! Uses humantime's items for durations, and their traits. The example `service` compiles this file
+//! with humantime too.
 use crate::humantime::{
     Duration, DurationError, FormattedDuration, format_duration, parse_duration,
 };

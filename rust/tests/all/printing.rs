@@ -25,7 +25,7 @@ fn unit(name: &str) -> TimeUnit {
 }
 
 impl Limits {
-    /// The units, the first, the last, and the greatest number of parts.
+    /// The units, the largest, the smallest, and the greatest number of parts.
     fn all(&self) -> (Vec<TimeUnit>, TimeUnit, TimeUnit, usize) {
         let units = match &self.units {
             Some(names) => names.iter().map(|name| unit(name)).collect(),
