@@ -69,7 +69,7 @@ pub fn parse_in(input: &str, default_unit: TimeUnit) -> Result<Duration, Duratio
         .map_err(Fault::into_owned)
 }
 
-/// Calls that name a default unit read under these options.
+/// The options of [`parse_in`].
 pub(crate) fn naming(default_unit: TimeUnit) -> Options {
     Options {
         no_calc: default_unit != TimeUnit::Second,

@@ -65,7 +65,7 @@ impl Default for Options {
     }
 }
 
-/// In the proved source, the contract of `next` says that after a `None` no part is left.
+/// After a `None` no part is left.
 impl FusedIterator for Breakdown {}
 
 /// [`Format::whole`].

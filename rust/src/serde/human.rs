@@ -174,7 +174,7 @@ const fn unit_of_numbers(how: u8) -> Option<TimeUnit> {
 }
 
 /// If the feature `arbitrary_precision` of serde_json is on, a number that is no integer of 64 bits
-/// comes as a map from this key to the number's text.
+/// can come as a map from this key to the number's text.
 const NUMBER_KEY: &str = "$serde_json::private::Number";
 
 fn text_of_number<'de, A: MapAccess<'de>>(mut map: A) -> Option<String> {
@@ -258,7 +258,7 @@ impl<'de, T: Length, const HOW: u8> Visitor<'de> for Text<T, HOW> {
             }
             _ => parse_with(text, ADDITIONS),
         };
-        // The message begins with what it is about, since the format adds its own line and column.
+        // The message begins with what it is about, since a format can add its line and column.
         read.map(T::of_std)
             .map_err(|fault| E::custom(format_args!("invalid duration: {fault}")))
     }
@@ -277,7 +277,7 @@ impl<'de, T: Length, const HOW: u8> Visitor<'de> for Text<T, HOW> {
         }
         match text.parse::<f64>() {
             Ok(number) if number.is_finite() => self.visit_f64(number),
-            // Without the feature these are serde_json's words.
+            // serde_json has these words, too.
             Ok(_) => Err(de::Error::custom("number out of range")),
             Err(_) => Err(de::Error::invalid_type(Unexpected::Map, &self)),
         }
