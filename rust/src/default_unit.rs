@@ -1,4 +1,3 @@
-//! The calls that take a default unit, or require units.
 use crate::error::DurationError;
 use crate::fault::Fault;
 use crate::parser::ADDITIONS;

@@ -105,8 +105,8 @@ impl FormattedDuration {
         &self.magnitude
     }
 
-    /// Returns the text that [`ToString`](alloc::string::ToString) would return. This method is
-    /// faster, since it needs no formatter.
+    /// Returns the text that [`ToString`](alloc::string::ToString) would return, without a
+    /// formatter.
     ///
     /// ```
     /// use duration_str::format_duration;
@@ -136,7 +136,7 @@ impl FormattedDuration {
     /// ```
     ///
     /// The file `tests/printers.rs` of this crate has functions for lists, clocks, decimals,
-    /// rounding and other languages.
+    /// rounding and German.
     #[must_use]
     pub fn breakdown(&self) -> Breakdown {
         Breakdown::new(&self.magnitude, self.format)

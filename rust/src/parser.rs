@@ -1,4 +1,3 @@
-//! The calls that read a text.
 use crate::error::DurationError;
 use crate::fault::Fault;
 use alloc::string::String;

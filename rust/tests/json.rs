@@ -1,5 +1,5 @@
 //! Tests durations that are numbers in JSON. `tests/precision` runs the same rows with another
-//! feature of serde_json, under which it passes most of these numbers on as maps.
+//! feature of serde_json, under which it passes some numbers on as maps.
 use duration_str::{human_or_millis, human_or_seconds, parse_duration};
 use serde::Deserialize;
 use serde_json::{Deserializer, Error, json};

@@ -1,4 +1,3 @@
-//! Durations in structs that serde reads.
 use duration_str::{DeserializeDuration, deserialize_duration};
 use serde::Deserialize;
 use serde_json::{Value, from_value, json};

@@ -1,4 +1,3 @@
-//! Texts that are refused, and what their faults say.
 use crate::{FEATURES, Refused, by_usual_calls, default_unit_of, options_of, vectors};
 use duration_str::{
     Cause, DError, Expected, Fault, Options, TimeUnit, parse, parse_require_unit, parse_with,

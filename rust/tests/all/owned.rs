@@ -1,4 +1,3 @@
-//! Tests errors that own their text.
 use crate::{choices, options_of};
 use duration_str::{Cause, DError, DurationError, Options, TimeUnit, parse_with};
 use duration_str_core::{self as proved, Tokens};

@@ -1,4 +1,3 @@
-//! Printed durations.
 use crate::{Limits, Printed, vectors};
 use duration_str::{
     Format, FormattedDuration, HumanDuration, HumanFormat, Options, Style, TimeUnit,

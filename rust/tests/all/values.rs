@@ -1,4 +1,3 @@
-//! Texts that are read, and their values.
 use crate::{FEATURES, Group, by_usual_calls, choices, default_unit_of, has, options_of, vectors};
 use duration_str::{
     Fault, Options, TimeUnit, parse, parse_in, parse_std, parse_with, parse_with_default_unit,
