@@ -8,8 +8,8 @@
 # make setup           installs what most tests need, on Debian, as root or by sudo without a
 #                      password; with all=yes also the many packages that few tests need
 # make prove           proves everything, by the Rattle toolchain's command rt
-# make check           proves everything, if there is rt, and tests everything that is built; this
-#                      can take over an hour
+# make check           proves everything, if there is rt, and runs the tests; this can take over an
+#                      hour
 # make quick           runs the tests that take seconds and the checks of what has changed
 # make format          lays out Rust, Python, C, Go and shell scripts, by the usual tool of each
 #                      language
@@ -26,7 +26,7 @@
 # cargo, from Rust 1.85 on, builds the programs and the library. It needs no network. For another
 # machine, set target=TARGET to rustc's name of it, such as aarch64-unknown-linux-gnu. With
 # static=yes the program needs no shared library. If there is rt but no cargo, rt builds the
-# program.
+# program for this machine.
 SHELL := bash
 .SHELLFLAGS := -euo pipefail -c
 .ONESHELL:
@@ -87,7 +87,7 @@ program:
 	echo $$program
 
 # The archive that rustc writes also has helpers that nothing calls. So the archive is written again
-# from rustc's object, which has everything else.
+# from rustc's object.
 library:
 	@archive="$(built)/libduration_str.a"
 	if ! $(call serves,"$$archive",c); then
@@ -99,10 +99,9 @@ library:
 	fi
 	echo $(built)
 
-# The command depends on the crate for Rust, and on crates of others. cargo hashes the absolute path
-# of a crate outside of the workspace, and so makes other bytes in each folder. So out/command is a
-# workspace around the command and the crate for Rust. It has copies of both, since the gate refuses
-# links.
+# cargo hashes the absolute path of a crate outside of the workspace, and so makes other bytes in
+# each folder. So out/command is a workspace around the command and the crate for Rust. It has
+# copies of both, since the gate refuses links.
 command = out/cargo/$(host)/release/duration
 crates = clap clap_complete clap_derive serde_json
 commanded = shell/Cargo.toml shell/src rust/Cargo.toml rust/macros rust/src
@@ -160,11 +159,10 @@ installed = $(addprefix $(bindir)/,durstr duration) $(addprefix $(mandir)/man1/,
     $(addprefix $(libdir)/,libduration_str.a $(shared) pkgconfig/duration_str.pc $(cmake_files)) \
     $(patsubst %,$(mandir)/man3/%.3,duration_str $(calls)) $(addprefix $(docdir)/,LICENSE NOTICE)
 
-# `put FROM TO` installs a file as TO, and `put_program FROM TO` a program. `put_text TO` installs
-# its input, since without /proc there is no /dev/stdin. $$said has the output of `install`. It
-# names the folders that were made, which $(folders) keeps for uninstalling, except below DESTDIR.
-# At the end $(owned) gives what root has built to the owner of the checkout, who could otherwise
-# not build here again.
+# `put_text` writes its input to a file first, since without /proc there is no /dev/stdin. $$said
+# has the output of `install`, which names the folders that were made. Except below DESTDIR,
+# $(folders) keeps them for uninstalling. $(owned) gives what root has built to the owner of the
+# checkout, who could otherwise not build here again.
 owned = [ -O . ] || [ ! -e out ] || [ "$$(id -u)" != 0 ] || chown -hR --reference=. out
 put = said=$$(mktemp) && trap 'rm -f "$$said"*; $(owned)' EXIT; \
     put() { LC_ALL=C $(INSTALL_DATA) -v -D "$$1" "$$DESTDIR$$2" >>"$$said"; }; \
@@ -172,22 +170,20 @@ put = said=$$(mktemp) && trap 'rm -f "$$said"*; $(owned)' EXIT; \
     put_program() { LC_ALL=C $(INSTALL_PROGRAM) -v -D "$$1" "$$DESTDIR$$2" >>"$$said"; }
 folders = $(docdir)/folders
 
-# $(call page,FILE): the manual page in this file, with the calls, the header and the grammar of the
-# installed version
 description = LC_ALL=C awk $(1) -f c/manual-page.awk $(header)
 page = sed -e 's/^@CALLS@$$/.Nm $(subst $(space), $(comma)\n.Nm ,$(calls))/' \
     -e '/^@SYNOPSIS@$$/{e $(call description,-v synopsis=1)' -e 'd}' -e '/^@HEADER@$$/{e $(call description)' -e 'd}' \
     -e '/^@GRAMMAR@$$/{e $(call description) | sed -n "/^A text is one term/,/^A year has/p"' \
     -e 'd}' -e 's/@VERSION@/$(version)/' $(1)
 
-# $(call up,FOLDER,FROM): the way from an installed folder up to the prefix, so that the prefix can
-# be moved with all that is in it. The way begins with FROM, which stands for the folder. If the
-# folder is not below the prefix, the call gives the prefix
+# $(call up,FOLDER,FROM): the way from an installed folder, for which FROM stands, up to the prefix,
+# so that the prefix can be moved with all that is in it. If the folder is not below the prefix, the
+# call gives the prefix
 space := $() $()
 up = $(if $(filter $(prefix)/%,$(1)),$(2)$(subst $(space),,$(patsubst %,/..,$(subst /, ,$(1:$(prefix)/%=%)))),$(prefix))
 
-# $(call filled,FILE,VARIABLE,PREFIX): the template in this file, filled for the installed folders.
-# In these, ${VARIABLE} is written in place of the prefix. $$pointer has the bytes of a pointer
+# $(call filled,FILE,VARIABLE,PREFIX): fills the template. In the folders, ${VARIABLE} is written in
+# place of the prefix. $$pointer is the size of a pointer in bytes
 filled = sed 's|@PREFIX@|$(3)|; s|@VERSION@|$(version)|; s|@LIBDIR@|$(call below,$(libdir),$(2))|; \
     s|@INCLUDEDIR@|$(call below,$(includedir),$(2))|; s|@POINTER@|'"$$pointer|" c/$(1).in
 below = $(patsubst $(prefix)/%,$${$(2)}/%,$(1))
@@ -214,8 +210,7 @@ installable:
 	    ;;
 	esac
 
-# If BusyBox's sed or install is found, which lack what is needed, make stops before anything is
-# written.
+# BusyBox's sed and install lack what is needed.
 install install-library: installing = yes
 install install-library: installable
 	@sed 'e :' </dev/null 2>/dev/null || { echo 'install: needs GNU sed' >&2; exit 1; }
@@ -236,9 +231,9 @@ install install-library: installable
 	put "$$libraries/libduration_str.a" $(libdir)/libduration_str.a
 	put "$$libraries/libduration_str.so" $(libdir)/$(soname)
 	ln -sf $(soname) "$$DESTDIR$(libdir)/libduration_str.so"
-	# Before the soname 2 the library's file was named by its version. So the link of an older soname
-	# may lead to a file that a newer version has replaced, and programs that use such a link crash.
-	# A link is removed if the library to which it leads does not contain the link's name.
+	# Before the soname 2 the library's file was named by its version. So the link of an older
+	# soname may lead to a file that a newer version has replaced, and programs that use it can
+	# crash. A link is removed if the library to which it leads does not contain the link's name.
 	for link in "$$DESTDIR$(libdir)"/libduration_str.so.[0-9]*; do
 	    [ ! -L "$$link" ] || grep -aqF "$${link##*/}" "$$link" || rm -fv "$$link"
 	done
@@ -280,7 +275,7 @@ install install-library: installable
 	sed -n "s/^[^:]*: creating directory '\(.*\)'$$/\1/p" "$$said" |
 	    xargs -r realpath -m --relative-to=$(prefix) >>$(folders)
 
-# Folders with other files are kept, and without DESTDIR also those that were there before.
+# Folders with other files are kept.
 uninstall: installable
 	@made=$$(cat "$$DESTDIR$(folders)" 2>/dev/null || true)
 	for file in $(installed) $(folders); do rm -fv "$$DESTDIR$$file"; done
@@ -290,8 +285,7 @@ uninstall: installable
 	    [ ! -e "$$library" ] ||
 	        echo "uninstall: left for programs that were linked with it: $$library"
 	done
-	# Below DESTDIR nothing says which folders were made. So each folder that had an installed file
-	# is removed if it is empty, and so are the folders around it.
+	# Below DESTDIR nothing says which folders were made.
 	if [ -n "$$DESTDIR" ]; then
 	    [ -d "$$DESTDIR" ] || exit 0
 	    cd "$$DESTDIR"

@@ -1,6 +1,5 @@
-//! Gives the shared library the name that an installed one has. The number in it is raised whenever
-//! a structure, a number or a signature of the header changes or is removed. The Makefile reads the
-//! number here.
+//! Gives the shared library its soname, whose number is raised if a structure, a number or a
+//! signature of the header is changed or removed. The Makefile reads the soname here.
 fn main() {
     println!("cargo:rerun-if-changed=build.rs");
     if std::env::var("CARGO_CFG_TARGET_OS").as_deref() == Ok("linux") {

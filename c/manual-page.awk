@@ -1,11 +1,10 @@
-# Turns the header into the description of a manual page. A comment becomes paragraphs, with the
-# declaration that it describes below them. A call gets a heading, its declaration, and then its
-# comment. With the variable `synopsis` set, only the declarations of the calls are written.
+# Turns the header into the description of a manual page. With the variable `synopsis` set, only the
+# declarations of the calls are written.
 BEGIN { RS = "" }
 
 function literal(text) { return ".Bd -literal\n" text "\n.Ed" }
 
-# Code that a comment shows. It is indented by four spaces.
+# In the header's comments, code is indented by four spaces.
 function code(text) {
     gsub(/\n \*(     )?/, "\n", text)
     sub(/^    /, "", text)
@@ -13,7 +12,7 @@ function code(text) {
     return literal(text)
 }
 
-# Prints words in lines of some 50 bytes. A sentence begins a line, as manual pages want it.
+# A sentence begins a line, as manual pages want it.
 function fill(text, word, count, line, at) {
     count = split(text, word, " ")
     for (at = 1; at <= count; at++) {

@@ -33,8 +33,7 @@ int bcmp(const void *first, const void *second, size_t length) {
     return memcmp(first, second, length);
 }
 
-/* A panic of the library would end here. For 64-bit processors it is proved that the code behind
- * each call has none. */
+/* A panic of the library would end here. */
 _Noreturn void abort(void) {
     for (;;)
         ;
@@ -89,7 +88,6 @@ static void end(void) { system_call(60, 0, NULL, 0); }
 
 /* ---- The program */
 
-/* Reads a text, and prints its duration or what is wrong with it. */
 static void tell(const char *text, size_t length) {
     struct duration_str_answer answer;
     char line[DURATION_STR_ONE_LINE_BUFFER_SIZE];

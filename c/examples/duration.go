@@ -1,7 +1,6 @@
 // Durations for Go, by the library for C, for a field of a configuration such as
 // `{"timeout": "1h 30m"}`. `go run duration.go TEXT` reads a text as such a field, and prints the
-// duration by itself, as a clock and in JSON. pkg-config finds the library that `make install` has
-// installed.
+// duration by itself, as a clock and in JSON. pkg-config must find the library.
 package main
 
 // #cgo pkg-config: duration_str
@@ -21,7 +20,7 @@ import (
 // Duration is a duration that is read from a text and printed as a text.
 type Duration struct{ time.Duration }
 
-// UnmarshalText reads a text, in which each number has a unit. The error is the library's line.
+// UnmarshalText reads a text, in which each number must have its unit.
 func (duration *Duration) UnmarshalText(text []byte) error {
 	var answer C.struct_duration_str_answer
 	var line [C.DURATION_STR_ONE_LINE_BUFFER_SIZE]C.char

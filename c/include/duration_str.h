@@ -2,10 +2,11 @@
  * header is for C99 and C++11, and later versions.
  *
  * Texts are UTF-8; other bytes are refused. A text is passed as a pointer and
- * a length in bytes, which must be at most PTRDIFF_MAX. It need not end with a
- * zero byte, and may be null only if its length is 0. It must not overlap what
- * a function writes. It must not change during a call: if another thread may
- * change it, or another process in a mapped file, copy the text first.
+ * a length in bytes, which must be at most PTRDIFF_MAX. A text need not end
+ * with a zero byte. Its pointer may be null only if its length is 0. A text
+ * must not overlap what a function writes, and must not change during a call.
+ * If another thread may change it, or another process in a mapped file, copy
+ * the text first.
  *
  * A text that a function writes ends with a zero byte, which the returned
  * length doesn't count. The rest of a buffer is unchanged.
@@ -60,7 +61,7 @@
 /* The size of the buffer that duration_str_format prints into. */
 #define DURATION_STR_FORMAT_BUFFER_SIZE 64
 
-/* The most bytes that a text of duration_str_format_with has, in any style. */
+/* No text of duration_str_format_with has more bytes than this. */
 #define DURATION_STR_MAX_LONG_LEN 134
 /* The size of the buffer that duration_str_format_with prints into. */
 #define DURATION_STR_FORMAT_WITH_BUFFER_SIZE 144
@@ -303,9 +304,9 @@ size_t duration_str_format_with(
  * duration.
  *
  * For example, 193 seconds and 29,000,000 nanoseconds in two parts of all units
- * are 3 minutes and 13 seconds, and the rest is 29,000,000. If `parts` is 0, all
- * counts are 0, and the rest is the whole duration. This prints 3,723 seconds
- * as `1:02:03`:
+ * are 3 minutes and 13 seconds, and the rest is 29,000,000. If `parts` is 0, the
+ * counts that are written are 0, and the rest is the whole duration. This prints
+ * 3,723 seconds as `1:02:03`:
  *
  *     const uint32_t units = DURATION_STR_UNITS_BETWEEN(
  *         DURATION_STR_UNIT_HOUR, DURATION_STR_UNIT_SECOND);
@@ -344,7 +345,7 @@ bool duration_str_parse_with(const char *text, size_t length,
  * text is read, returns 0, and the line is empty.
  *
  * The line quotes at most 40 characters of the text. In the quote, `"`,
- * backslashes, control characters and characters that can't be seen are
+ * backslashes, control characters and most characters that can't be seen are
  * escaped. For bytes that are not UTF-8 the line is `not UTF-8`, and for bits
  * that are not options it is `unknown option`. */
 DURATION_STR_NONNULL(5)

@@ -1,14 +1,14 @@
-//! The functions of `duration_str.h`. They make slices of C's pointers and call the proved
-//! functions of the same names. A pointer to write to is an `Option` if the header lets it be null.
+//! Makes slices of C's pointers, and calls the proved functions of the same names. A pointer to
+//! write to is an `Option` if the header lets it be null.
 #![deny(clippy::no_mangle_with_rust_abi)]
 use crate::{answer::Answer, breakdown, format, message, unit};
 use core::mem::{MaybeUninit, offset_of, zeroed};
 use core::slice::from_raw_parts;
 
-// The fields lie where C looks for them.
+// The field has this offset in the header's structure too.
 const _: () = assert!(offset_of!(Answer, has_place) == 16 + 2 * size_of::<usize>());
 
-/// The text of a caller. The pointer may be null if the text is empty.
+/// The pointer may be null if the text is empty.
 unsafe fn bytes<'a>(start: *const u8, len: usize) -> &'a [u8] {
     if len == 0 {
         &[]
@@ -17,10 +17,9 @@ unsafe fn bytes<'a>(start: *const u8, len: usize) -> &'a [u8] {
     }
 }
 
-/// Lets a call write to a buffer of this function, and copies the text and the zero after it to the
-/// caller's buffer, which C may not have initialised. Rust may make no `&mut [u8; SIZE]` of such
-/// memory, since a reference must point to a valid value (the Rust Reference, "Behavior considered
-/// undefined").
+/// C may not have initialised its buffer. Rust may make no `&mut [u8; SIZE]` of such memory, since
+/// a reference must point to a valid value (the Rust Reference, "Behavior considered undefined").
+/// So the text is copied.
 #[cfg(not(target_family = "wasm"))]
 fn written<const SIZE: usize>(
     out: &mut MaybeUninit<[u8; SIZE]>,
@@ -35,7 +34,7 @@ fn written<const SIZE: usize>(
     length
 }
 
-/// Lets a call write to the caller's buffer. All memory of WebAssembly is initialised.
+/// All memory of WebAssembly is initialised.
 #[cfg(target_family = "wasm")]
 fn written<const SIZE: usize>(
     out: &mut MaybeUninit<[u8; SIZE]>,

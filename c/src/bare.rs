@@ -1,8 +1,6 @@
 //! The items that a library without Rust's `std` has to define.
 use core::panic::PanicInfo;
 
-// For 64-bit processors it is proved that no call panics, but the compiler does not always know
-// this, and asks for a handler.
 #[panic_handler]
 fn panic(_: &PanicInfo<'_>) -> ! {
     abort()
@@ -17,9 +15,9 @@ unsafe extern "C" {
     safe fn abort() -> !;
 }
 
-// The code that rustc adds for 128-bit divisions refers to this symbol of `std`, and nobody calls
-// it. The symbol is hidden, so that it is not exported, and weak, so that it gives way in a program
-// that contains the one of `std`.
+// The code that rustc adds for 128-bit divisions refers to this symbol of `std`. It is hidden, so
+// that it is not exported, and weak, so that it gives way in a program that contains the one of
+// `std`.
 #[cfg(target_os = "linux")]
 core::arch::global_asm!(
     ".pushsection .rodata",

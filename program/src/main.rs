@@ -1,5 +1,4 @@
-//! Reads durations from standard input, one on each line, and prints them. The words of the command
-//! line choose the options: `no_calc`, `lowercase`, `cn_unit`.
+//! The program `durstr`.
 #![forbid(unsafe_code)]
 
 use duration_str_core::Options;
@@ -7,7 +6,7 @@ use durstr_run::{Heap, ending, run, with_word};
 use std::io::{self, Write};
 use std::process::ExitCode;
 
-/// Runs with the words of the command line, and returns the status and the line for standard error.
+/// Returns the status, and the line for standard error, which may be empty.
 fn outcome() -> (u8, &'static str) {
     let mut options = Options::off();
     for word in std::env::args_os().skip(1) {
@@ -23,8 +22,7 @@ fn outcome() -> (u8, &'static str) {
 fn main() -> ExitCode {
     let (status, line) = outcome();
     if !line.is_empty() {
-        // The exit status too says that the run failed, so it does not matter if this line can't be
-        // written.
+        // The exit status too says that the run failed.
         let _ = writeln!(io::stderr(), "{line}");
     }
     ExitCode::from(status)

@@ -3,20 +3,16 @@ use std::fmt;
 use std::marker::PhantomData;
 use std::ops::Deref;
 
-/// Memory was refused.
 pub struct AllocError;
 
-/// Where memory comes from.
 pub trait Allocator {}
 
-/// Rust's global allocator.
 pub struct Heap;
 
 impl Allocator for Heap {}
 
 impl<A: Allocator> Allocator for &A {}
 
-/// A vector whose memory can be refused.
 pub struct Vec<T, A>(std::vec::Vec<T>, PhantomData<A>);
 
 impl<T: Clone, A: Allocator> Vec<T, A> {
@@ -39,7 +35,6 @@ impl<T, A> Deref for Vec<T, A> {
     }
 }
 
-/// A text that grows only if the allocator gives memory.
 pub struct String<A>(Vec<u8, A>);
 
 impl<A: Allocator> String<A> {
@@ -51,7 +46,7 @@ impl<A: Allocator> String<A> {
         self.0.extend_from_slice(text.as_bytes())
     }
 
-    /// The method that `write!` calls. It fails if memory is refused.
+    /// `write!` calls this.
     pub fn write_fmt(&mut self, arguments: fmt::Arguments<'_>) -> Result<(), AllocError> {
         fmt::Write::write_fmt(self, arguments).map_err(|_| AllocError)
     }

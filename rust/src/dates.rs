@@ -11,12 +11,10 @@ use duration_str_core::{Cause, Options};
 /// Adds the value of a text to the given moment, and returns the sum. A [`NaiveDateTime`] has no
 /// time zone.
 ///
-/// If the text is refused, its fault is returned. Otherwise, if chrono can't represent the moment,
-/// the cause is [`Cause::OutOfRange`].
-///
 /// # Errors
 ///
-/// Returns the fault of the text, or [`Cause::OutOfRange`].
+/// Returns the fault of the text, or one with the cause [`Cause::OutOfRange`] if chrono can't
+/// represent the moment.
 ///
 /// ```
 /// use chrono::NaiveDate;
@@ -38,12 +36,12 @@ pub fn moment_after(
         .ok_or(Fault::of(input, Cause::OutOfRange, options))
 }
 
-/// Subtracts the value of a text from the given moment, and returns the difference. It refuses as
-/// [`moment_after`] does.
+/// Subtracts the value of a text from the given moment, and returns the difference.
 ///
 /// # Errors
 ///
-/// Returns the fault of the text, or [`Cause::OutOfRange`].
+/// Returns the fault of the text, or one with the cause [`Cause::OutOfRange`] if chrono can't
+/// represent the moment.
 ///
 /// ```
 /// use chrono::NaiveDate;

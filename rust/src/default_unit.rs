@@ -1,4 +1,3 @@
-//! The calls that take a default unit, or require units.
 use crate::error::DurationError;
 use crate::fault::Fault;
 use crate::parser::ADDITIONS;
@@ -69,8 +68,7 @@ pub fn parse_in(input: &str, default_unit: TimeUnit) -> Result<Duration, Duratio
         .map_err(Fault::into_owned)
 }
 
-/// The options under which texts are read in a default unit that is named. With any other unit than
-/// seconds `+` and `*` are not read.
+/// The options of [`parse_in`].
 pub(crate) fn naming(default_unit: TimeUnit) -> Options {
     Options {
         no_calc: default_unit != TimeUnit::Second,

@@ -1,11 +1,10 @@
-//! The error type of `duration-str` 0.19.0.
 use crate::error::DurationError;
 use crate::fault::Fault;
 use alloc::string::String;
 use core::fmt;
 
-/// The error type of `duration-str` 0.19.0. It says in words why a text is refused, and does not
-/// contain the text.
+/// The error type of `duration-str` 0.19.0. It says why a text is refused, and does not contain
+/// the text.
 ///
 /// ```
 /// use duration_str::{parse_with, DError, DResult, Options};

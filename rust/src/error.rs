@@ -1,4 +1,3 @@
-//! An error that owns the text that was refused.
 use crate::fault::Fault;
 use alloc::string::{String, ToString};
 use core::fmt;

@@ -1,4 +1,3 @@
-//! A refused text, with its cause and the options under which it was read.
 use crate::derror::DError;
 use crate::error::DurationError;
 use alloc::string::{String, ToString};
@@ -36,7 +35,7 @@ impl<'a> Fault<'a> {
         Fault { fault, options }
     }
 
-    /// Makes the fault of a text for a cause whose place is known to be within the text.
+    /// The cause's place must be one of the text.
     pub(crate) fn of(text: &'a str, cause: Cause, options: Options) -> Fault<'a> {
         let fault = proved::Fault::new(text, cause).expect("the place is one of this text");
         Fault::new(fault, options)
@@ -141,8 +140,7 @@ impl<'a> Fault<'a> {
             .to_string()
     }
 
-    /// The message of up to three lines that the calls of `duration-str` 0.19.0 return for this
-    /// fault.
+    /// The message that the calls of `duration-str` 0.19.0 return.
     #[cold]
     #[inline(never)]
     pub(crate) fn message(&self) -> String {

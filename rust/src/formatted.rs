@@ -1,4 +1,3 @@
-//! A duration that is printed in units, parts and a style that you choose.
 use crate::human_duration::HumanDuration;
 use alloc::string::String;
 use core::fmt::{self, Write};
@@ -106,8 +105,8 @@ impl FormattedDuration {
         &self.magnitude
     }
 
-    /// Returns the text that [`ToString`](alloc::string::ToString) would return. This method is
-    /// faster, since it needs no formatter.
+    /// Returns the text that [`ToString`](alloc::string::ToString) would return, without a
+    /// formatter.
     ///
     /// ```
     /// use duration_str::format_duration;
@@ -137,13 +136,12 @@ impl FormattedDuration {
     /// ```
     ///
     /// The file `tests/printers.rs` of this crate has functions for lists, clocks, decimals,
-    /// rounding and other languages.
+    /// rounding and German.
     #[must_use]
     pub fn breakdown(&self) -> Breakdown {
         Breakdown::new(&self.magnitude, self.format)
     }
 
-    /// The sign, which is `-` or empty, and the text of the magnitude.
     #[inline(always)]
     fn parts_of_text<'b>(
         &self,
@@ -156,8 +154,6 @@ impl FormattedDuration {
     }
 }
 
-/// The calls that choose how a duration is printed. `FormattedDuration` and [`HumanDuration`] have
-/// them, and each call returns a `FormattedDuration`.
 macro_rules! chooses {
     ($($(#[$doc:meta])* $name:ident: $Value:ty,)+) => {
         impl FormattedDuration {$(
@@ -268,7 +264,6 @@ impl fmt::Display for FormattedDuration {
     }
 }
 
-/// Writes the parts of a text, and pads them to the formatter's width.
 #[inline]
 pub(crate) fn pad(f: &mut fmt::Formatter<'_>, parts: &[&str]) -> fmt::Result {
     let count: usize = parts.iter().map(|part| part.chars().count()).sum();

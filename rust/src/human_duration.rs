@@ -1,4 +1,3 @@
-//! A duration that is read and written as text.
 use core::time::Duration;
 
 /// A [`Duration`] that `FromStr`, `Display` and serde read and print as text. So it can be the type
@@ -21,7 +20,6 @@ use core::time::Duration;
 #[derive(Clone, Copy, Debug, Default, PartialEq, Eq, PartialOrd, Ord, Hash)]
 pub struct HumanDuration(pub Duration);
 
-/// Implements the traits of a type whose durations are read and printed as text.
 macro_rules! written_as_text {
     ($Name:ident, $read:path, $print:path) => {
         impl core::str::FromStr for $Name {

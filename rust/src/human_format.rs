@@ -1,4 +1,3 @@
-//! Printing the durations of `std`, `chrono` and `time`.
 use crate::formatted::{FormattedDuration, format_duration};
 use alloc::string::String;
 use core::time::Duration;
@@ -80,7 +79,6 @@ impl HumanFormat for time::Duration {
     }
 }
 
-/// The duration of this many seconds and nanoseconds, both of which have the given sign.
 #[cfg(any(feature = "chrono", feature = "time"))]
 fn with_sign(is_negative: bool, secs: i64, nanos: i64) -> FormattedDuration {
     let magnitude =

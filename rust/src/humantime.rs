@@ -23,10 +23,9 @@
 //! A number without a unit is refused. Unlike humantime, this module reads `+`, `*`, `mon` and the
 //! quarter of 91 days. `docs/MIGRATING.md` in the repository lists the differences.
 //!
-//! All items and traits of humantime 2.4 that are about durations are here, except the variants of
-//! its error. Use [`DurationError::cause`] to find out why a text is refused. humantime's
-//! timestamps are not here. In place of the crate humantime-serde, use the module
-//! `humantime_serde`.
+//! humantime's items for durations are here, except the variants of its error. Use
+//! [`DurationError::cause`] to find out why a text is refused. humantime's timestamps are not here.
+//! In place of the crate humantime-serde, use the module `humantime_serde`.
 //!
 //! ```
 //! use duration_str::humantime;
@@ -69,7 +68,6 @@ pub fn parse_duration(text: &str) -> Result<StdDuration, DurationError> {
     read(text).map_err(Fault::into_owned)
 }
 
-/// Reads a text.
 #[inline]
 pub(crate) fn read(text: &str) -> Result<StdDuration, Fault<'_>> {
     match read_with(text, true) {
@@ -78,8 +76,7 @@ pub(crate) fn read(text: &str) -> Result<StdDuration, Fault<'_>> {
     }
 }
 
-/// Reads a text with operators, or refuses it. Most texts have no operators, and are read before
-/// this is called.
+/// Most texts have no operators, and are read before this is called.
 #[cold]
 #[inline(never)]
 fn read_other(text: &str) -> Result<StdDuration, Fault<'_>> {
@@ -89,9 +86,7 @@ fn read_other(text: &str) -> Result<StdDuration, Fault<'_>> {
     }
 }
 
-/// Reads a text by the proved reader, with humantime's names and lengths of units. Each number
-/// needs a unit, and capitals and small letters differ. The reader is compiled for this case alone,
-/// which makes it faster.
+/// The reader is compiled for this case alone, which makes it faster.
 #[inline(never)]
 fn read_with(text: &str, no_calc: bool) -> Result<u64, proved::Fault<'_>> {
     let options = Options {
@@ -101,10 +96,8 @@ fn read_with(text: &str, no_calc: bool) -> Result<u64, proved::Fault<'_>> {
     proved::parse_humantime_specialized(text, options)
 }
 
-/// How many seconds a year has here.
 const YEAR_SECONDS: u64 = 31_557_600;
 
-/// How many seconds a month has here.
 const MONTH_SECONDS: u64 = 2_630_016;
 
 /// A duration whose `Display` prints it as humantime does. [`format_duration`] returns it.
@@ -146,7 +139,6 @@ impl FormattedDuration {
 /// `584542046089years 10months 30days 10h 33m 35s 999ms 999us 999ns`.
 const MAX_LEN: usize = 64;
 
-/// A text that is written into a buffer.
 struct Written {
     buffer: [u8; MAX_LEN],
     end: usize,
@@ -158,7 +150,7 @@ impl Written {
         self.end += text.len();
     }
 
-    /// Appends a number. `write!` would take more instructions.
+    /// `write!` would take more instructions.
     fn push_count(&mut self, mut count: u64) {
         let mut digits = [b'0'; 20];
         let mut start = digits.len();

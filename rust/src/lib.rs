@@ -181,8 +181,8 @@ mod parser;
 #[cfg(feature = "serde")]
 mod serde;
 
-// The documentation shows these only in their module. Otherwise the list of this crate's functions,
-// which is in alphabetical order, would begin with four of them.
+// Otherwise the list of this crate's functions, which is in alphabetical order, would begin with
+// four of these.
 #[cfg(feature = "chrono")]
 #[doc(hidden)]
 pub use dates::{
@@ -198,7 +198,7 @@ pub use duration_str_core::{
     write_human,
 };
 // `MAX_LONG_LEN`, `MAX_PRINTED_LEN` and `UNITS`, below, are hidden, since they are only for the
-// core's examples. Users of this crate have the buffers' sizes and `TimeUnit::ALL`.
+// core's examples.
 #[cfg(feature = "serde")]
 #[allow(deprecated)]
 pub use self::serde::original::{

@@ -1,4 +1,3 @@
-//! The calls that read a text.
 use crate::error::DurationError;
 use crate::fault::Fault;
 use alloc::string::String;
@@ -27,27 +26,22 @@ pub fn parse_with(input: &str, options: Options) -> Result<Duration, Fault<'_>> 
     }
 }
 
-/// The options under which the calls of `duration-str` 0.19.0 read: the options that the crate's
-/// features turn on.
+/// The calls of `duration-str` 0.19.0 read under these options.
 pub(crate) const FEATURES: Options = Options {
     no_calc: cfg!(feature = "no_calc"),
     lowercase: cfg!(feature = "lowercase"),
     cn_unit: cfg!(feature = "cn_unit"),
 };
 
-/// The options of [`parse_duration`], to which some calls that `duration-str` 0.19.0 does not have
-/// add others. The feature `cn_unit`, which adds names, affects these calls. The features `no_calc`
-/// and `lowercase` take something away. If they affected these calls, a crate that turns one on
-/// could break what the other crates of the program read.
+/// The options of [`parse_duration`]. If the features `no_calc` and `lowercase` affected it, a
+/// crate that turns one on could break what the other crates of the program read.
 pub(crate) const ADDITIONS: Options = Options {
     cn_unit: FEATURES.cn_unit,
     ..Options::off()
 };
 
-/// The options of the module `humantime`.
 pub(crate) const CASE_SENSITIVE: Options = ADDITIONS.with_lowercase();
 
-/// Reads a text as [`parse`] does.
 #[inline]
 fn read(text: &str) -> Result<Duration, String> {
     match parse_with(text, FEATURES) {
@@ -143,7 +137,6 @@ pub fn parse_chrono(input: impl AsRef<str>) -> Result<chrono::Duration, String> 
     read(input.as_ref()).map(chrono_of)
 }
 
-/// The value of a text as a duration of `chrono`.
 #[cfg(feature = "chrono")]
 pub(crate) fn chrono_of(length: Duration) -> chrono::Duration {
     chrono::Duration::from_std(length)
@@ -166,7 +159,6 @@ pub fn parse_time(input: impl AsRef<str>) -> Result<time::Duration, String> {
     read(input.as_ref()).map(time_of)
 }
 
-/// The value of a text as a duration of `time`.
 #[cfg(feature = "time")]
 pub(crate) fn time_of(length: Duration) -> time::Duration {
     time::Duration::try_from(length)

@@ -1,5 +1,5 @@
 //! Tests durations that are numbers in JSON. `tests/precision` runs the same rows with another
-//! feature of serde_json, under which it passes most of these numbers on as maps.
+//! feature of serde_json, under which it passes some numbers on as maps.
 use duration_str::{human_or_millis, human_or_seconds, parse_duration};
 use serde::Deserialize;
 use serde_json::{Deserializer, Error, json};
@@ -24,7 +24,6 @@ fn of_text(json: &str) -> Result<Duration, Error> {
     human_or_seconds::deserialize(&mut Deserializer::from_str(json))
 }
 
-/// The same value, read by itself, and as a field of a flattened struct.
 fn both_ways(json: &str) -> [Result<Duration, Error>; 2] {
     let outer = serde_json::from_str(&format!(r#"{{ "timeout": {json} }}"#));
     let inner = outer.map(|outer: Outer| outer.settings.timeout);
@@ -130,7 +129,6 @@ fn refuses_maps_that_are_no_numbers() {
         let line = of_text(json).unwrap_err().to_string();
         assert!(line.starts_with(&map), "{json}: {line}");
     }
-    // An integer of 64 bits doesn't come as such a map. If it did, it would keep its digits.
     let json = r#"{ "$serde_json::private::Number": "18446744073709551615" }"#;
     let line = of_text(json).unwrap_err().to_string();
     let start = "invalid value: integer `18446744073709551615`, expected ";

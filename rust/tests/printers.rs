@@ -13,7 +13,6 @@ fn with_m(duration: FormattedDuration) -> String {
     duration.to_string().replace("min", "m")
 }
 
-/// The duration in the first of these units that divides it, if one does and it is not zero.
 fn exact(duration: Duration, units: &[TimeUnit]) -> Option<String> {
     let nanos = duration.as_nanos();
     let divides = |unit: &&TimeUnit| nanos > 0 && nanos % u128::from(unit.nanos()) == 0;
@@ -69,7 +68,6 @@ fn commas(duration: FormattedDuration) -> String {
     parts.join(", ")
 }
 
-/// The parts with commas, and an `and` before the last one.
 fn list(duration: FormattedDuration) -> String {
     let text = commas(duration);
     match text.rsplit_once(", ") {
@@ -116,8 +114,7 @@ fn prints_words_with_commas() {
     assert_eq!(precisedelta(Duration::ZERO), "0 seconds");
 }
 
-// Decimals and clocks. `breakdown` returns the parts as numbers, and `rest` the nanoseconds that no
-// part has.
+// Decimals and clocks
 
 fn borg(duration: Duration) -> String {
     let mut parts = format_duration(duration)
@@ -217,7 +214,6 @@ fn minutes_and_seconds(duration: Duration) -> String {
     format!("{text}{}.{:03}s", millis / 1_000, millis % 1_000)
 }
 
-/// Rounded to the nearest minute.
 fn rounded(duration: Duration) -> String {
     let half = Duration::from_secs(30);
     format_duration(duration.saturating_add(half))

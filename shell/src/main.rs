@@ -1,5 +1,4 @@
-//! `duration`: reads durations from its arguments or from lines, and prints them for people or as
-//! numbers.
+//! The command `duration`.
 #![no_main]
 mod lists;
 mod options;
@@ -15,7 +14,7 @@ use std::io::{self, BufRead, BufReader, BufWriter, IsTerminal, Read, Write};
 use std::os::fd::AsFd;
 use std::os::unix::ffi::OsStrExt;
 
-/// The most bytes that a line may have.
+/// In bytes, without the line end.
 const LONGEST: usize = 1 << 20;
 
 /// C's `main`. Rust's would open /dev/null for a closed stream, and would ignore the signal for a
@@ -31,7 +30,6 @@ extern "C" fn main(count: c_int, words: *const *const c_char) -> c_int {
     })
 }
 
-/// Does what the command line says, and returns the status.
 fn run(words: impl Iterator<Item = OsString>) -> io::Result<c_int> {
     let choices = match Choices::of(words) {
         Ok(choices) => choices,
@@ -73,16 +71,13 @@ fn of_input(error: io::Error) -> io::Error {
 struct Run<'a> {
     output: BufWriter<Box<dyn Write>>,
     end: u8,
-    /// Whether the answer gets no line end. With `--field` or `--header` that is so if the line has
-    /// none.
+    /// Whether the answer gets no line end.
     is_open: bool,
     choices: &'a Choices,
     has_refused: bool,
 }
 
 impl Run<'_> {
-    /// Prints completions or a pattern, or answers the arguments, or the lines of standard input if
-    /// there are no arguments.
     fn all(&mut self) -> io::Result<()> {
         if let Some(shell) = self.choices.completions {
             self.output
@@ -135,12 +130,10 @@ impl Run<'_> {
         Ok(())
     }
 
-    /// Reads a line with its line end, or the beginning of a line that is too long. Returns false
-    /// at the end of the input.
+    /// Reads a line, or the beginning of a line that is too long.
     fn next(&mut self, input: &mut BufReader<File>, line: &mut Vec<u8>) -> io::Result<bool> {
         line.clear();
-        // Most lines are short, and whole in the buffer. A search that compares byte by byte finds
-        // the end of a short line quickly.
+        // A search that compares byte by byte finds the end of a short line quickly.
         if let Some(last) = input.buffer().iter().position(|byte| *byte == self.end) {
             line.extend_from_slice(&input.buffer()[..=last]);
             input.consume(last + 1);
@@ -181,8 +174,7 @@ impl Run<'_> {
         }
     }
 
-    /// Writes the JSON object of a text that is read. Nanoseconds are strings, since some programs
-    /// drop digits of long numbers.
+    /// Nanoseconds are strings, since some programs drop digits of long numbers.
     fn object(&mut self, text: &str, nanos: u64) -> io::Result<()> {
         self.output.write_all(b"{\"text\":")?;
         serde_json::to_writer(&mut self.output, text)?;
@@ -204,8 +196,7 @@ impl Run<'_> {
         self.put(&fields.each_ref().map(|field| field.as_bytes()))
     }
 
-    /// Cuts a line into what is before the text, the text, and what is after it. The text is the
-    /// whole line, or a field without blanks and quotation marks around it.
+    /// Cuts a line into what is before the text, the text, and what is after it.
     fn cut<'a>(&self, line: &'a [u8]) -> Option<[&'a [u8]; 3]> {
         let Some(number) = self.choices.field else {
             return Some([b"", line, b""]);
@@ -224,7 +215,6 @@ impl Run<'_> {
         Some([&line[..first], &line[first..end], &line[end..]])
     }
 
-    /// Says why a text is refused. If a field is converted, writes the line as it was.
     fn refuse(&mut self, refusal: Refusal, line: [&[u8]; 3], number: u64) -> io::Result<()> {
         self.tell(refusal, line[1], number)?;
         if self.choices.field.is_some() {
@@ -267,9 +257,8 @@ impl Run<'_> {
             .write_all(format!("duration: {what} {number}{field}:{gap}{said}{advice}\n").as_bytes())
     }
 
-    /// Whether the shell has perhaps cut a text at a blank before this argument. If so, the
-    /// argument begins with an operator, as in `3m + 13s`, or with a word whose number is the end
-    /// of the argument before it, as in `5 min`.
+    /// Whether the shell has perhaps cut a text at a blank before this argument, as in `3m + 13s`
+    /// and `5 min`.
     fn is_cut(&self, refusal: &Refusal, number: u64) -> bool {
         let texts = &self.choices.texts;
         let Some(before) = number.checked_sub(2).and_then(|at| texts.get(at as usize)) else {
@@ -282,7 +271,6 @@ impl Run<'_> {
         })
     }
 
-    /// Writes an answer, which is given in several slices, and the end of its line.
     fn put(&mut self, answer: &[&[u8]]) -> io::Result<()> {
         answer
             .iter()

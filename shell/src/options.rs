@@ -13,9 +13,8 @@ use std::ffi::{OsStr, OsString};
 use std::os::unix::ffi::OsStrExt;
 use std::time::Duration;
 
-/// The options that say how to print for people. `--to` is in conflict with them. So if one of them
-/// is given, clap doesn't report that `--decimals` or `--round` lacks the `--to` that it requires.
-/// That is why these two are in conflict with them too.
+/// The options that say how to print for people. If one of them is given, clap doesn't report that
+/// `--decimals` or `--round` lacks its `--to`. So these two are in conflict with them too.
 const SHAPES: [&str; 5] = ["style", "parts", "units", "largest", "smallest"];
 
 /// Read durations such as 1h 30m, and print them for people or as numbers
@@ -102,7 +101,6 @@ pub struct Choices {
     pub completions: Option<Shell>,
 }
 
-/// The units of a list, in the order of the list.
 #[derive(Clone)]
 struct UnitList(Vec<TimeUnit>);
 
@@ -124,7 +122,6 @@ Examples:
   $ duration -d, --field 2 --header --to s <jobs.csv";
 
 impl Choices {
-    /// The choices of the command line, or the text to print instead of answers.
     pub fn of(words: impl Iterator<Item = OsString>) -> Result<Choices, clap::Error> {
         let choices = Choices::try_parse_from(words.map(escape))?;
         if choices.format().units != Units::NONE {
@@ -138,7 +135,6 @@ impl Choices {
         Err(clap::Error::raw(ErrorKind::ArgumentConflict, told))
     }
 
-    /// The options of reading. With another default unit than seconds there are no operators.
     pub fn reading(&self) -> Options {
         Options {
             no_calc: self.from.is_some_and(|unit| unit != TimeUnit::Second),
@@ -147,7 +143,6 @@ impl Choices {
         }
     }
 
-    /// The format for printing to people.
     fn format(&self) -> Format {
         let format = Format::whole()
             .largest(self.largest)
@@ -160,12 +155,10 @@ impl Choices {
         }
     }
 
-    /// The parts that are printed for people, as numbers.
     pub fn breakdown(&self, nanos: u64) -> Breakdown {
         Breakdown::new(&Duration::from_nanos(nanos), self.format())
     }
 
-    /// What is printed for these nanoseconds: a number, or a text that is written to the buffer.
     pub fn printed<'b>(
         &self,
         nanos: u64,
@@ -178,8 +171,7 @@ impl Choices {
     }
 }
 
-/// The nanoseconds as a number of this unit. It has this many decimals, or, if that is `None`, as
-/// many as it needs, up to nine.
+/// Without `decimals` the number has as many as it needs, up to nine.
 pub fn in_unit(nanos: u64, unit: TimeUnit, decimals: Option<u8>, round: Round) -> String {
     let length = unit.nanos();
     let (whole, rest) = (nanos / length, nanos % length);
@@ -202,7 +194,6 @@ pub fn in_unit(nanos: u64, unit: TimeUnit, decimals: Option<u8>, round: Round) -
     number
 }
 
-/// The byte of a text of one byte. A character beyond ASCII has two or more bytes.
 fn one_byte(text: &str) -> Result<u8, &'static str> {
     match text.as_bytes() {
         [byte] => Ok(*byte),
@@ -210,8 +201,7 @@ fn one_byte(text: &str) -> Result<u8, &'static str> {
     }
 }
 
-/// The unit that a word names. For any other word, the error names the unit that the word is near,
-/// if a text would get that help, and otherwise lists the units.
+/// The error of a word such as `mins` has the help that the library gives for `1mins`.
 fn unit(word: &str) -> Result<TimeUnit, String> {
     word.parse().map_err(|unknown: UnknownUnit| {
         let line = parse_duration(&format!("1{word}"))
@@ -224,8 +214,6 @@ fn unit(word: &str) -> Result<TimeUnit, String> {
     })
 }
 
-/// The units that the words between commas name. If a word names no unit, the help says which word
-/// it is.
 fn list_of_units(words: &str) -> Result<UnitList, String> {
     let units = words
         .split(',')
@@ -250,17 +238,14 @@ pub fn completions(shell: Shell) -> String {
     )
 }
 
-/// Makes a script of clap complete lists of units, which clap doesn't know. The script's one word
-/// `LIST` is replaced by code that completes each word of a list.
+/// Replaces the script's word `LIST` by code that completes the last word of a list of units.
 fn with_list(shell: Shell, script: &str) -> String {
     match shell {
         Shell::Fish => {
             let (before, after) = script.split_once("LIST").expect("clap writes the word");
             let (before, _) = before.rsplit_once('"').expect("it is in quotation marks");
             let (_, after) = after.split_once('"').expect("they are two");
-            // The part of the list before the last word is put in front of each word. It is left
-            // out if it has a character that is neither a letter nor a comma. After a tab fish
-            // expects an explanation of the word, which is empty here.
+            // After a tab fish expects an explanation of the word, which is empty here.
             let words = UNITS.join(r"\t,") + r"\t";
             let list = r"(string match -r '^(?:.*=)?\K(?:[\pL,]*,)?' -- (commandline -ct))";
             format!(r#"{before}"{list}{{{words}}}"{after}"#)
@@ -271,10 +256,8 @@ fn with_list(shell: Shell, script: &str) -> String {
         }
         _ => {
             // What was typed must not become a part of the words, since compgen expands them, and
-            // so would run a command that stands in them. The last word is completed, and the part
-            // of the list before it is put in front of each answer. A list with a blank or another
-            // character that is no letter, comma or quotation mark is left alone: bash would write
-            // the answer after the blank.
+            // so would run a command that stands in them. A list with a blank is left alone, since
+            // bash would write the answer after the blank.
             let answer = r#"COMPREPLY=($(compgen -W "LIST" -- "${cur}"))"#;
             let (words, last) = (UNITS.join(" "), r"${cur##*,}");
             let answers = format!(
@@ -288,9 +271,8 @@ fn with_list(shell: Shell, script: &str) -> String {
     }
 }
 
-/// Makes clap's script for bash leave the names of files to bash, which completes them itself if
-/// there is no answer, and quotes them. `compgen -f` gives them as they are, and a name can
-/// contain a command.
+/// Makes clap's script leave the names of files to bash, which quotes them. `compgen -f` gives them
+/// as they are, and a name can contain a command.
 fn without_files(script: &str) -> String {
     script.replace(r#"COMPREPLY=($(compgen -f "${cur}"))"#, "COMPREPLY=()")
 }

@@ -2,8 +2,6 @@
 use crate::lists::{SENTENCES, UNIT_PATTERNS};
 use duration_str::Options;
 
-/// The expression of the texts that the grammar allows under these options. If units are not
-/// required, a number without one counts the default unit.
 pub fn pattern(options: Options, require_unit: bool) -> String {
     let unit = UNIT_PATTERNS[usize::from(options.lowercase) + 2 * usize::from(options.cn_unit)];
     let sentence = SENTENCES[usize::from(options.no_calc) + 2 * usize::from(require_unit)];

@@ -3,7 +3,7 @@ use crate::options::{Choices, Round};
 use duration_str::{Fault, TimeUnit, parse_with_default_unit};
 use serde_json::json;
 
-/// Why a text is refused. A syntax fault also has its place, and the token there.
+/// `place` and `found` are those of a syntax fault.
 #[derive(Default)]
 pub struct Refusal {
     pub message: String,
@@ -20,13 +20,12 @@ impl Refusal {
         }
     }
 
-    /// The first character of the text, if the syntax fault is there.
+    /// The token's first character, if the syntax fault is at the start of the text.
     pub fn first(&self) -> Option<char> {
         let found = self.found.as_ref().filter(|_| self.place == Some(0))?;
         found.chars().next()
     }
 
-    /// The JSON object for the refused text of a line or an argument.
     pub fn json(&self, text: &[u8], what: &str, number: u64) -> String {
         let text = String::from_utf8_lossy(text);
         let column = json!(self.place.map(|place| text[..place].chars().count() + 1));
@@ -52,9 +51,6 @@ impl From<Fault<'_>> for Refusal {
     }
 }
 
-/// Reads a text. A number without a unit counts the unit of --from, or seconds without --from.
-/// With --require-unit it is refused. With any other unit than seconds `+` and `*` are not read.
-/// With --from, a text that is only a number may have a fraction and an exponent.
 pub fn read<'a>(bytes: &'a [u8], choices: &Choices) -> Result<(&'a str, u64), Refusal> {
     let text = std::str::from_utf8(bytes).map_err(|_| Refusal::new("not UTF-8"))?;
     if let Some((number, nanos)) = choices
@@ -76,10 +72,8 @@ pub fn read<'a>(bytes: &'a [u8], choices: &Choices) -> Result<(&'a str, u64), Re
 }
 
 /// If a text is only a number with a fraction or an exponent, such as `12.5`, `.5` or `1.2e-05`,
-/// returns it without the blanks around it, and its value in nanoseconds. (The library reads a
-/// number that has neither.) The number is written without its exponent, and rounded down to 18
-/// decimals. The result is rounded down too. With `Round::Up`, the number and the result are rounded
-/// up.
+/// returns it without the blanks around it, and its value in nanoseconds. The library reads a number
+/// that has neither.
 fn bare_number(text: &str, unit: TimeUnit, round: Round) -> Option<(&str, u128)> {
     let number = text.trim_matches([' ', '\t', '\r', '\n']);
     if !number.contains(['.', 'e', 'E']) {

@@ -1,5 +1,4 @@
-//! Tests the program by running it. Its lines about refused texts are compared with the library's.
-//! tests/duration_model.py tries what it reads and prints, and which options contradict each other.
+//! Tests the program by running it. tests/duration_model.py tries more of what it reads and prints.
 use duration_str::parse_duration;
 use std::ffi::OsStr;
 use std::fs::File;
@@ -10,7 +9,6 @@ use std::process::{Child, Command, Stdio};
 
 const PROGRAM: &str = env!("CARGO_BIN_EXE_duration");
 
-/// The program. If it waits for more input, it is ended after a minute.
 fn program(words: &[&str]) -> Command {
     let mut command = Command::new("timeout");
     command.args(["60", PROGRAM]).args(words);
@@ -26,7 +24,7 @@ fn piped(words: &[&str]) -> Child {
         .unwrap()
 }
 
-/// Runs the program, and returns its status, its output and its standard error.
+/// Returns the status, the output and the standard error.
 fn run(words: &[&str], input: &[u8]) -> (i32, String, String) {
     let mut child = piped(words);
     let (mut stdin, input) = (child.stdin.take().unwrap(), input.to_vec());
@@ -39,14 +37,12 @@ fn run(words: &[&str], input: &[u8]) -> (i32, String, String) {
     (status, text(ended.stdout), text(ended.stderr))
 }
 
-/// Runs the program with arguments of which none is refused, and returns its output.
 fn answer(words: &[&str]) -> String {
     let (status, output, errors) = run(words, b"");
     assert_eq!((status, &*errors), (0, ""), "{words:?}");
     output
 }
 
-/// The library's line for a refused text.
 fn line(text: &str) -> String {
     parse_duration(text).unwrap_err().to_string()
 }
@@ -142,7 +138,7 @@ fn refuses_wrong_usage() {
             "{words:?}: {errors}"
         );
     }
-    // If an option is given twice, the last value counts, so that it can override that of an alias.
+    // An option can override that of an alias.
     assert_eq!(answer(&["--to", "s", "-q", "--to", "ms", "1h", "-q"]), "");
     assert_eq!(answer(&["--to", "s", "--to", "ms", "1h"]), "3600000\n");
     let word = OsStr::from_bytes(b"1h\xff");
@@ -270,8 +266,7 @@ fn tells_of_itself() {
     }
 }
 
-/// What was typed is never run, such as `$(echo)`. Names of files are left to bash, which quotes
-/// them.
+/// Names of files are left to bash, which quotes them.
 #[test]
 fn completes_in_bash() {
     let words = "

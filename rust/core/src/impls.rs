@@ -65,7 +65,7 @@ impl Default for Options {
     }
 }
 
-/// In the proved source, the contract of `next` says that after a `None` no part is left.
+/// After a `None` no part is left.
 impl FusedIterator for Breakdown {}
 
 /// [`Format::whole`].
@@ -240,7 +240,6 @@ mod named {
     use serde::de::{Deserialize, Deserializer, Error, Visitor};
     use serde::ser::{Serialize, Serializer};
 
-    /// Reads the name of a unit or a style, and returns the unit or the style.
     struct Name<T>(PhantomData<T>);
 
     impl<T: FromStr<Err: Display>> Visitor<'_> for Name<T> {

@@ -37,10 +37,8 @@ pub fn duration(input: TokenStream) -> TokenStream {
     value(input).unwrap_or_else(|(message, span)| compile_error(&message, span))
 }
 
-/// What is wrong with the macro's input, and where.
 type Refusal = (String, Span);
 
-/// The code that gives the duration.
 fn value(input: TokenStream) -> Result<TokenStream, Refusal> {
     let mut tokens = input.into_iter();
     let (written, span) = literal(tokens.next())?;
@@ -61,8 +59,7 @@ fn value(input: TokenStream) -> Result<TokenStream, Refusal> {
     )))
 }
 
-/// The literal, as it is written, and where it stands. A literal that another macro passes on can
-/// stand in a group of its own.
+/// A literal that another macro passes on can stand in a group of its own.
 fn literal(token: Option<TokenTree>) -> Result<(String, Span), Refusal> {
     match token {
         Some(TokenTree::Literal(literal)) => Ok((literal.to_string(), literal.span())),
@@ -81,7 +78,6 @@ fn literal(token: Option<TokenTree>) -> Result<(String, Span), Refusal> {
     }
 }
 
-/// The text of a string literal. The literal is in quotes without a backslash, or raw.
 fn text(written: &str) -> Option<&str> {
     let (quoted, is_raw) = match written.strip_prefix('r') {
         Some(raw) => (raw.trim_matches('#'), true),
@@ -91,8 +87,6 @@ fn text(written: &str) -> Option<&str> {
     (is_raw || !text.contains('\\')).then_some(text)
 }
 
-/// The options that are named after the literal, each after a comma, and whether each number must
-/// have its unit.
 fn options(mut tokens: impl Iterator<Item = TokenTree>) -> Result<(Options, bool), Refusal> {
     let (mut options, mut require_unit) = (Options::off(), false);
     while let Some(comma) = tokens.next() {
@@ -116,7 +110,6 @@ fn options(mut tokens: impl Iterator<Item = TokenTree>) -> Result<(Options, bool
     Ok((options, require_unit))
 }
 
-/// The code that makes the compiler report this error at this place.
 fn compile_error(message: &str, span: Span) -> TokenStream {
     let at_span = |mut token: TokenTree| {
         token.set_span(span);

@@ -113,7 +113,6 @@ pub trait HumanText: Sealed + Sized {
         serializer: S,
     ) -> Result<S::Ok, S::Error>;
 
-    /// Reads a field in the way that `HOW` says.
     #[doc(hidden)]
     fn deserialize_human<'de, D: Deserializer<'de>, const HOW: u8>(
         deserializer: D,
@@ -158,16 +157,14 @@ pub fn deserialize<'de, T: HumanText, D: Deserializer<'de>>(
     T::deserialize_human::<D, TEXT>(deserializer)
 }
 
-/// The ways in which a field is read and written. `TEXT` is a text. `REQUIRE_UNIT` is a text in
-/// which each number needs its unit. `SECONDS` is a text or whole seconds. `STRICT` is a text as
-/// humantime reads and prints it. `MILLIS` is a text or whole milliseconds.
+/// The ways in which a field is read and written. `STRICT` is that of the module `humantime`.
 pub(crate) const TEXT: u8 = 0;
 pub(crate) const REQUIRE_UNIT: u8 = 1;
 pub(crate) const SECONDS: u8 = 2;
 pub(crate) const STRICT: u8 = 3;
 pub(crate) const MILLIS: u8 = 4;
 
-/// The unit of a number that is not a text, or `None` if such a number is refused.
+/// If this is `None`, a number that is not a text is refused.
 const fn unit_of_numbers(how: u8) -> Option<TimeUnit> {
     match how {
         SECONDS => Some(TimeUnit::Second),
@@ -177,11 +174,9 @@ const fn unit_of_numbers(how: u8) -> Option<TimeUnit> {
 }
 
 /// If the feature `arbitrary_precision` of serde_json is on, a number that is no integer of 64 bits
-/// comes as a map from this key to the number's text.
+/// can come as a map from this key to the number's text.
 const NUMBER_KEY: &str = "$serde_json::private::Number";
 
-/// The text beside this key, or `None` for a map with another key or with more than one, and for a
-/// map that can't be read.
 fn text_of_number<'de, A: MapAccess<'de>>(mut map: A) -> Option<String> {
     if map.next_key::<String>().ok()?? != NUMBER_KEY {
         return None;
@@ -191,8 +186,6 @@ fn text_of_number<'de, A: MapAccess<'de>>(mut map: A) -> Option<String> {
     next_key.is_none().then_some(text)
 }
 
-/// Reads a text, or its bytes, as a duration. If `HOW` is `SECONDS` or `MILLIS`, it also reads a
-/// whole number, which may be a float.
 struct Text<T, const HOW: u8>(PhantomData<T>);
 
 impl<'de, T: Length, const HOW: u8> Visitor<'de> for Text<T, HOW> {
@@ -265,7 +258,7 @@ impl<'de, T: Length, const HOW: u8> Visitor<'de> for Text<T, HOW> {
             }
             _ => parse_with(text, ADDITIONS),
         };
-        // The message begins with what it is about, since the format adds its own line and column.
+        // The message begins with what it is about, since a format can add its line and column.
         read.map(T::of_std)
             .map_err(|fault| E::custom(format_args!("invalid duration: {fault}")))
     }
@@ -284,7 +277,7 @@ impl<'de, T: Length, const HOW: u8> Visitor<'de> for Text<T, HOW> {
         }
         match text.parse::<f64>() {
             Ok(number) if number.is_finite() => self.visit_f64(number),
-            // Without the feature these are serde_json's words.
+            // serde_json has these words, too.
             Ok(_) => Err(de::Error::custom("number out of range")),
             Err(_) => Err(de::Error::invalid_type(Unexpected::Map, &self)),
         }
@@ -292,8 +285,7 @@ impl<'de, T: Length, const HOW: u8> Visitor<'de> for Text<T, HOW> {
 }
 
 impl<T: Length, const HOW: u8> Text<T, HOW> {
-    /// Reads a float of a type that holds this many binary digits. The float must be whole, not
-    /// negative and below 2 to the power of `digits`. From there on it can have lost digits.
+    /// The float must be below 2 to the power of `digits`. From there on it can have lost digits.
     fn visit_whole<E: de::Error>(self, number: f64, digits: u32) -> Result<T, E> {
         if unit_of_numbers(HOW).is_none() {
             return Err(E::invalid_type(Unexpected::Float(number), &self));

@@ -17,16 +17,13 @@ pub trait DeserializeDuration<'de>: Sealed + Sized {
     fn deserialize_duration<D: Deserializer<'de>>(deserializer: D) -> Result<Self, D::Error>;
 }
 
-/// The types of durations that are read from a text.
 pub trait Length: Sealed + Sized {
-    /// Makes a duration of this type from the value of a text.
     fn of_std(length: Duration) -> Self;
 
-    /// Returns the duration of `std`, or `None` if this duration is negative.
+    /// Returns `None` if the duration is negative.
     fn to_std(&self) -> Option<Duration>;
 }
 
-/// Reads a text as a duration, and refuses any other value.
 struct Required<T>(PhantomData<T>);
 
 impl<T: Length> Visitor<'_> for Required<T> {
@@ -41,7 +38,6 @@ impl<T: Length> Visitor<'_> for Required<T> {
     }
 }
 
-/// Reads a text or its bytes as a duration, and null and the empty text as `None`.
 struct Optional<T>(PhantomData<T>);
 
 impl<'de, T: Length> Visitor<'de> for Optional<T> {
@@ -122,8 +118,6 @@ where
     T::deserialize_duration(deserializer)
 }
 
-/// Implements the traits for a type and its `Option`, and makes the function that reads only the
-/// `Option`.
 macro_rules! deserializes {
     ($length:ty, $of_std:path, $to_std:expr, $option_name:ident) => {
         impl Length for $length {

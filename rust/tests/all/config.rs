@@ -1,11 +1,9 @@
-//! Durations in structs that serde reads.
 use duration_str::{DeserializeDuration, deserialize_duration};
 use serde::Deserialize;
 use serde_json::{Value, from_value, json};
 use std::fmt::Debug;
 use std::time::Duration;
 
-/// A struct with a required and an optional duration, which `serde_json` reads.
 #[derive(Debug, Deserialize, PartialEq)]
 #[serde(bound = "T: DeserializeDuration<'de>, Option<T>: DeserializeDuration<'de>")]
 struct Settings<T> {
@@ -15,8 +13,6 @@ struct Settings<T> {
     keep_alive: Option<T>,
 }
 
-/// Reads settings from this value and from its text, checks that the answers agree, and returns
-/// that for the value.
 fn settings<T>(value: Value) -> Result<Settings<T>, String>
 where
     T: for<'de> DeserializeDuration<'de> + Debug + PartialEq,
@@ -25,7 +21,7 @@ where
     let text = value.to_string();
     let of_text = serde_json::from_str(&text).map_err(|error| error.to_string());
     let of_value = from_value(value).map_err(|error| error.to_string());
-    // If the settings are read from a text, the error's message ends with the place in it.
+    // If the settings are read from a text, the error's message can end with the place in it.
     assert!(
         of_text == of_value
             || of_text
@@ -37,8 +33,7 @@ where
     of_value
 }
 
-/// Checks what each row is read as, for a type of durations. `length` makes a duration of this type
-/// from seconds.
+/// `length` makes a duration from seconds.
 fn reads_settings<T>(length: impl Fn(u64) -> T)
 where
     T: for<'de> DeserializeDuration<'de> + Debug + PartialEq,
@@ -117,8 +112,7 @@ fn reads_durations_of_time() {
     reads_settings(|secs| time::Duration::seconds(secs as i64));
 }
 
-/// A struct within another. For it serde keeps the values first, and passes them on by other calls
-/// than a format does.
+/// With `flatten`, serde keeps the values until the inner struct reads them.
 #[derive(Debug, Deserialize, PartialEq)]
 struct Job {
     name: String,

@@ -8,7 +8,6 @@ use proptest::prelude::*;
 
 const SECOND: i128 = 1_000_000_000;
 
-/// The moment this many nanoseconds after 1970, if chrono can represent it.
 fn after_1970(nanos: i128) -> Result<NaiveDateTime, Cause> {
     let secs = nanos.div_euclid(SECOND) as i64;
     let moment = Utc
@@ -23,7 +22,7 @@ fn moment(secs: i64, nanos: u32) -> NaiveDateTime {
     Utc.timestamp_opt(secs, nanos).unwrap().naive_utc()
 }
 
-/// Seconds since 1970, most of them near the first or the last moment that chrono can represent.
+/// Seconds since 1970. Many are near the first or the last moment that chrono can represent.
 fn secs() -> impl Strategy<Value = i64> {
     let [first, last] = [NaiveDateTime::MIN, NaiveDateTime::MAX]
         .map(|moment| Utc.from_utc_datetime(&moment).timestamp());
@@ -60,7 +59,6 @@ fn refuses_moments_beyond() {
     );
     let fault = moment_before(NaiveDateTime::MIN, "1ns", Options::off()).unwrap_err();
     assert_eq!(fault.cause(), Cause::OutOfRange);
-    // The text's own fault comes first.
     let fault = moment_after(NaiveDateTime::MAX, "1x", Options::off()).unwrap_err();
     assert_eq!(fault.place(), Some(1));
 }

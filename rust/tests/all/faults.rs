@@ -1,4 +1,3 @@
-//! Texts that are refused, and what their faults say.
 use crate::{FEATURES, Refused, by_usual_calls, default_unit_of, options_of, vectors};
 use duration_str::{
     Cause, DError, Expected, Fault, Options, TimeUnit, parse, parse_require_unit, parse_with,
@@ -8,7 +7,6 @@ use duration_str_core as proved;
 use std::error::Error;
 use std::fmt::Display;
 
-/// The message for a refused text, by the proved source itself.
 fn message(text: &str, options: Options) -> String {
     proved::parse_with(text, options)
         .expect_err(text)
@@ -19,7 +17,7 @@ fn fault(text: &str, options: Options) -> Fault<'_> {
     parse_with(text, options).expect_err(text)
 }
 
-/// The last line of the message for this cause, if these kinds could stand at the place.
+/// `kinds` could stand at the fault's place.
 fn last_line(cause: &str, kinds: &[String]) -> &'static str {
     match cause {
         "EMPTY" => "Empty input",
@@ -34,7 +32,6 @@ fn last_line(cause: &str, kinds: &[String]) -> &'static str {
 const UNITS: &str =
     r#"expected ["y", "q", "mon", "w", "d", "h", "m", "s", "ms", "µs", "us", "ns"]"#;
 
-/// Checks that a text is refused with this message of `duration-str` 0.19.0.
 fn checks_message(text: &str, options: Options, place: Option<usize>, line: &str) {
     let wanted = match place {
         None => line.to_string(),

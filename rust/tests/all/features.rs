@@ -4,7 +4,6 @@ use duration_str::{
 };
 
 /// Texts, whether the calls of `duration-str` 0.19.0 read them, and whether `parse_duration` does.
-/// Only the feature `cn_unit`, which adds names, affects `parse_duration`.
 const TEXTS: [(&str, bool, bool); 4] = [
     ("1m", true, true),
     ("1m+1", cfg!(not(feature = "no_calc")), true),

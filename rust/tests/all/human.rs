@@ -36,7 +36,6 @@ fn writes_what_it_reads() {
     assert_eq!(short.keep_alive, None);
 }
 
-/// Settings in which capitals and small letters differ.
 #[derive(Serialize, Deserialize)]
 struct FromHumantime {
     #[serde(with = "humantime_serde")]
@@ -162,8 +161,6 @@ impl<'de> Deserializer<'de> for Untyped {
     }
 }
 
-/// Reads a text by the module `human`, as an `Option` too, and as a `HumanDuration`, and checks
-/// that all agree.
 fn read<D: Deserializer<'static, Error = Error>>(text: impl Fn() -> D) -> Result<Duration, String> {
     let required: Result<Duration, Error> = human::deserialize(text());
     let optional: Result<Option<Duration>, Error> = human::deserialize(text());
@@ -201,7 +198,6 @@ fn reads_bytes_as_text() {
     assert_eq!(bytes(b"1m\xff"), Err(Error::custom(refusal)));
 }
 
-/// Checks that the value is written as `written`, and read back from it.
 fn keeps<T: HumanText + std::fmt::Debug + PartialEq>(value: T, written: Value) {
     assert_eq!(human::serialize(&value, Serializer).unwrap(), written);
     assert_eq!(human::deserialize::<T, _>(written).unwrap(), value);
@@ -258,7 +254,6 @@ fn writes_nothing_that_it_refuses() {
     );
 }
 
-/// Settings in which each number must have its unit.
 #[derive(Debug, Serialize, Deserialize, PartialEq)]
 struct RequireUnit {
     #[serde(with = "duration_str::human_require_unit")]
@@ -292,7 +287,6 @@ fn requires_units_in_fields() {
             (write the number's unit: y, q, mon, w, d, h, min, s, ms, us or ns)";
         assert_eq!(refusal, line);
     }
-    // The format is asked for a text, so YAML's number 90 is read as a text without a unit.
     let number: Result<Duration, _> = human_require_unit::deserialize(Untyped("90"));
     assert!(number.is_err());
     assert!(human_require_unit::deserialize::<Duration, _>(json!(90)).is_err());

@@ -1,5 +1,5 @@
-//! Uses every item of humantime 2.1 for durations and each of their traits, except the variants of
-//! its error. The example `service` compiles this file with humantime too.
+//! Uses humantime's items for durations, and their traits. The example `service` compiles this file
+//! with humantime too.
 use crate::humantime::{
     Duration, DurationError, FormattedDuration, format_duration, parse_duration,
 };
@@ -7,7 +7,6 @@ use std::collections::HashSet;
 use std::error::Error;
 use std::time::Duration as StdDuration;
 
-/// Checks that an error can be shared between threads.
 fn is_shared(_: &(dyn Error + Send + Sync + 'static)) {}
 
 #[test]

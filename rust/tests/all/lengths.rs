@@ -1,5 +1,4 @@
-//! What the module `humantime` reads: by which options, names and lengths of years and months. The
-//! reader is proved, and the example `service` compares it with humantime.
+//! What the module `humantime` reads. The example `service` compares it with humantime.
 use duration_str::{Cause, humantime::parse_duration};
 use std::time::Duration;
 

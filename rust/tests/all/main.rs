@@ -25,7 +25,6 @@ fn has(names: &[String], name: &str) -> bool {
     names.iter().any(|each| each == name)
 }
 
-/// The options in which those with these names are on.
 fn options_of(names: &[String]) -> Options {
     Options {
         no_calc: has(names, "no_calc"),
@@ -34,8 +33,6 @@ fn options_of(names: &[String]) -> Options {
     }
 }
 
-/// The default unit under the options with these names. It is the second, unless one of them names
-/// another unit or requires units.
 fn default_unit_of(names: &[String]) -> Option<TimeUnit> {
     if has(names, "require_unit") {
         return None;
@@ -56,14 +53,14 @@ fn choices() -> Vec<Vec<String>> {
     })
 }
 
-/// The options that the features turn on, under which the calls of `duration-str` 0.19.0 read.
+/// The calls of `duration-str` 0.19.0 read under these options.
 const FEATURES: Options = Options {
     no_calc: cfg!(feature = "no_calc"),
     lowercase: cfg!(feature = "lowercase"),
     cn_unit: cfg!(feature = "cn_unit"),
 };
 
-/// The options of `parse_duration`. Only the feature `cn_unit`, which adds names, affects them.
+/// The options of `parse_duration`.
 const ADDITIONS: Options = Options {
     cn_unit: cfg!(feature = "cn_unit"),
     ..Options::off()
@@ -88,24 +85,20 @@ fn by_usual_calls(
     }
 }
 
-/// The file `vectors.json`, which the tests of all packages read. It has texts with their values,
-/// texts that are refused, and durations with their printed texts.
+/// The file `vectors.json`.
 #[derive(Deserialize)]
 struct Vectors {
-    /// The names of the options. Every choice of them is tried. A row may also name `require_unit`
-    /// or a default unit, such as `default_unit=ms`.
+    /// A row may also name `require_unit` or a default unit, such as `default_unit=ms`.
     options: Vec<String>,
     values: Vec<Group>,
     /// Numbers that are not texts: a default unit, a number, and its seconds and nanoseconds.
     numbers: Vec<(String, u64, u64, u32)>,
-    /// Such numbers that are refused, each with the line for its digits.
+    /// A default unit, a number that is refused, and the line for its digits as a text.
     refused_numbers: Vec<(String, serde_json::Value, String)>,
-    /// The names of the styles.
     styles: Vec<String>,
     printed: Vec<Printed>,
     /// Rows for which no unit or no part is left.
     printed_as_zero: Vec<Printed>,
-    /// Texts that are refused, with everything that their faults say.
     refused: Vec<Refused>,
 }
 
@@ -138,7 +131,7 @@ struct Refused(
 #[derive(Deserialize)]
 struct Printed(String, Limits, String, String, u64, u32);
 
-/// The units and the greatest number of parts. What is left out limits nothing.
+/// A field that is left out limits nothing.
 #[derive(Deserialize)]
 struct Limits {
     units: Option<Vec<String>>,

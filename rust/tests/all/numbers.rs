@@ -12,7 +12,6 @@ use serde::de::value::{
 use serde_json::{Value, json, value::Serializer};
 use std::time::Duration;
 
-/// Reads a value of a format as a text or as whole seconds.
 fn with_numbers<'de, D: Deserializer<'de, Error = Error>>(value: D) -> Result<Duration, String> {
     human_or_seconds::deserialize(value).map_err(|error| error.to_string())
 }
@@ -38,7 +37,6 @@ fn reads_whole_seconds_and_texts() {
     );
 }
 
-/// Reads a value of a format as a text or as whole milliseconds.
 fn in_millis<'de, D: Deserializer<'de, Error = Error>>(value: D) -> Result<Duration, String> {
     human_or_millis::deserialize(value).map_err(|error| error.to_string())
 }
@@ -119,15 +117,13 @@ fn refuses_other_floats() {
         is_refused(in_millis(F64Deserializer::new(number)));
     }
     is_refused(in_millis(F32Deserializer::new(16_777_216.0)));
-    // No unit is named here, so no number is read.
     assert!(human::deserialize::<Duration, _>(json!(60.0)).is_err());
     assert!(human_require_unit::deserialize::<Duration, _>(json!(60.0)).is_err());
     let number = F64Deserializer::<Error>::new(60.0);
     assert!(human::deserialize::<Duration, _>(number).is_err());
 }
 
-/// Reads a value as a number of this unit, or as a text in which it is the default unit. There are
-/// modules for seconds and milliseconds.
+/// Only seconds and milliseconds have a module that reads numbers.
 fn by_module(unit: &str, value: Value) -> Option<Result<Duration, serde_json::Error>> {
     match unit {
         "s" => Some(human_or_seconds::deserialize(value)),

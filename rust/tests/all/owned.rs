@@ -1,4 +1,3 @@
-//! Tests errors that own their text, and sets of faults.
 use crate::{choices, options_of};
 use duration_str::{Cause, DError, DurationError, Options, TimeUnit, parse_with};
 use duration_str_core::{self as proved, Tokens};
@@ -73,5 +72,4 @@ fn keeps_faults_in_sets() {
     assert_eq!(HashSet::from(bare).len(), 2);
 }
 
-// These can be called in a constant.
 const _: () = assert!(TimeUnit::Minute.nanos() == 60_000_000_000 && Cause::Empty.place().is_none());

@@ -1,4 +1,3 @@
-//! Printed durations.
 use crate::{Limits, Printed, vectors};
 use duration_str::{
     Format, FormattedDuration, HumanDuration, HumanFormat, Options, Style, TimeUnit,
@@ -9,7 +8,7 @@ use proptest::prelude::*;
 use std::iter::FusedIterator;
 use std::time::Duration;
 
-/// The duration that this text stands for, also if it is too long to be read by the crate.
+/// A duration in the form `1 s 1 ns` can be too long for the crate to read.
 fn length_of(text: &str) -> Duration {
     let numbers = text
         .strip_suffix(" ns")
@@ -25,7 +24,7 @@ fn unit(name: &str) -> TimeUnit {
 }
 
 impl Limits {
-    /// The units, the largest and the smallest one, and the greatest number of parts.
+    /// The units, the largest, the smallest, and the greatest number of parts.
     fn all(&self) -> (Vec<TimeUnit>, TimeUnit, TimeUnit, usize) {
         let units = match &self.units {
             Some(names) => names.iter().map(|name| unit(name)).collect(),
@@ -38,7 +37,6 @@ impl Limits {
     }
 }
 
-/// A duration in this style, within limits that are set in several orders.
 fn in_each_order(length: Duration, limits: &Limits, style: Style) -> [FormattedDuration; 3] {
     let (units, first, last, parts) = limits.all();
     let human = HumanDuration(length);
@@ -53,8 +51,6 @@ fn in_each_order(length: Duration, limits: &Limits, style: Style) -> [FormattedD
     ]
 }
 
-/// Except for a zero, a short text is its parts with blanks between them. So it also says which
-/// parts there are.
 #[test]
 fn prints_the_vectors_and_breaks_them_down() {
     let vectors = vectors();
@@ -110,7 +106,6 @@ fn bounds_the_number_of_parts() {
     }
 }
 
-/// After its last part a breakdown returns `None` each time, and its type says so.
 #[test]
 fn returns_no_part_after_the_last_one() {
     fn is_ended(mut parts: impl FusedIterator<Item = (TimeUnit, u128)>) -> bool {
@@ -123,8 +118,6 @@ fn returns_no_part_after_the_last_one() {
     }
 }
 
-/// Each call takes units out of the set. So the order of the calls doesn't matter, and none of them
-/// brings a unit back.
 #[test]
 fn takes_units_out_in_any_order() {
     const USUAL: FormattedDuration = format_duration(Duration::from_secs(500 * 86_400 + 3_661))
@@ -188,7 +181,7 @@ fn pads_and_ignores_a_precision() {
     );
 }
 
-/// Checks how minus 5401 seconds print: padded, in a unit and in a style.
+/// `length` is minus 5,401 seconds.
 #[cfg(any(feature = "chrono", feature = "time"))]
 fn prints_negative(length: impl HumanFormat) {
     let printed = length.formatted();

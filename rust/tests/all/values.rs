@@ -1,4 +1,3 @@
-//! Texts that are read, and their values.
 use crate::{FEATURES, Group, by_usual_calls, choices, default_unit_of, has, options_of, vectors};
 use duration_str::{
     Fault, Options, TimeUnit, parse, parse_in, parse_std, parse_with, parse_with_default_unit,
@@ -6,7 +5,6 @@ use duration_str::{
 use duration_str_core as proved;
 use std::time::Duration;
 
-/// What the calls of `duration-str` 0.19.0 return for a text.
 fn answers(text: &str) -> Vec<Result<Duration, String>> {
     Vec::from([
         parse(text),
@@ -20,8 +18,6 @@ fn answers(text: &str) -> Vec<Result<Duration, String>> {
     ])
 }
 
-/// Checks that under these options each text of the group is read as its row's value, or is
-/// refused.
 fn check(group: &Group, options: Options, is_read: bool) {
     let default_unit = default_unit_of(&group.on);
     for (secs, nanos, texts) in &group.rows {
@@ -43,9 +39,6 @@ fn check(group: &Group, options: Options, is_read: bool) {
     }
 }
 
-/// Checks a text in which a number without a unit counts seconds. `parse_with` must return what
-/// `parse_with_default_unit` returns for the second. The calls of `duration-str` 0.19.0 must return
-/// what `parse_with` of the core returns under the features' options.
 fn check_seconds(text: &str, options: Options) {
     let wanted = parse_with_default_unit(text, options, Some(TimeUnit::Second));
     assert_eq!(parse_with(text, options), wanted, "{text:?}");
@@ -74,8 +67,6 @@ fn reads_the_vectors_and_refuses_them_under_the_other_options() {
     }
 }
 
-/// Reads the numbers as texts. The module `numbers` reads those in seconds and in milliseconds as
-/// numbers, by serde.
 #[test]
 fn reads_the_digits_of_numbers_in_another_unit() {
     for (unit, number, secs, nanos) in vectors().numbers {
@@ -88,7 +79,6 @@ fn reads_the_digits_of_numbers_in_another_unit() {
     }
 }
 
-/// The macro `duration!`.
 #[cfg(feature = "macros")]
 mod macros {
     use duration_str::duration;

@@ -8,7 +8,7 @@ fn main() -> Result<(), Box<dyn Error + Send + Sync>> {
     service::main()
 }
 
-/// Stands in for the crate humantime-serde, which Debian does not have.
+/// Stands in for the crate humantime-serde.
 mod humantime_serde {
     use crate::humantime::{format_duration, parse_duration};
     use serde::{Deserialize, Deserializer, Serializer, de::Error};

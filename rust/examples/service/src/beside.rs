@@ -1,12 +1,10 @@
-//! Compares what is read and printed before the move to this crate with what is read and printed
-//! after it.
+//! Compares humantime with the module `humantime` of this crate.
 use duration_str::humantime as after;
 use duration_str::humantime_serde;
 use humantime as before;
 use serde::{Deserialize, Serialize};
 use std::time::Duration;
 
-/// Numbers that look random, and are the same in each run.
 struct Numbers(u64);
 
 impl Numbers {
@@ -21,7 +19,7 @@ impl Numbers {
         (self.next() % limit as u64) as usize
     }
 
-    /// A number with a random count of digits, so that short numbers are not rare.
+    /// Short numbers are not rare among these.
     fn any(&mut self) -> u64 {
         self.next() >> self.below(64)
     }
@@ -106,7 +104,7 @@ fn prints_what_was_printed_and_reads_it() {
             serde_json::to_value(&stored).unwrap(),
             serde_json::json!({ "length": is })
         );
-        // This duration can be too long to be read by this crate.
+        // `long` can be too long for this crate to read.
         let long = Duration::new(numbers.any(), 999_999_999);
         let was = before::format_duration(long).to_string();
         assert_eq!(after::format_duration(long).to_string(), was);

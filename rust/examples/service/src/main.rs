@@ -19,7 +19,6 @@ mod tests {
     use crate::service::{Arguments, settings};
     use clap::Parser;
 
-    /// Returns what the program prints for these arguments and this configuration, or why it fails.
     fn output(arguments: &[&str], config: &str) -> Result<String, String> {
         let name = (std::process::id(), std::thread::current().id());
         let file = std::env::temp_dir().join(format!("service-{name:?}"));

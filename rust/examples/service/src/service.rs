@@ -34,7 +34,6 @@ struct Config {
     idle: Option<Duration>,
 }
 
-/// Returns the text of the settings, and how long three attempts take at most.
 pub fn settings(arguments: &Arguments) -> Result<String, Box<dyn Error + Send + Sync>> {
     let mut config: Config = serde_json::from_str(&std::fs::read_to_string(&arguments.config)?)?;
     config.timeout = arguments.timeout.unwrap_or(config.timeout);
@@ -64,8 +63,7 @@ mod humantime_items;
 mod tests {
     use super::{Arguments, Parser};
 
-    /// Timeouts, with the seconds that each is before and after the move to this crate. 0 stands
-    /// for a text that is refused.
+    /// Timeouts and their seconds. 0 stands for a text that is refused.
     const TIMEOUTS: [(&str, u64); 10] = [
         ("1h 30m", 5_400),
         ("2weeks 3days", 1_468_800),
