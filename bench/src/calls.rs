@@ -7,7 +7,7 @@
 //!   buffer.
 //! - `calls SIDE print NANOS COUNT`, `calls crate parts PARTS NANOS COUNT`: prints a duration into
 //!   a buffer, whole and in at most PARTS parts.
-//! - `calls SIDE units COUNT`: reads the same text, with units required.
+//! - `calls SIDE units COUNT`: reads `3m 13s 29ms`, with units required.
 //! - `calls SIDE millis TEXT COUNT`: reads a text whose numbers without a unit count milliseconds.
 //! - `calls crate as-humantime TEXT COUNT`, `calls crate print-as-humantime NANOS COUNT`: reads a
 //!   text, and prints a duration into a `String`, by the module `humantime`.

@@ -18,8 +18,7 @@ const UNITS: [(&str, u64); 10] = [
     ("ns nsec", 999),
 ];
 
-/// A thousand expressions of one to five terms. A linear congruential generator makes them, so they
-/// are the same in every run.
+/// A linear congruential generator makes the expressions, so they are the same in every run.
 pub fn expressions() -> Vec<String> {
     let mut state: u64 = 19;
     let mut below = move |bound: u64| {
@@ -66,7 +65,6 @@ pub fn long_text(bytes: usize) -> String {
     text
 }
 
-/// The text that is refused for the cause of this name.
 pub fn refusal(name: &str) -> String {
     let text = match name {
         "empty" => "",
