@@ -28,7 +28,7 @@ COMMENT = r"^\s*(//|# |/?\*+ )"
 
 
 def git(*words):
-    """Returns nothing if git fails, such as for a commit that the clone lacks."""
+    """Returns an empty str if git fails, such as for a commit that the clone lacks."""
     return subprocess.run(["git", *words], cwd=TOP, capture_output=True, text=True).stdout
 
 

@@ -1,4 +1,4 @@
-"""How much larger a program gets by this library, for bench/run."""
+"""How much larger a program gets by a library, for bench/run"""
 import os
 import pathlib
 import tempfile

@@ -1,6 +1,6 @@
 """Builds the extension module with the library for C. The library is the archive that
 DURATION_STR_LIB names, or otherwise one that cargo builds. The build runs in a temporary folder. In
-a clone, the licences are copied beside this file."""
+a clone, the licences are copied beside this file if it can be written there."""
 
 import atexit
 import contextlib
@@ -49,7 +49,7 @@ def copy_crates(folder):
 
 
 def by_cargo(room):
-    """It builds a copy of the sources, since cargo writes beside them."""
+    """cargo builds a copy of the sources, since it writes beside them."""
     demand(
         shutil.which("cargo"),
         "Rust 1.85 or later, with cargo on the path; or name the library in DURATION_STR_LIB",

@@ -4,8 +4,8 @@
 //!
 //! - `bench expressions`: prints the 1,000 expressions of `texts.rs`, one on each line.
 //! - `bench times`: prints the nanoseconds of a call over the expressions, in a line with WHAT,
-//!   OURS and THEIRS for reading and for each way to print. In all such lines tabs separate the
-//!   words.
+//!   OURS and THEIRS for reading and for each way to print. In such lines tabs separate the
+//!   columns.
 //! - `bench styles`: prints a line for each of some formats: its name, and the nanoseconds that
 //!   printing takes for values below a day and for all values.
 //! - `bench peer human_format` or `to_string`: prints the figures that `bench/peers` needs, for the

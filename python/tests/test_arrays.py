@@ -1,4 +1,4 @@
-"""Tests columns of NumPy and pandas, or, without NumPy or pandas, the error that says so."""
+"""Tests columns of NumPy and pandas."""
 
 import datetime
 import decimal

@@ -1,4 +1,4 @@
-"""Tests the examples in the documentation."""
+"""Tests the documentation."""
 
 import doctest
 import importlib.metadata

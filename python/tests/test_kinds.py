@@ -23,7 +23,7 @@ READ = {"object", "float64", "Float64", "double", "str", "str32", "string", "Str
 READ |= {"large_string", "string_view"}
 READ |= {f"{kind}{bits}" for kind in ("int", "uint", "Int", "UInt") for bits in (8, 16, 32, 64)}
 READ |= {f"format '{order}{code}'" for order in ("", "<", ">") for code in "bBhHiIlLqQnNduwOZ"}
-# Only to_timedelta reads these types. Each has the nanoseconds of a 1.
+# The types that only to_timedelta reads, each with the nanoseconds of a 1
 UNITS = {"W": 604_800 * 10**9, "D": 86_400 * 10**9, "h": 3_600 * 10**9, "m": 60 * 10**9}
 UNITS |= {"s": 10**9, "ms": 10**6, "us": 10**3, "ns": 1}
 LENGTHS = {f"timedelta64[{unit}]": nanos for unit, nanos in UNITS.items()}
@@ -35,7 +35,8 @@ IMPOSSIBLE += (Warning,)
 
 
 def first(make, *choices):
-    """Returns what is made of the first choice for which `make` raises no such error, or None."""
+    """Returns what is made of the first choice for which `make` raises none of IMPOSSIBLE. If there
+    is none, returns None."""
     for choice in choices:
         try:
             return make(choice)

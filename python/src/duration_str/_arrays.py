@@ -44,8 +44,7 @@ def _missing_in(values: Any) -> Any:
 
 
 def _flat(values: Any, name: str) -> list[Any]:
-    """`name` is that of the values' type. A masked value becomes None. If the type is not read, the
-    list has stand-ins."""
+    """`name` is that of the values' type. If the type is not read, the list has stand-ins."""
     import numpy
 
     pandas = sys.modules.get("pandas")
@@ -70,7 +69,6 @@ def _flat(values: Any, name: str) -> list[Any]:
 
 
 def _lengths(values: Any) -> Any:
-    """A masked value becomes NaT."""
     import numpy
 
     is_masked = isinstance(values, numpy.ma.MaskedArray)
@@ -108,7 +106,6 @@ def _nanos_of_value(value: Any, index: int, raises: bool, takes_numbers: bool) -
 
 
 def _nanos_of_lengths(values: Any, lengths: Any, raises: bool) -> Any:
-    """Returns a column of timedelta64[ns]. A column that has that type already keeps its values."""
     import numpy
 
     if lengths.dtype == numpy.dtype("timedelta64[ns]"):
@@ -247,11 +244,11 @@ def format_many(
     int of nanoseconds or a timedelta. The options are those of `format`.
 
     For a list or a generator it returns a list of str. For a Series, an Index
-    or a NumPy array it returns the same kind of column, with the dtype
-    `object` and the same shape, index and name. (A masked array, and an array
-    of pandas, become plain ones of NumPy.) Such a column may also have the
-    type timedelta64, in units from weeks to nanoseconds. Missing values, such
-    as None, NaN and NaT, become None.
+    or a NumPy array it returns the same kind of column, with the same shape,
+    index and name. (A masked array, and an array of pandas, become plain ones
+    of NumPy.) Such a column may also have the type timedelta64, in units from
+    weeks to nanoseconds. Missing values, such as None, NaN and NaT, become
+    None.
 
     It raises the errors of `format`. The error of a value says the value's
     position.

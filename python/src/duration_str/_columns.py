@@ -1,4 +1,4 @@
-"""Columns of texts, each read by one call."""
+"""Columns of texts"""
 
 from __future__ import annotations
 
@@ -69,7 +69,7 @@ def stand_in(name: str) -> Any | None:
 
 def values_of(texts: Any, name: str) -> list[Any]:
     """`name` is that of the values' type. If the type is not read, a stand-in takes the place of
-    each value. Raises TypeError for a single text, and for other than one dimension."""
+    each value. Raises TypeError for a single text, and for an array of other than one dimension."""
     if isinstance(texts, (str, bytes, bytearray)):
         raise TypeError(f"the texts must be a sequence of str, not one {type(texts).__name__}")
     if getattr(texts, "ndim", 1) != 1:

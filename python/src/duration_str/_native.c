@@ -78,7 +78,7 @@ struct datetime_calls {
     PyObject *(*timedelta)(int days, int seconds, int micros, int normalizes, PyTypeObject *type);
 };
 #define KNOWN_DATETIME (Py_Version < 0x030e0000)
-/* Where the type timedelta is among its types */
+/* The place of timedelta in `types` */
 #define TIMEDELTA_TYPE 3
 
 struct state {
@@ -86,7 +86,7 @@ struct state {
     const struct datetime_calls *datetime; /* NULL if the structure isn't known */
 };
 
-/* What the keywords of a call say about how values are read. */
+/* The options that a call names */
 struct said {
     uint32_t on;      /* the flags that are on */
     uint32_t off;     /* the flags that are off, except one whose value is UNSAID */
@@ -423,7 +423,7 @@ static int take_units(struct state *state, PyObject *value, uint32_t *units) {
     PyObject *names = PyUnicode_Check(value) ? NULL : PyObject_GetIter(value), *name;
     if (!names) {
         /* An error of the value's own __iter__ passes through, except a TypeError, which Python
-         * also raises if there is no __iter__. */
+         * also raises if a value can't be iterated. */
         if (!PyErr_Occurred() || PyErr_ExceptionMatches(PyExc_TypeError))
             PyErr_Format(PyExc_TypeError, "units must be a list of units, not %R", value);
         return -1;

@@ -1,6 +1,5 @@
-"""The errors that say why and where a text is refused, the parts of a duration, and its
-nanoseconds.
-"""
+"""The errors that say why and where a text is refused, the parts of a duration, and durations as
+nanoseconds"""
 
 from __future__ import annotations
 
@@ -94,7 +93,7 @@ _EXPECTED = [Expected(bits) for bits in range(16)]
 class DurationError(ValueError):
     """A text is refused. `str(error)` is one line for people: it says what is
     wrong, for a syntax fault also where, and often what to write. For a text
-    of a column, the line begins with the text's index.
+    of a column, the line begins with the index, such as `at index 1`.
 
     >>> try:
     ...     duration_str.parse("3h 2 mins")
