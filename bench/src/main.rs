@@ -74,8 +74,8 @@ impl Library for Humantime {
     }
 }
 
-/// The sides take turns, since the machine's speed may change, and the rounds are short, so that
-/// some run undisturbed. The least of them counts.
+/// The sides take turns, since the machine's speed may change. The rounds are short, so that some
+/// run undisturbed.
 fn nanos_a_call<const SIDES: usize>(calls: usize, sides: [&dyn Fn(); SIDES]) -> [f64; SIDES] {
     const ROUNDS: usize = 2_500;
     let mut least = [f64::INFINITY; SIDES];

@@ -41,7 +41,7 @@ LENGTHS = {unit: parse_ns(f"1{unit}") for unit in UNITS}
 
 
 def check_breakdown(test, nanos, **words):
-    """The parts must be those that are printed, and must be the duration together with the rest."""
+    """The parts must be those that are printed. With the rest they must add up to the duration."""
     parts, rest_ns = breakdown(nanos, **words)
     printed = format(nanos, **words)
     joined = " ".join(f"{count}{unit}" for count, unit in parts)

@@ -38,7 +38,7 @@ class Whole(enum.IntEnum):
 
 
 class Place:
-    """It has `__index__`, and is no number."""
+    """It can be the place of an item in a list, but is no number."""
 
     def __index__(self):
         return 1

@@ -25,8 +25,8 @@
 
 #define SECOND 1000000000u
 
-/* The Python objects that the module keeps. Those before ERROR are names. The first four are flags,
- * in the order of their bits. From UNIT_NAMES on come the names of the units. */
+/* The Python objects that the module keeps. The first four are names of flags, in the order of
+ * their bits. */
 enum kept {
     NO_CALC,
     LOWERCASE,
@@ -78,7 +78,6 @@ struct datetime_calls {
     PyObject *(*timedelta)(int days, int seconds, int micros, int normalizes, PyTypeObject *type);
 };
 #define KNOWN_DATETIME (Py_Version < 0x030e0000)
-/* The place of timedelta in `types` */
 #define TIMEDELTA_TYPE 3
 
 struct state {
@@ -86,7 +85,6 @@ struct state {
     const struct datetime_calls *datetime; /* NULL if the structure isn't known */
 };
 
-/* The options that a call names */
 struct said {
     uint32_t on;      /* the flags that are on */
     uint32_t off;     /* the flags that are off, except one whose value is UNSAID */
@@ -145,7 +143,6 @@ static void raise_surrogate(struct state *state, PyObject *text, Py_ssize_t inde
     Py_XDECREF(traceback);
 }
 
-/* Returns the report of a refused text, and writes the answer. */
 static PyObject *report_of(struct text text, uint32_t options, struct duration_str_answer *answer) {
     char report[DURATION_STR_REPORT_BUFFER_SIZE];
     const size_t length = duration_str_report(text.bytes, text.length, options, answer, report);
@@ -153,8 +150,7 @@ static PyObject *report_of(struct text text, uint32_t options, struct duration_s
 }
 
 /* Reads the text of a str, whatever a subclass says that it holds. Returns 1 if the text is read,
- * and 0 if it is refused and `raises` is false. Returns -1 with an error if the text is refused and
- * `raises` is true, and if anything else fails. */
+ * and 0 if it is refused and `raises` is false. Otherwise returns -1 with an error. */
 static int read_str(struct state *state, PyObject *given, uint32_t options, uint64_t *nanos,
     bool raises, Py_ssize_t index) {
     Py_ssize_t length;
@@ -488,7 +484,7 @@ static int take_limits(struct state *state, const char *call, int last, PyObject
     return -1;
 }
 
-/* A duration. Its `nanos` are less than a second. */
+/* `nanos` is below a second. */
 struct duration {
     uint64_t secs;
     uint32_t nanos;
@@ -699,8 +695,7 @@ static int end_turn(void) {
 }
 
 /* format_list(values, function, texts, limits): appends the text of each value, or None if the
- * value is missing, to `texts`. The length of `texts` then says at which value an error is. The
- * function is called for a value whose type is neither int nor timedelta. */
+ * value is missing, to `texts`. The length of `texts` then says at which value an error is. */
 static PyObject *format_list(PyObject *self, PyObject *arguments) {
     PyObject *values, *function, *texts;
     struct limits limits;

@@ -32,7 +32,7 @@ class Breakdown(NamedTuple):
 
 
 class _Unnamed(str):
-    """The type of `UNNAMED`."""
+    pass
 
 
 #: The default unit of a call that names none. It equals "s", but is another object.
