@@ -1,6 +1,5 @@
-"""Lays out what docs/GRAMMAR.md says for the documentation of languages: what a text means,
-how a duration is printed, and what the options of reading do. tests/repository compares the result
-with what stands there, and writes it.
+"""Lays out words of docs/GRAMMAR.md for the documentation of languages. tests/repository compares
+the result with what stands there, and writes it.
 
 Each place is a file, the text before and after what is copied, and what must stand between them.
 """
@@ -17,7 +16,6 @@ RUST = "rust/src/formatted.rs"
 
 
 def filled(text, width, first, further=None):
-    """The text in lines of up to this width. `first` begins the first one, `further` the others."""
     further = first if further is None else further
     return textwrap.fill(text, width, initial_indent=first, subsequent_indent=further)
 
@@ -28,9 +26,7 @@ def in_strings(text):
 
 
 def paragraphs():
-    """The places of the paragraphs on texts, on printing, and on parts as numbers. The manual pages
-    of C take them from the header.
-    """
+    """The manual pages of C take these paragraphs from the header."""
     copied = r"<!-- tests/repository --write copies this paragraph .*? -->\n(.*?)\n\n"
     told = re.findall(copied, read("docs/GRAMMAR.md"), re.S)
     meaning, printing, parts = (paragraph.replace("\n", " ") for paragraph in told)
@@ -65,7 +61,7 @@ def options_told():
 
 
 def in_manual(text):
-    """A text in the notation of mdoc, in which each macro stands at the start of a line."""
+    """A text in the notation of mdoc."""
     return re.sub(" ?`(.*?)` ?", r"\n.Ql \1\n", text).strip()
 
 
@@ -74,7 +70,6 @@ def as_list(told):
 
 
 def options(told, sentences):
-    """The places of what the options do, except those in JavaScript."""
     *switches, _, _ = told
     bits = dict(found(r"^const (\w+): u32 = (\d+);$", "duration_str_c/src/lib.rt"))
     rows = []

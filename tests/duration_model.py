@@ -1,7 +1,6 @@
-"""duration_model.py PROGRAM [SECONDS [SEED]]: runs the command `duration` with the rows of
-rust/vectors.json, and then with random options, arguments and lines. It compares the output and the
-status with a model that reads and prints by the reference parser, and was otherwise made from
-shell/README.md and `duration --help`.
+"""duration_model.py PROGRAM [SECONDS [SEED]]: runs the command `duration` with rows of
+rust/vectors.json, and then with random options, arguments and lines. It compares what the command
+does with a model, which reads and prints by the reference parser.
 """
 import collections
 import fractions
@@ -24,7 +23,7 @@ from texts import Texts  # noqa: E402
 
 LONGEST_LINE = 1_048_576
 BLANKS = reference.BLANKS
-EDGES = BLANKS.encode() + b'"'  # What is around the text in a field.
+EDGES = BLANKS.encode() + b'"'
 LENGTHS = {name: unit.length for unit in reference.UNITS for name in unit.names.split()}
 LENGTHS |= {name.upper(): length for name, length in LENGTHS.items() if name.isascii()}
 VALUES = (
@@ -43,7 +42,7 @@ VALUES = (
         [""],
     )
 )
-# The options that can stand beside `--pattern`
+# A command with `--pattern` can have these options.
 READING = {"pattern", "lowercase", "cn-unit", "require-unit", "from", "zero-terminated"}
 WRONG_WORDS = """--to= --to=mins --to=年 --from=secs --largest=mo --smallest=5s --style=Long --round=half --decimals=10
 --units= --units=y, --units=y,mins --units=年 --parts=0 --parts=256 --parts=two --field=0
@@ -76,9 +75,6 @@ def printed(nanos, options):
 
 
 def parts_of(nanos, options):
-    """The counts that are printed for people, each with its unit's printed name, and the
-    nanoseconds that they leave.
-    """
     units = units_of(options)
     lengths = tuple(unit.length for unit in units)
     counts = reference.counts_within(nanos, lengths, options.get("parts", 11))
@@ -87,7 +83,6 @@ def parts_of(nanos, options):
 
 
 def units_of(options):
-    """The units in which durations are printed for people."""
     smallest, largest = (
         LENGTHS[options.get(*each)] for each in (("smallest", "ns"), ("largest", "y"))
     )
@@ -101,7 +96,6 @@ def units_of(options):
 
 
 def read_number(text, options):
-    """The nanoseconds of a bare number, or why it is refused."""
     way = "up" if options.get("round") == "up" else "down"
     nanos = reference.bare_number(text, LENGTHS[options["from"]], way)
     line = f"duration of over 584 years in {reference.quote(text)}"
@@ -109,7 +103,6 @@ def read_number(text, options):
 
 
 def read(data, options):
-    """The nanoseconds of a text, or why it is refused."""
     try:
         text = data.decode()
     except UnicodeDecodeError:
@@ -134,8 +127,6 @@ def read(data, options):
 
 
 def field_in(line, options):
-    """Where the text of the field begins and ends, without the blanks and quotation marks around
-    it, or None if there is no such field."""
     pattern = "(?<![^{0}])[^{0}]*" if "delimiter" in options else "[^{0}]+"
     fields = re.finditer(pattern.format(re.escape(options.get("delimiter", BLANKS))).encode(), line)
     field = dict(enumerate(fields, 1)).get(options["field"])
@@ -165,9 +156,7 @@ def advice_on(answer, before):
 
 
 def said_of(line, options, where, before=None):
-    """The message about an argument or a line. `where` is, for example, `line 1`. `before` is the
-    argument before, if there is one.
-    """
+    """`where` is, for example, `line 1`. `before` is the argument before, if there is one."""
     too_long, begin, end = len(line) > LONGEST_LINE, 0, len(line)
     if "field" in options:
         begin, end = field_in(line, options) or (None, None)
@@ -226,7 +215,6 @@ def wanted(options, texts, data):
 
 
 def is_wrong(options, texts):
-    """Whether these options can't be used together, or with texts."""
     names = set(options)
     numbers = (
         names & {"style", "parts", "units", "largest", "smallest"}
@@ -321,8 +309,7 @@ class Commands(Texts):
         return end_of(options).join(lines) + self.choice((b"", end_of(options)))
 
     def command(self):
-        """The options, texts and input of a command. A command whose options are wrong is made
-        anew in nine cases of ten."""
+        """A command whose options are wrong is mostly made anew."""
         likely = {"to": 60, "from": 40, "round": 40, "decimals": 40, "quiet": 4, "json": 12}
         likely["pattern"] = 2
         options = {
@@ -345,7 +332,7 @@ class Commands(Texts):
 
 def run(words, options, data, cuts):
     """Gives the program bytes in pieces. It must answer the lines of a piece before the next piece
-    comes. Returns what it writes.
+    comes.
     """
     process = subprocess.Popen(
         words, 0, stdin=subprocess.PIPE, stdout=subprocess.PIPE, stderr=subprocess.PIPE
@@ -366,14 +353,12 @@ def run(words, options, data, cuts):
 
 
 def untried(program):
-    """The options in the program's help that no command here has, except three."""
     told = subprocess.run([program, "--help"], capture_output=True, text=True, check=True).stdout
     names = set(re.findall(r"^ +(?:-., )? *--([a-z-]+)", told, re.M))
     return names - {*VALUES, "units", "completions", "help", "version"}
 
 
 def vector_commands():
-    """The options and the input of commands that read and print the rows of rust/vectors.json."""
     items = collections.defaultdict(list)
     for text, (on, unit), _ in vectors.texts():
         is_other = unit not in (None, reference.Choice().default_unit)
@@ -394,7 +379,6 @@ def vector_commands():
 
 
 def compare(words, must, options, data, cuts=()):
-    """Runs a command. If it doesn't do what it must, shows both, and ends this program."""
     got = run(words, options, data, [0, *cuts])
     if must.status == 2:
         got = got._replace(errors=got.errors[:7])

@@ -1,8 +1,7 @@
-/* tests/processors builds this for this machine and for other processors, and compares what they
- * write. For each line it writes what the program durstr writes, but for a refused line it writes
- * the report of duration_str_report. On the command line it also knows the words `require_unit` and
- * a default unit, such as `default_unit=ms`. The status is 0 if all lines are read, and 1 if some
- * are refused. */
+/* For each line this writes what the program durstr writes, but for a refused line it writes the
+ * report of duration_str_report. It also knows the words `require_unit` and, for example,
+ * `default_unit=ms`. tests/processors builds it for several processors, and compares what they
+ * write. */
 #define _POSIX_C_SOURCE 200809L
 #include <inttypes.h>
 #include <stdio.h>
@@ -11,7 +10,6 @@
 
 #include "duration_str.h"
 
-/* Returns the option that a word of the command line turns on. */
 static uint32_t option_of(const char *word) {
     const char names[][16] = {"no_calc", "lowercase", "cn_unit", "require_unit"};
     for (uint32_t bit = 0; bit < 4; bit++)

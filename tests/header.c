@@ -1,7 +1,5 @@
 /* Calls each function that the header declares, and prints what is not as expected. It compiles as
- * C and as C++, and shows that the header and the library agree on structs and numbers, and that
- * the header's macros make these numbers. tests/compare tries the answers to many more
- * arguments. */
+ * C and as C++, and shows that the header and the library agree on structs and numbers. */
 #include <stdio.h>
 #include <string.h>
 
@@ -16,8 +14,8 @@ static void expect(bool holds, const char *what) {
     }
 }
 
-/* Reads a text. Each byte of the answer is set before the call, so that a field that the call does
- * not write shows. */
+/* Each byte of the answer is set before the call, so that a field that the call does not write
+ * shows. */
 static struct duration_str_answer read_with(const char *text, uint32_t options) {
     struct duration_str_answer answer;
     memset(&answer, 0xff, sizeof answer);
@@ -27,8 +25,6 @@ static struct duration_str_answer read_with(const char *text, uint32_t options) 
     return answer;
 }
 
-/* Whether the answer is a syntax fault at this byte, where these kinds could stand, and where a
- * token of `found_length` bytes stands. */
 static bool is_syntax(
     struct duration_str_answer answer, size_t place, uint32_t expected, size_t found_length) {
     return answer.cause == DURATION_STR_CAUSE_SYNTAX && answer.has_place == 1 &&
@@ -37,7 +33,6 @@ static bool is_syntax(
            answer.later_operator == 0;
 }
 
-/* Whether a text is refused for an unknown option under these options. */
 static bool is_unknown(uint32_t options) {
     return read_with("1m", options).cause == DURATION_STR_CAUSE_UNKNOWN_OPTION;
 }
@@ -120,7 +115,6 @@ static void check_refusals(void) {
     expect(strcmp(duration_str_cause_name(9), "") == 0, "no name");
 }
 
-/* Checks how calls read a null text of length 0. */
 static void check_null_texts(void) {
     uint64_t nanos = 7;
     struct duration_str_answer answer;
@@ -130,7 +124,6 @@ static void check_null_texts(void) {
     expect(duration_str_unit(NULL, 0) == -1, "a null name");
 }
 
-/* Checks that a null pointer for a result that is not wanted changes no other result. */
 static void check_null_results(void) {
     static const char *const texts[] = {"5 mins", "1h", "", "600y", "1h+2*3", "\xff"};
     for (size_t at = 0; at < sizeof texts / sizeof *texts; at++) {
@@ -156,7 +149,6 @@ static void check_null_results(void) {
         "no counts without the rest");
 }
 
-/* Whether a duration is printed as `wanted`, in these units, parts and style. */
 static bool is_printed(uint64_t secs, uint32_t nanos, uint32_t units, uint32_t parts,
     uint32_t style, const char *wanted) {
     char printed[DURATION_STR_FORMAT_WITH_BUFFER_SIZE];
@@ -193,15 +185,13 @@ static void check_printing(void) {
     expect(DURATION_STR_UNITS_BETWEEN(year, nanosecond) == all, "all units");
 }
 
-/* A duration, units and parts, and the counts of all units and the rest that they give. */
 struct breakdown {
     uint64_t secs;
     uint32_t nanos, units, parts;
     uint64_t counts[DURATION_STR_UNIT_COUNT], rest;
 };
 
-/* Whether the call writes these counts and this rest. They are set before the call, so that one
- * that it does not write shows. */
+/* The counts are set before the call, so that one that it does not write shows. */
 static bool is_broken_down(const struct breakdown *wanted) {
     uint64_t counts[DURATION_STR_UNIT_COUNT], rest = 77;
     memset(counts, '#', sizeof counts);

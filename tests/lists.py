@@ -1,8 +1,5 @@
-"""Makes the files that have nothing but lists which stand in several languages: the units, the
-styles, the codes of refusals, and the regular expressions of the sentences and the units.
-
-A file's text comes from the function that FILES has for it. tests/repository compares the texts
-with the files, and writes them.
+"""Makes files of lists for several languages, such as the units, the styles, and the regular
+expressions. tests/repository compares them with what is there, and writes them.
 """
 import json
 import pathlib
@@ -34,9 +31,7 @@ CAUSES = ["READ", *constants[: constants.index("UNKNOWN_OPTION") + 1]]
 
 
 def near_words(name):
-    """The words that people write for the unit with this printed name. Words with the Greek mu are
-    left out, since the page replaces that by the micro sign.
-    """
+    """Words with the Greek mu are left out, since the page replaces that by the micro sign."""
     names = [name, "us"] if name == "µs" else [name]
     rows = (reference_parser.NEAR_WORDS, reference_parser.SMALL_WORDS)
     words = " ".join(row[each] for each in names for row in rows if each in row).split()
@@ -44,12 +39,10 @@ def near_words(name):
 
 
 def quoted(words, between=", "):
-    """The words in quotation marks, as all these languages write them."""
     return between.join(f'"{word}"' for word in words)
 
 
 def rows(texts):
-    """A list's rows, as all these languages write them."""
     return "".join(f"    {json.dumps(text, ensure_ascii=False)},\n" for text in texts)
 
 
@@ -138,8 +131,7 @@ pub const UNIT_PATTERNS: [&str; 4] = [
 
 
 def schema():
-    """The regular expressions of the sentences as a JSON schema, without the options that read
-    other names of units."""
+    """The options that read other names of units are left out."""
     texts = {}
     for no_calc, required in patterns.SENTENCES:
         name = "duration" + "_no_calc" * no_calc + "_require_unit" * required

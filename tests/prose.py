@@ -1,22 +1,5 @@
-"""Checks what the documents say, for tests/repository.
-
-- A link leads to a file or folder of the repository, and to a heading if it names one. Links to
-  other hosts are not followed. A path in backquotes exists. A name in backquotes occurs in a
-  source, except in CHANGELOG and MIGRATING. If a path is named with it, it occurs there.
-- What is proved stands in docs/PROMISES.md. Each promise there says what shows it, such as a
-  contract, a law or a test, and has a hardest case: a text with its answer, or the name of a test,
-  a row or a wrong body. The section of README.md has only sentences of that page. The documents of
-  the packages have one sentence that leads there, and no other about proofs. Those about texts,
-  other programs and speed have none.
-- Each help in docs/GRAMMAR.md ends a line of the vectors. In tables of README.md, GRAMMAR.md and
-  MIGRATING.md each text is answered as the reference parser answers it, and each duration printed
-  as it prints it. The same holds of the hardest cases. (tests/peers asks other libraries, and the
-  module `humantime`, which has other units.)
-- The contracts that CALLING.md quotes are those of the sources, and the oldest versions of Rust,
-  Python and Node are those that the packages name.
-- docs/MIGRATING.md has no code in its prose, since people paste code, and tests/documents only runs
-  blocks.
-- The pictures are the ones that tools/pictures draws, and codespell finds nothing.
+"""Checks what the documents say, for tests/repository: links, names, tables of texts, promises,
+quotes, spelling and pictures.
 """
 import filecmp
 import json
@@ -48,9 +31,9 @@ def tracked_files(*patterns):
 
 LINK = re.compile(r"\]\(([^)\s]+)\)|(?:src|srcset)=\"([^\"]+)\"")
 NAMED = re.compile(r"`(?:\w+::)*([A-Za-z]\w{3,})`")
-# Names of the toolchain and of Rust, which occur in no source of the repository.
+# Names that documents take from the toolchain and from Rust.
 FOREIGN = {"dac8208d650f15bf", "VecDeque", "Cursor"}
-# Documents with names of other libraries and of earlier versions.
+# These documents name other libraries and earlier versions.
 ABOUT_OTHERS = {"CHANGELOG.md", "docs/MIGRATING.md"}
 
 
@@ -59,7 +42,7 @@ def prose(name):
 
 
 def headings(path):
-    """The anchors of a document's headings, as a forge makes them."""
+    """The anchors of a document's headings."""
     found = re.findall(r"^#+ (.*)$", prose(path.relative_to(ROOT)), re.M)
     return {re.sub(r"[^\w\- ]", "", heading.lower()).strip().replace(" ", "-") for heading in found}
 
@@ -85,7 +68,6 @@ def wrong_paths(name, folders):
 
 
 def names_elsewhere(name):
-    """The names that a document has in the form "`name` in `path`", and that are not there."""
     placed = re.findall(r"((?:`\w+`,? )+)in `([\w./-]+)`", " ".join(prose(name).split()))
     for names, path in placed:
         if place := named_path(name, path):
@@ -96,15 +78,13 @@ def names_elsewhere(name):
 
 
 def code_in_prose(name):
-    """Code in the prose of a document: a call with arguments, a statement, or a command with
-    options."""
+    """tests/documents runs only blocks, and no code in the prose."""
     for code in re.findall(r"`([^`\n]+)`", prose(name)):
         if re.search(r"\w\([^)]|;|\w -[\w-]+ .*\w", code):
             yield f"{name}: has code in its prose, which nothing runs: {code}"
 
 
 def sentences_of(text):
-    """The sentences of a text, including those in lists and tables, each as one line."""
     text = re.sub(r"^```.*?^```$", "", text, flags=re.M | re.S)
     text = re.sub(r"^#.*", "", text, flags=re.M)
     for block in re.split(r"\n\n|\n(?=[-|#]|\d+\. )", text):
@@ -115,7 +95,6 @@ def sentences_of(text):
 
 
 def texts_of_vectors():
-    """All texts of the vectors, in whatever kind of row."""
     left = [json.loads(read(VECTORS))]
     while left:
         here = left.pop()
@@ -126,7 +105,6 @@ def texts_of_vectors():
 
 
 def other_helps():
-    """The helps in GRAMMAR's table that no line of the vectors ends with."""
     _, table = read("docs/GRAMMAR.md").split("| help | what stands at the place |\n|---|---|\n")
     lines = set(texts_of_vectors())
     for told in re.findall("^\\| `(.*?)` \\|", table.split("\n\n")[0], re.M):
@@ -136,7 +114,7 @@ def other_helps():
 
 # ---- Tables of texts
 
-# The columns that say what the reference parser answers, with the options that it has there
+# The columns that say what the reference parser answers, each with its options.
 ANSWERED = {
     "here": [],
     "means here": [],
@@ -152,15 +130,12 @@ def cells_of(line):
 
 
 def rows_of_tables(name):
-    """The rows of all tables of a document, each as a mapping from a column's head to a cell."""
     for table in re.findall(r"(?m)(?:^\|.*\n)+", prose(name)):
         head, _, *rows = map(cells_of, table.splitlines())
         yield from (dict(zip(head, row)) for row in rows)
 
 
 def is_answered(told, text, names):
-    """Whether the reference parser answers a text as a cell says: by a refusal, its cause and
-    place, its line, or a value."""
     answer = reference_parser.Choice.named(names).answer(text)
     if line := re.fullmatch(r"`(.* .*)`", told):
         return answer.cause != "read" and reference_parser.one_line(text, answer) == line[1]
@@ -175,14 +150,14 @@ def is_answered(told, text, names):
 
 
 def answers_in(cell):
-    """The answers in a cell. What stands after a colon or in brackets says more than the answer."""
+    """The answers in a cell, without what explains them."""
     if re.fullmatch("`[^`]*`", cell):
         return [cell]
     return re.sub(r" \(.*|: .*|, as .*", "", cell).split(", ")
 
 
 def told_of(row, column):
-    """The texts of a row, each with what the column says of it. `\\f` in a text is a form feed."""
+    """In a cell, `\\f` is a form feed."""
     texts = re.findall(r"`([^`]+)`", row.get("text", "").replace(r"\f", "\f"))
     told = answers_in(row[column])
     return zip(texts, told * (len(texts) if len(told) == 1 else 1))
@@ -235,18 +210,47 @@ def told_printed():
 
 
 def other_printed():
-    """The rows about printing whose text the reference parser prints otherwise."""
     for name, length, nanos, units, parts, told in told_printed():
         text = reference_parser.print_within(nanos, units, parts)
         if f"`{text}`" != re.match("`.*?`|$", told)[0]:
             yield f"{name}: {length} prints as `{text}`, and not as {told}"
 
 
+def untested_examples():
+    code = read("rust/tests/printers.rs")
+    for row in rows_of_tables("docs/MIGRATING.md"):
+        if function := re.fullmatch("function `(.*)`", row.get("how to print it here", "")):
+            for wanted in (f"fn {function[1]}(", *re.findall("`(.*?)`", row["prints"])):
+                if f"\n{wanted}" not in code and f'"{wanted}"' not in code:
+                    yield f"docs/MIGRATING.md: rust/tests/printers.rs does not have {wanted}"
+
+
+# Texts that end as the first column of GRAMMAR's table of kinds says, each with its options
+ENDS = {
+    "the start": ("", []),
+    "a number": ("1", []),
+    "a number, without a default unit": ("1", ["require_unit"]),
+    "a unit": ("1m", []),
+    "an operator": ("1+", []),
+}
+
+
+def other_kinds():
+    for row in rows_of_tables("docs/GRAMMAR.md"):
+        for column, names in ("can follow", []), ("can follow with `no_calc`", ["no_calc"]):
+            told = row.get(column, "(")
+            if told.startswith("("):
+                continue
+            text, given = ENDS[row["after"]]
+            kinds = reference_parser.Choice.named(given + names).answer(f"{text}-").expected
+            if {each.split()[1] for each in told.split(", ")} != set(kinds):
+                yield f"docs/GRAMMAR.md: after {row['after']} {column}: {', '.join(kinds)}"
+
+
 # ---- What is proved
 
 PROMISES = "docs/PROMISES.md"
 LEADS_THERE = " says what is proved, what is tested, and what you trust."
-# The words that make a sentence one about proofs
 OF_PROOFS = re.compile(r"\b(dis)?(prov(e[dns]?|ing)|prover|proofs?|verif\w+|guarantee\w*)\b", re.I)
 # The files that have the sentence that leads to PROMISES
 PACKAGES = (
@@ -262,17 +266,15 @@ PACKAGES = (
     "shell/README.md",
     "web/page.html",
 )
-# Other files, in which that sentence doesn't stand
+# Further files, in which that sentence must not stand.
 OTHERS = ("docs/GRAMMAR.md", "docs/MIGRATING.md", "docs/SPEED.md")
 
 
 def section(name, heading):
-    """The lines of a document from this heading to the next of its rank."""
     return read(name).split(f"\n{heading}\n")[1].split(f"\n{heading.split()[0]} ")[0]
 
 
 def plain(text):
-    """A text without the marks of links and code."""
     return re.sub(r"\[([^]]*)\]\([^)]*\)", r"\1", text).replace("`", "")
 
 
@@ -283,7 +285,6 @@ NAMED_CASE = re.compile(f"(?:test|rows?|wrong body) {NAMES}")
 
 
 def cases(column):
-    """The texts in the rows of promises, each with its options and with its cell in this column."""
     for row in rows_of_tables(PROMISES):
         case = TEXT_CASE.fullmatch(row.get("hardest case", ""))
         if case and column in row:
@@ -291,7 +292,6 @@ def cases(column):
 
 
 def wrong_promises():
-    """What is wrong in the rows of promises, and what stands there outside of a row."""
     names = tracked_files("crates/*.rt", "crates/*.antt", "tests/*", "*.edits", "*.edit")
     known = set(re.findall(r"\w+", " ".join([*names, *map(read, names)])))
     heads = [["promise", "shown by", "hardest case", each] for each in ("answer", "printed")]
@@ -314,9 +314,6 @@ def wrong_promises():
 
 
 def other_sentences_on_proofs():
-    """The sentences on proofs that stand outside of docs/PROMISES.md, and are neither of that page
-    nor the one that leads there.
-    """
     there = {plain(each) for each in sentences_of(read(PROMISES))}
     for sentence in sentences_of(section("README.md", "## What is proved")):
         if plain(sentence) not in there | {f"PROMISES{LEADS_THERE}"}:
@@ -335,7 +332,6 @@ def other_sentences_on_proofs():
 
 
 def other_quotes():
-    """The lines of contracts that CALLING.md quotes and no source has."""
     names = tracked_files("crates/duration_str/src/*.rt", "crates/duration_str/specs/*.antt")
     lines = "\n".join(map(read, names)).splitlines()
     known = {" ".join(re.sub("pub |const ", "", line).split()) for line in lines}
@@ -362,14 +358,13 @@ def wrong_names():
 
 
 def other_requirements():
-    """The places that name another oldest version of a language than its package."""
     oldest = {
         "Rust": re.findall(r'^rust-version = "(.*)"', read("rust/Cargo.toml"), re.M),
         "Python": re.findall(r'^requires-python = ">= (.*)"', read("python/pyproject.toml"), re.M),
         "Node": re.findall(r'"node": ">=(.*)"', read("js/package.json")),
     }
     for name in tracked_files("*.md"):
-        # Debian's Rust has a library that JavaScript's package needs only from a later version on.
+        # JavaScript's package needs a library that Debian's Rust has only from a later version on.
         text = re.sub(r"Debian's Rust\s+\S+", "", read(name))
         for language, version in re.findall(r"(Rust|Python|Node)\s+([\d.]+) or\s+later", text):
             if [version] != oldest[language]:
@@ -384,7 +379,7 @@ def misspelt():
         print("repository: spelling skipped, codespell is missing (make setup)")
         return []
     files = tracked_files("*.md", "program/*.in", "c/*.in", "c/include/*.h")
-    # A word of Rust, and two requests of manual pages, which codespell takes for mistakes.
+    # Codespell takes a word of Rust and two requests of manual pages for mistakes.
     words = ["codespell", "--ignore-words-list", "crate,nd,fo", *files]
     return subprocess.run(words, cwd=ROOT, capture_output=True, text=True).stdout.splitlines()
 
@@ -422,6 +417,8 @@ def problems():
         other_helps,
         other_answers,
         other_printed,
+        other_kinds,
+        untested_examples,
         wrong_names,
         misspelt,
         other_pictures,

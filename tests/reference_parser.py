@@ -1,15 +1,12 @@
-"""Computes what a text means, as docs/GRAMMAR.md says it, in the naive way.
+"""Computes what a text means, as docs/GRAMMAR.md says it, in a naive way.
 
-tests/compare compares the program, the library and the packages with this parser. It was written
-from the documents, not from the Rattle code, and works in another way. It tries all ways to split a
-text into terminals, and keeps those that are sentences. To find out what can follow the beginning
-of a sentence, it tries each kind of terminal there. And its numbers are whole numbers without
-bound. If the documents say that there is only one answer, it looks for all answers, and fails if it
-finds more than one.
+It was written from the documents, not from the Rattle code. It looks for all ways to split a text
+into a sentence, and fails if it finds two. tests/compare compares the packages with it.
 """
 import fractions
 import functools
 import itertools
+import pathlib
 import re
 import typing
 import unicodedata
@@ -20,9 +17,7 @@ LIMIT = 2**64
 
 
 class Unit(typing.NamedTuple):
-    """A unit: its length in nanoseconds, its printed name, its names, and the names that `cn_unit`
-    adds.
-    """
+    """The length is in nanoseconds. The option `cn_unit` adds the Chinese names."""
 
     length: int
     printed: str
@@ -45,14 +40,12 @@ UNITS = (
     Unit(1, "ns", "ns nsec nanosecond nanoseconds", "纳秒"),
 )
 
-# The styles in which durations are printed.
 STYLES = ("short", "compact", "long")
 
 PLACES = {name: place for place, unit in enumerate(UNITS) for name in unit.names.split()}
 
-# The line of a syntax fault where a unit could stand, and the most bytes of a duration that is
-# printed in the short style.
 UNIT_LINE = 'expected ["y", "q", "mon", "w", "d", "h", "m", "s", "ms", "µs", "us", "ns"]'
+# The most bytes of a duration that is printed in the short style.
 LONGEST_PRINTED = 60
 
 LINES = {
@@ -70,14 +63,11 @@ FOLDED = str.maketrans("ABCDEFGHIJKLMNOPQRSTUVWXYZ", "abcdefghijklmnopqrstuvwxyz
 
 
 class Options(typing.NamedTuple):
-    """A choice of options."""
-
     no_calc: bool = False
     lowercase: bool = False
     cn_unit: bool = False
 
     def words(self):
-        """The words of the command line that make this choice."""
         return [name for name, on in zip(self._fields, self) if on]
 
 
@@ -88,16 +78,13 @@ CHOICES = [
 
 
 class Choice(typing.NamedTuple):
-    """How a text is read: a choice of options, and the default unit. It is None if units are
-    required.
-    """
+    """The default unit is None if units are required."""
 
     options: Options = Options()
     default_unit: typing.Optional[Unit] = UNITS[PLACES["s"]]
 
     @classmethod
     def named(cls, names):
-        """The choice that a row of rust/vectors.json names."""
         options = Options(*(name in names for name in Options._fields))
         if "require_unit" in names:
             return cls(options, None)
@@ -105,7 +92,6 @@ class Choice(typing.NamedTuple):
         return cls(options, UNITS[PLACES[given.get("default_unit", "s")]])
 
     def words(self):
-        """The names that make this choice."""
         if self.default_unit is None:
             return [*self.options.words(), "require_unit"]
         if self.default_unit.length == SECOND:
@@ -117,14 +103,12 @@ class Choice(typing.NamedTuple):
 
 
 def as_packages_mean(choice):
-    """The choice, with `no_calc` on if its default unit is not the second."""
     if choice.default_unit is None or choice.default_unit.length == SECOND:
         return choice
     return choice._replace(options=choice.options._replace(no_calc=True))
 
 
-# All sets of units, in the order of their numbers for C. A set's number is the sum of 2^n over the
-# indexes n of its units in UNITS.
+# All sets of units. The index of a set is its number for C.
 SETS = [
     tuple(unit for place, unit in enumerate(UNITS) if bits >> place & 1)
     for bits in range(2 ** len(UNITS))
@@ -139,7 +123,7 @@ class Terminal(typing.NamedTuple):
 
 
 class Answer(typing.NamedTuple):
-    """The value of a text, or why it is refused. A place counts characters."""
+    """A place counts characters."""
 
     cause: str
     value: typing.Optional[int] = None
@@ -158,7 +142,6 @@ def is_letter(character, options):
 
 @functools.lru_cache(None)
 def unit_of(word, options):
-    """The length of the unit that has this word as a name."""
     folded = word if options.lowercase else word.translate(FOLDED)
     lengths = [
         unit.length
@@ -171,9 +154,6 @@ def unit_of(word, options):
 
 @functools.lru_cache(1 << 16)
 def sort_of(token, options):
-    """What a token is made of: digits, letters, one operator or one other character. It is None for
-    anything else.
-    """
     if token and all(character in DIGITS for character in token):
         return "digits"
     if token and all(is_letter(character, options) for character in token):
@@ -185,7 +165,6 @@ def sort_of(token, options):
 
 @functools.lru_cache(1 << 16)
 def terminal_of(token, options):
-    """The terminal that a token stands for, or None if it stands for none."""
     match sort_of(token, options):
         case "digits":
             return Terminal("number", token)
@@ -199,12 +178,10 @@ def terminal_of(token, options):
 # ---- Sentences
 
 
-# `default_unit` is the length of the unit that a number without a unit has, or None if each number
-# must have its unit.
+# `default_unit` is the length of a unit, or None if each number needs its unit.
 
 
 def is_sentence(kinds, options, default_unit=SECOND):
-    """Whether these kinds of terminals, in order, are a sentence, by the rules of the grammar."""
     match kinds:
         case ["number"]:
             return default_unit is not None
@@ -226,8 +203,7 @@ KINDS = ("number", "unit", "operator")
 def begins_sentence(kinds, options, default_unit):
     """Whether some sentence begins with these kinds of terminals.
 
-    A rule of the grammar needs at most a number and a unit after the terminals that it has read. So
-    if these terminals begin a sentence, they are one, or become one with one or two more terminals.
+    If so, they are a sentence, or become one with one or two more terminals.
     """
     return is_sentence(list(kinds), options, default_unit) or any(
         is_sentence([*kinds, *more], options, default_unit)
@@ -237,7 +213,6 @@ def begins_sentence(kinds, options, default_unit):
 
 @functools.lru_cache(1 << 10)
 def terminals_at_each_place(text, options):
-    """For each place, the terminals that begin there, each with its end."""
     places = []
     for at in range(len(text)):
         terminals = []
@@ -261,12 +236,11 @@ def list_of(pairs):
 
 
 def sentences(text, options, default_unit):
-    """All sentences that spell the text. Each is a way to split the text into blanks and terminals
-    that the grammar allows.
+    """All sentences that spell the text.
 
-    The loop goes over the rests of the text, from the shortest on. For each it lists the ways to
-    split the rest: into a sentence, into what is left of a sentence after a number, and into what
-    is left of one after a number and a unit.
+    The loop goes over the rests of the text, from the shortest on. `whole` has the ways to split a
+    rest into a sentence. `after_number` has the ways to split it into what may follow a number in a
+    sentence, and `after_unit` into what may follow a number and a unit.
     """
     whole, after_number, after_unit = (
         [()] * len(text) + [[]],
@@ -302,10 +276,7 @@ def sentences(text, options, default_unit):
 @functools.lru_cache(1 << 10)
 def token_lists(text, options):
     """All ways to cut the text into blanks and tokens, so that no two tokens of digits, and no two
-    tokens of letters, touch each other.
-
-    Each token comes with the place of its first character. The loop goes over the rests of the
-    text, from the shortest on.
+    tokens of letters, touch each other. Each token comes with its place.
     """
     lists = [()] * len(text) + [[()]]
     for at in reversed(range(len(text))):
@@ -351,7 +322,6 @@ def front_of(text, options, default_unit):
 
 
 def syntax_fault(text, front, options, default_unit):
-    """The syntax fault after the front, or None if the front is the whole text and a sentence."""
     ends = is_sentence(list(front.kinds()), options, default_unit)
     if front.next is None and ends:
         return None
@@ -371,8 +341,6 @@ def syntax_fault(text, front, options, default_unit):
 
 
 class Term(typing.NamedTuple):
-    """A term: its number, the length of its unit, and the operator before it."""
-
     number: int
     length: int
     operator: str
@@ -387,8 +355,6 @@ class Term(typing.NamedTuple):
 
 
 def terms_of(terminals, default_unit):
-    """The terms of a sentence, or of the beginning of a sentence, whose last number may lack its
-    unit."""
     terms = []
     operator = "+"
     for at, terminal in enumerate(terminals):
@@ -403,9 +369,7 @@ def terms_of(terminals, default_unit):
 
 
 def product(values):
-    """The product of later terms in seconds, from left to right. Each step is rounded down to
-    nanoseconds.
-    """
+    """Each step is rounded down to nanoseconds."""
     result = SECOND
     for value in values:
         result = result * value // SECOND
@@ -420,7 +384,6 @@ def value_of(terms):
 
 
 def evaluation_fault(terms):
-    """The first fault of the later terms, in order, or if they have none, that of the last step."""
     later = terms[1:]
     for count, term in enumerate(later, 1):
         if term.operator != later[0].operator:
@@ -434,10 +397,7 @@ def evaluation_fault(terms):
 
 
 def first_term_fault(front, default_unit):
-    """The fault of the first term, if that term is complete. A term is complete if a unit follows
-    its number. With a default unit, the first term is also complete if an operator or the end of
-    the text follows its number.
-    """
+    """The fault of the first term, if that term is complete."""
     kinds = front.kinds()
     if (
         kinds[:2] in (("number", "unit"), ("number", "operator"))
@@ -451,9 +411,7 @@ def first_term_fault(front, default_unit):
 
 
 def standing_fault(front, default_unit):
-    """The first fault of the complete terms under `no_calc`. A term is complete if a unit follows
-    its number. With a default unit, it is also complete if the end of the text follows its number.
-    """
+    """The first fault of the complete terms, under `no_calc`."""
     kinds = front.kinds()
     terms = terms_of(front.terminals, default_unit)
     if kinds[-1:] == ("number",) and (front.next is not None or default_unit is None):
@@ -471,11 +429,8 @@ def standing_fault(front, default_unit):
 
 
 def answer_of(text, options, default_unit=SECOND):
-    """The value of the text under these options, or the refusal that comes first.
-
-    `lowercase` changes nothing for a text without capitals, and `cn_unit` changes nothing for a
-    text without Chinese letters. So the answer to a text is computed once for all choices that make
-    no difference to it.
+    """Without capitals `lowercase` is turned off, and without Chinese letters `cn_unit`, so that
+    fewer answers are computed.
     """
     folds = options.lowercase and text != text.translate(FOLDED)
     knows = options.cn_unit and any(character in CHINESE for character in text)
@@ -486,7 +441,7 @@ def answer_of(text, options, default_unit=SECOND):
 def computed_answer(text, options, default_unit):
     if not text:
         return Answer("empty")
-    # The grammar is the same for all default units.
+    # Which unit is the default one makes no difference to the grammar.
     front, fault = parsed(text, options, None if default_unit is None else SECOND)
     early_fault = standing_fault if options.no_calc else first_term_fault
     if refusal := early_fault(front, default_unit) or fault:
@@ -499,9 +454,6 @@ def computed_answer(text, options, default_unit):
 
 @functools.lru_cache(1 << 16)
 def parsed(text, options, default_unit):
-    """The front of a text, and its syntax fault. The fault is None if the front is a sentence that
-    spells the text.
-    """
     front = front_of(text, options, default_unit)
     spelled = sentences(text, options, default_unit)
     assert len(spelled) <= 1, text
@@ -512,9 +464,7 @@ def parsed(text, options, default_unit):
 
 
 def prepare(text, choices):
-    """Computes the answers to bytes under some choices, and keeps them for a while, since computing
-    them together takes less time.
-    """
+    """Computes a text's answers together, so that they share what is cached."""
     try:
         text = text.decode()
     except UnicodeDecodeError:
@@ -523,25 +473,23 @@ def prepare(text, choices):
         choice.answer(text)
 
 
-# A number with a fraction or an exponent
+# Matches a number with a fraction or an exponent.
 BARE = re.compile(
     rf"[{BLANKS}]*([0-9]*\.[0-9]+([eE][-+]?[0-9]+)?|[0-9]+[eE][-+]?[0-9]+)[{BLANKS}]*"
 )
 
 
 def rounded(number, way):
-    """The next whole number below or above, or the nearest one. If two are equally near, it is the
-    upper one.
-    """
+    """If two whole numbers are equally near, the nearest one is the upper one."""
     return {"up": -(-number // 1), "nearest": (number + fractions.Fraction(1, 2)) // 1}.get(
         way, number // 1
     )
 
 
 def bare_number(text, length, way):
-    """The nanoseconds that the command `duration` reads with `--from`, if a text is a number with a
-    fraction or an exponent, of a unit with this length. Decimals after the 18th count only if
-    numbers are rounded up. The result is None if the duration is too long.
+    """The nanoseconds of a number with a fraction or an exponent, of a unit with this length, or
+    None if they are too many. The command `duration` reads such numbers with `--from`. The number
+    is first rounded to 18 decimals, in the same way.
     """
     decimals = rounded(fractions.Fraction(text.strip(BLANKS)) * 10**18, way)
     nanos = rounded(fractions.Fraction(decimals * length, 10**18), way)
@@ -549,9 +497,6 @@ def bare_number(text, length, way):
 
 
 def quotients(nanos, lengths, chosen):
-    """A count for each of these lengths. The count of a chosen length is how often it goes into
-    what is left, and the count of any other length is 0.
-    """
     counts = []
     for length in lengths:
         count, nanos = divmod(nanos, length) if length in chosen else (0, nanos)
@@ -562,8 +507,7 @@ def quotients(nanos, lengths, chosen):
 @functools.lru_cache(1 << 16)
 def counts_within(nanos, lengths, parts):
     """The lexicographically greatest counts for these lengths that have at most `parts` counts
-    other than 0, and together are at most the duration. They are the greatest over all choices of
-    `parts` lengths.
+    other than 0, and together are at most the duration.
     """
     chosen = itertools.combinations(lengths, min(parts, len(lengths)))
     return max(quotients(nanos, lengths, each) for each in chosen)
@@ -586,9 +530,6 @@ def search_small_worlds():
 
 
 def break_down(nanos, units, parts):
-    """The counts of all units, and the nanoseconds that are left, if a duration is broken down into
-    these units, in at most `parts` parts.
-    """
     counts = counts_within(nanos, tuple(unit.length for unit in units), parts)
     of_unit = dict(zip(units, counts))
     rest = nanos - sum(count * unit.length for unit, count in of_unit.items())
@@ -596,9 +537,6 @@ def break_down(nanos, units, parts):
 
 
 def print_part(count, unit, style):
-    """A count with its unit's printed name. In the long style it is a count, a space and the last
-    of the unit's names, or the last but one for a count of 1.
-    """
     if style != "long":
         return f"{count}{unit.printed}"
     one, many = unit.names.split()[-2:]
@@ -606,9 +544,7 @@ def print_part(count, unit, style):
 
 
 def print_within(nanos, units, parts, style="short"):
-    """The text of a duration in these units, which are in the order of UNITS, in at most `parts`
-    parts, and in one of the styles.
-    """
+    """The units are in the order of UNITS."""
     counts = counts_within(nanos, tuple(unit.length for unit in units), parts)
     printed_parts = [print_part(count, unit, style) for count, unit in zip(counts, units) if count]
     zero = next(unit for unit in UNITS if unit.length == SECOND)
@@ -622,8 +558,6 @@ def print_whole(nanos):
 
 
 def line_of(answer):
-    """The line that says what is wrong in the message, which is like that of `duration-str`
-    0.19.0."""
     match answer.cause:
         case "syntax" if "unit" in answer.expected:
             return UNIT_LINE
@@ -638,7 +572,7 @@ def line_of(answer):
 
 @functools.lru_cache(1 << 16)
 def message(text, answer):
-    """The message about a refused text, which the program writes."""
+    """The program's message about a refused text, which is like that of `duration-str` 0.19.0."""
     line = line_of(answer)
     if answer.place is None:
         return line
@@ -649,9 +583,8 @@ def message(text, answer):
 
 # ---- A fault in one line
 
-# The words that people write for a unit, by the name to write instead. The words of SMALL_WORDS
-# count only in small letters, and the others in capitals too. The last row has the words for the
-# microsecond without the micro sign. Some of them have the Greek mu in its place.
+# Words that people write for a unit, by the name to write instead. Those of SMALL_WORDS count
+# only in small letters. tests/repository takes the last row for that of `us`.
 SMALL_WORDS = {"mon": "mo mos"}
 NEAR_WORDS = {
     "y": "yr yrs",
@@ -669,18 +602,23 @@ NEAR_WORDS = {
 NAMES = "y, q, mon, w, d, h, min, s, ms, us or ns"
 QUOTED = 40
 
-# Control characters, blanks except the space, and characters that Unicode allows programs to
-# ignore.
-HIDDEN = re.compile(
-    "[\0-\x1f\x7f-\xa0\xad\u034f\u061c\u115f\u1160\u1680\u17b4\u17b5\u180b-\u180f\u2000-\u200f\u2028-\u202f\u205f-\u206f"
-    "\u2800\u3000\u3164\ufe00-\ufe0f\ufeff\uffa0\ufff0-\ufffb\U0001bca0-\U0001bca3\U0001d173-\U0001d17a\U000e0000-\U000e0fff]"
-)
-# Characters beyond ASCII that are not taken for letters: the signs of Latin 1 except the micro
-# sign, punctuation, arrows, mathematical signs and others.
-SIGNS = re.compile("[\xa1-\xb4\xb6-\xbf\xd7\xf7\u2010-\u2bff\u3001-\u303f\uff00-\uff20]")
+
+def listed(words):
+    """A class of the characters that GRAMMAR lists as `U+..` in the paragraph with these words."""
+    told = GRAMMAR.read_text(encoding="utf-8").split(words)[1].split("\n\n")[0]
+    pairs = re.findall(r"U\+(\w+)(?:-(\w+))?", told)
+    ends = ((chr(int(first, 16)), chr(int(last or first, 16))) for first, last in pairs)
+    return "[" + "".join(f"{first}-{last}" for first, last in ends) + "]"
+
+
+GRAMMAR = pathlib.Path(__file__).resolve().parent.parent / "docs/GRAMMAR.md"
+# Characters that a quote escapes
+HIDDEN = re.compile(r"[\0-\x1f\x7f-\x9f]|" + listed("Of the characters that can't be seen"))
+# Characters beyond ASCII that are not taken for letters, such as punctuation and arrows
+SIGNS = re.compile("[×÷]|(?!µ)" + listed("nor are these signs"))
 ESCAPES = {'"': '\\"', "\\": "\\\\", "\t": "\\t", "\n": "\\n", "\r": "\\r"}
 
-# The help for a text that matches the pattern at the place.
+# The help for a text that matches a pattern at the place.
 LETTER = r"A-Za-z\x80-\U0010ffff"
 HELP = {
     rf"(?<=[{LETTER}])\.": "units have no point",
@@ -688,7 +626,7 @@ HELP = {
     r"(?<=[0-9])([,_'](?=[0-9])|[Ee](?=[-+0-9]))": "numbers have digits only",
     r"(?<=[0-9]):(?=[0-9])": "clock times are not read: write 1h 30m or 1m 30s",
 }
-# The help for such a text if there are only blanks before the place.
+# Further help, if there are only blanks before the place.
 FIRST_HELP = {
     "-(?=[0-9.])": "negative durations are not read",
     r"\+(?=[0-9.])": 'a leading "+" is not read',
@@ -697,14 +635,12 @@ FIRST_HELP = {
 
 
 def escape(character):
-    """How a character is shown in a quote."""
     return ESCAPES.get(character) or (
         f"\\u{{{ord(character):x}}}" if HIDDEN.match(character) else character
     )
 
 
 def quote(text):
-    """A text in quotes, cut to 40 characters, with dots if something is left out."""
     parts = [escape(each) for each in text]
     lengths = itertools.accumulate(map(len, parts))
     fits = sum(length <= QUOTED for length in lengths)
@@ -712,10 +648,6 @@ def quote(text):
 
 
 def kind_in_line(character):
-    """The kind of a character, which is letter or digit, or None for any other character.
-    Neighbours of one kind form a piece. A letter is one of ASCII, or a character beyond ASCII that
-    is neither hidden nor a sign.
-    """
     if character in DIGITS:
         return "digit"
     if character.isascii():
@@ -724,7 +656,6 @@ def kind_in_line(character):
 
 
 def piece_at(text, place):
-    """The run of digits or of letters at a place, or the one other character there."""
     kind = kind_in_line(text[place]) if place < len(text) else None
     end = place + 1
     while kind and end < len(text) and kind_in_line(text[end]) == kind:
@@ -733,8 +664,6 @@ def piece_at(text, place):
 
 
 def near_name(word):
-    """The name to write instead of a word that people write for a unit, or None for any other
-    word."""
     small = word.translate(FOLDED)
     found = [name for name, words in NEAR_WORDS.items() if small in words.split()]
     return next(
@@ -743,9 +672,6 @@ def near_name(word):
 
 
 def help_at(text, place, piece, expected):
-    """The help for words that people put between durations, and for notations that the grammar
-    doesn't have.
-    """
     if {"number", "end"} <= set(expected) and piece.translate(FOLDED) in {",", "&", "and"}:
         return 'one duration is read, without "," or "and"'
     rows = HELP if text[:place].strip(BLANKS) else HELP | FIRST_HELP
@@ -755,17 +681,12 @@ def help_at(text, place, piece, expected):
 
 
 def missing_unit_help(text, expected):
-    """The help for a number that lacks its unit, which is one after which only a unit can stand.
-    Zero is the same in each unit.
-    """
     if expected != {"unit"}:
         return None
     return f"write the number's unit: {NAMES}" if text.strip(BLANKS + "0") else "write 0s"
 
 
 def expected_in_line(expected):
-    """The words for what could stand at the place: a unit or a number, and then operators and the
-    end."""
     kinds = [
         ("unit", "a unit"),
         ("number", "a number"),
@@ -778,9 +699,6 @@ def expected_in_line(expected):
 
 @functools.lru_cache(1 << 16)
 def report(text, answer):
-    """The report about a refused text for a terminal. For a syntax fault it has the text and a
-    caret above the line, unless the text is long or a quote would escape something in it.
-    """
     line = one_line(text, answer)
     if answer.cause != "syntax" or len(text) > 80 or any(escape(each) != each for each in text):
         return line
@@ -792,7 +710,6 @@ def report(text, answer):
 
 @functools.lru_cache(1 << 16)
 def one_line(text, answer):
-    """The line about a refused text."""
     match answer.cause:
         case "empty":
             return "empty text"
@@ -827,9 +744,7 @@ def one_line(text, answer):
 
 
 def output_of(line, choice, told=message):
-    """What the program writes for a line of bytes, without the line feed at its end, and whether
-    the line is accepted. For a refusal it writes the result of `told`.
-    """
+    """What the program writes for a line of bytes, and whether the line is accepted."""
     try:
         text = line.decode()
     except UnicodeDecodeError:

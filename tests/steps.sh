@@ -1,9 +1,7 @@
 # shellcheck shell=bash disable=SC2034 # the scripts read what is set here
 #
 # The functions that the checks in shell share. `. tests/steps.sh NAME` sets $room, a temporary
-# folder that is removed when the script ends, and $status, which is 1 once one of the steps below
-# has failed. Most scripts end with `exit "$status"`. Messages begin with NAME. A script goes on
-# after a step that failed. If the next steps need it, the script has `runs .. || exit`.
+# folder that is removed when the script ends, and $status, which is 1 once a step has failed.
 steps=$1
 status=0
 rows=0
@@ -11,11 +9,11 @@ room=$(mktemp -d)
 log=$room/log
 clears() { chmod -R u+w "$room" && rm -rf "$room"; }
 trap clears EXIT
-# Cargo builds each test once here, so incremental builds and debug symbols would only take time.
+# Incremental builds and debug symbols would only take time here.
 export CARGO_INCREMENTAL=0 CARGO_PROFILE_DEV_DEBUG=0
 
-# runs WHAT WORDS..: runs the words as a step. Their whole output is in $log. If they fail, the end
-# of it is shown. After a minute a line says that the step is still running.
+# runs WHAT WORDS..: runs the words as a step, whose output is in $log. After a minute a line says
+# that the step still runs
 runs() {
     local started=$SECONDS ended end
     exec {end}> >(read -rt 60 || [ $? -le 128 ] || echo "$steps: $1: is still running")
@@ -42,8 +40,7 @@ quietly() {
     }
 }
 
-# same WHAT WANTED GOT: returns whether both texts are the same, and shows the difference if they
-# are not. $rows counts the comparisons
+# same WHAT WANTED GOT: returns whether both texts are the same. If not, it shows the difference
 same() {
     rows=$((rows + 1))
     [ "$2" = "$3" ] && return
@@ -58,7 +55,6 @@ skips() {
     return 1
 }
 
-# brings TOOL: prints the command that installs this tool
 brings() {
     case ${1##*/} in
         make) echo tools/setup-debian ;;
@@ -68,8 +64,7 @@ brings() {
     esac
 }
 
-# has WHAT TOOL..: returns whether the commands are there. If one is missing, WHAT is skipped. The
-# next two functions do the same
+# has WHAT TOOL..: returns whether the commands are there. If one is missing, WHAT is skipped
 has() {
     local tool
     for tool in "${@:2}"; do
@@ -77,15 +72,13 @@ has() {
     done
 }
 
-# finds WHAT COMMAND WORDS..: returns whether `COMMAND --missing WORDS..` names nothing. One such
-# command is tools/cargo-debian
+# finds WHAT COMMAND WORDS..: returns whether `COMMAND --missing WORDS..` names nothing
 finds() {
     local missing
     ! missing=$("$2" --missing "${@:3}") || skips "$1" "missing: ${missing% } (make setup)"
 }
 
-# can WHAT NEED WORDS..: returns whether the words succeed. If they fail, NEED says what is missing,
-# and how to get it
+# can WHAT NEED WORDS..: returns whether the words succeed. If they fail, NEED says what is missing
 can() { "${@:3}" >/dev/null 2>&1 || skips "$1" "missing: $2"; }
 
 # copies FOLDER: copies the files into the folder as they are here, except what was built. If root
@@ -95,8 +88,7 @@ copies() {
         tar -x --no-same-owner -C "$1"
 }
 
-# path_without NAME..: the path without these commands. Each folder that has one of them is replaced
-# by a folder of links to everything else in it
+# path_without NAME..: prints the path without these commands
 path_without() {
     local folder made path=
     while read -r -d : folder; do
@@ -110,8 +102,8 @@ path_without() {
     echo "${path%:}"
 }
 
-# later_pythons: the interpreters of CPython 3.12 and later, on the path and in pyenv's folders
-# (since pyenv's shims on the path run only the chosen ones)
+# later_pythons: prints interpreters of Python 3.12 and later. pyenv's shims on the path run only
+# the chosen ones, so its folders are searched too
 later_pythons() {
     local python
     for python in python3.1{2..9} "${PYENV_ROOT:-$HOME/.pyenv}"/versions/3.1[2-9].*/bin/python; do
@@ -119,8 +111,6 @@ later_pythons() {
     done
 }
 
-# calls HEADER: the calls that a header declares. exports LIBRARY: the symbols that a shared library
-# has
 calls() (
     export LC_ALL=C
     sed '/^static /d' "$1" | grep -o '\<duration_str_[a-z_]*(' | tr -d '(' | sort -u

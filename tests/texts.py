@@ -1,5 +1,5 @@
 #!/usr/bin/env python3
-"""The texts and durations with which compare and the fuzzer try the library, generated from a seed.
+"""Makes texts and durations from a seed, with which compare and the fuzzer try the library.
 
 texts.py FOLDER COUNT [SEED]  writes COUNT texts into FOLDER/lines, each on a line, or on several if
                               it has line feeds. It also writes files for the fuzzer: the texts into
@@ -16,9 +16,7 @@ from reference_parser import LIMIT, NEAR_WORDS, SECOND, SMALL_WORDS, UNITS  # no
 
 
 class Texts:
-    """Generated texts. They are terms with operators and blanks, and most are then damaged at one
-    or two places.
-    """
+    """The texts are terms with operators and blanks. Many are then damaged."""
 
     BLANKS = ("", "", "", " ", " ", "  ", "\t", "\r", " \r\t ", "\n")
     STRAYS = (

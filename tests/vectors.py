@@ -1,5 +1,5 @@
-"""Compares the rows of rust/vectors.json, which the tests of all packages read, with the reference
-parser. tests/repository names the rows that differ. tests/compare takes the texts and durations.
+"""Compares the rows of rust/vectors.json with the reference parser. tests/repository names the rows
+that differ. tests/compare takes the texts and durations.
 """
 import itertools
 import json
@@ -23,7 +23,7 @@ KINDS = (*reference_parser.KINDS, "end")
 
 
 def tables():
-    """The rows of each table. tests/repository may have written some of them just now."""
+    """They are read anew, since tests/repository may have written some of them just now."""
     return json.loads((pathlib.Path(__file__).resolve().parent.parent / FILE).read_text("utf-8"))
 
 
@@ -52,7 +52,7 @@ def in_unit(name):
 
 
 def refusals():
-    """The rows of refusals, each with what the reference parser has instead, and with its line."""
+    """The rows of refusals, each with what the reference parser has for it, and with its line."""
     rows = tables()
     for row in rows["refused"]:
         text, names, *_, line, spaces = row
@@ -74,7 +74,6 @@ def refusals():
 
 
 def spaces_of(text, answer):
-    """The blanks before the caret of a report, or None if it has no caret."""
     caret = re.search(r"\n( *)\^\n.*\Z", reference_parser.report(text, answer))
     return caret and len(caret[1])
 
@@ -95,9 +94,6 @@ def durations():
 
 
 def differing():
-    """The rows that the reference parser answers in another way, each with its answer. A text of
-    several choices is named once.
-    """
     rows, named = tables(), set()
     for text, choice, nanos in texts():
         if (told := choice.answer(text).value) != nanos and text not in named:

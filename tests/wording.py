@@ -1,10 +1,8 @@
-"""Brings the words of refusals up to date, for tests/repository. The lines of the vectors that the
-reference parser words otherwise have the old words.
+"""Brings the words of refusals up to date, for tests/repository. The lines of the vectors have the
+old words, and the reference parser has the new ones.
 
-The old line, the line without its help, the help and the problem are replaced wherever they stand
-whole. Each other line of a file that has the old words is named, also if a line break, a mark of a
-comment or a backslash stands between them. Proofs are only named, since their rows are worked out
-by hand.
+Parts of the old lines are replaced where they stand whole. Other lines that have the old words are
+named. Proofs are only named, since their rows are worked out by hand.
 """
 import itertools
 import json
@@ -18,8 +16,7 @@ from prose import read, tracked_files
 ROOT = pathlib.Path(__file__).resolve().parent.parent
 # CHANGELOG.md says what changed, and the vectors of the tests in Rattle are made as a whole.
 LEFT_OUT = (":!*.webp", ":!CHANGELOG.md", ":!crates/duration_str_tests/src/vectors.rt")
-# A part stands whole after a quotation mark, a parenthesis, a colon, `\n`, or what begins a line,
-# and before a mark or the end of a line. Other words of the line may follow the problem.
+# What stands before and after a part that stands whole.
 BEFORE = r"(?m)((?<=[\"'`(])|(?<=: |\\n)|^[ */#!]*)"
 AFTER = r"(?=[\"'`)\\]|$| at column | in \\?\"| \\?\")"
 
@@ -34,9 +31,7 @@ def parts_of(line):
 
 
 def changes():
-    """The parts of the vectors' lines that the reference parser no longer has anywhere, each with
-    the parts that it has there instead. vectors.py compares the other columns of the rows.
-    """
+    """The old parts, each with those that are there instead, and all parts of the new lines."""
     told_instead, kept = {}, set()
     for row, told, line in vectors.refusals():
         wanted = told[row.index(line)] if len(told) == len(row) else line
@@ -52,7 +47,6 @@ def escaped(line):
 
 
 def with_new_parts(text, changed):
-    """The text with each old part that stands whole replaced, if there is one part instead."""
     # The longest parts come first, since a part may begin with another one.
     for old in sorted(changed, key=len, reverse=True):
         if len(changed[old]) == 1 and changed[old][0]:
@@ -63,15 +57,12 @@ def with_new_parts(text, changed):
 
 
 def tokens_of(part):
-    """Patterns for the words of a part and for some of its marks."""
     found = re.findall(r"\w+|[:?)]", part)
     return [rf"\b{each}\b" if each.isalnum() else rf"\{each}" for each in found]
 
 
 def runs_around(tokens, at):
-    """The runs of three tokens or more that have the one at this index, the shortest ones first.
-    Between them other marks, blanks and line breaks may stand.
-    """
+    """Patterns for runs of tokens around the one at this index, the shortest first."""
     count = len(tokens)
     for size in range(min(3, count), count + 1):
         for start in range(min(at, count - size), max(at - size, -1), -1):
@@ -79,8 +70,8 @@ def runs_around(tokens, at):
 
 
 def old_words(changed, kept):
-    """Patterns for words of each old part that no part has now. They are around the first word that
-    the new part lacks.
+    """Patterns for words of old parts that no part has now. They are around the first word that
+    has changed.
     """
     for old, instead in changed.items():
         if parts_of(old)[3]:
@@ -94,7 +85,6 @@ def old_words(changed, kept):
 
 
 def places_of(patterns, name, text):
-    """The lines of a file that have one of these words."""
     numbers = set()
     for found in re.finditer("|".join(sorted(patterns, key=len)) or "(?!)", text, re.I):
         if (number := text.count("\n", 0, found.start()) + 1) not in numbers:

@@ -188,9 +188,11 @@ fn prints_decimals_and_clocks() {
         [cargo(film), go(film), restic(film)],
         ["62m 03s", "1h2m3.5s", "1:02:03"]
     );
+    assert_eq!(pretty_ms(film), "1h 2m 3.5s");
+    let short = film / 1_000;
     assert_eq!(
-        [pretty_ms(film), pretty_ms(film / 1_000)],
-        ["1h 2m 3.5s", "3.7s"]
+        [cargo(short), pretty_ms(short), restic(short)],
+        ["3.72s", "3.7s", "0:03"]
     );
     assert_eq!(go(Duration::from_nanos(1_500)), "1.5µs");
     let zero = [borg, cargo, go, pretty_ms, restic].map(|print| print(Duration::ZERO));

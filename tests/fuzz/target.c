@@ -1,10 +1,9 @@
-/* Checks what must hold for every answer of the library, on any bytes. With WITH_LIBFUZZER it is
+/* Checks what must hold of the library's answers, on any bytes. With WITH_LIBFUZZER it is
  * libFuzzer's target. Otherwise it is a program that reads a file of texts, which tests/texts.py
  * makes.
  *
- * Each text is at the end of a page that can't be written, before a page that can't be read. Each
- * buffer is at the end of a page, before a page that can't be written. This file does not say what
- * the answers are: tests/compare checks that. */
+ * Texts are at the end of a page that can't be written, before a page that can't be read. Buffers
+ * are at the end of a page, before a page that can't be written. */
 #define _GNU_SOURCE
 #include <stdio.h>
 #include <stdlib.h>
@@ -41,8 +40,8 @@ static void fail(const char *what, int line) {
 
 /* ---- Memory with an end that is watched */
 
-/* Memory that is mapped twice: bytes are written to the one place, and the library reads them at
- * the other. */
+/* This memory is mapped twice: bytes are written at one place, and the library reads them at the
+ * other. */
 struct region {
     uint8_t *written_end;
     uint8_t *end;
@@ -56,7 +55,6 @@ static uint8_t *mapped(int file, int protection) {
     return start + PAGE + ROOM;
 }
 
-/* Memory for texts: at `end` it can only be read. */
 static struct region text_region(void) {
     int file = memfd_create("text", 0);
     HOLDS(file >= 0 && ftruncate(file, ROOM) == 0);
@@ -79,7 +77,6 @@ struct text {
     size_t length;
 };
 
-/* Copies the bytes to the end of a region, and returns them as a text. */
 static struct text text_at(struct region region, const uint8_t *bytes, size_t length) {
     memcpy(region.written_end - length, bytes, length);
     return (struct text){region.end - length, length};
@@ -119,8 +116,6 @@ static bool are_equal(struct duration_str_answer one, struct duration_str_answer
 
 /* ---- What must hold of an answer */
 
-/* The text of a value that is read fits into its buffer, and is read back under all choices of
- * options. */
 static void check_printed(uint64_t nanos) {
     uint8_t *buffer = buffer_at(output_end, 64);
     size_t length = duration_str_format(nanos, (char *)buffer);
@@ -133,15 +128,11 @@ static void check_printed(uint64_t nanos) {
     }
 }
 
-/* The length of a unit in nanoseconds: what `1` is read as if this is the default unit. */
 static uint64_t length_of(uint32_t unit) {
     struct text one = text_at(prints, (const uint8_t *)"1", 1);
     return read_with(one, DURATION_STR_OPTION_DEFAULT_UNIT(unit)).nanos;
 }
 
-/* The parts of a value and their rest are together the value. There are no more parts than asked
- * for, and they have only the units asked for. Printed, they are read as the value without the
- * rest. */
 static void check_parts(uint64_t nanos) {
     const uint64_t secs = nanos / 1000000000;
     const uint32_t below_second = nanos % 1000000000, units = 1 + nanos % DURATION_STR_UNITS_ALL,
@@ -166,8 +157,6 @@ static void check_parts(uint64_t nanos) {
     HOLDS(answer.cause == DURATION_STR_CAUSE_READ && answer.nanos == sum);
 }
 
-/* A report and its zero byte fit into the buffer, and the call gives the same answer as the others.
- * The report is empty if the text is read. */
 static void check_report(struct text text, uint32_t options, struct duration_str_answer wanted) {
     struct duration_str_answer answer;
     uint8_t *buffer = buffer_at(output_end, DURATION_STR_REPORT_BUFFER_SIZE);
@@ -185,7 +174,6 @@ static void check_value(uint64_t nanos) {
     check_parts(nanos);
 }
 
-/* The call without options agrees with the one that takes options. */
 static void check_plain(struct text text, struct duration_str_answer answer) {
     uint64_t before = 0x0123456789abcdef, *nanos = (void *)buffer_at(number_end, sizeof *nanos);
     memcpy(nanos, &before, sizeof before);
@@ -196,8 +184,7 @@ static void check_plain(struct text text, struct duration_str_answer answer) {
 }
 
 #ifdef WITH_LIBFUZZER
-/* Counters of answers, by which libFuzzer knows what is new, since the library is built without its
- * counters. */
+/* These tell libFuzzer which answers are new, since the library is built without its counters. */
 __attribute__((section("__libfuzzer_extra_counters"))) static uint8_t counters[1 << 12];
 
 static void count(struct duration_str_answer answer) {
@@ -210,8 +197,6 @@ static void count(struct duration_str_answer answer) {
 #define count(answer) ((void)0)
 #endif
 
-/* If a text is read without operators and with units required, each default unit gives the same
- * answer. Seconds as the default unit change nothing. */
 static void check_default_units(struct text text, const struct duration_str_answer *answers) {
     const struct duration_str_answer required =
         answers[DURATION_STR_OPTION_NO_CALC | DURATION_STR_OPTION_REQUIRE_UNIT];
@@ -227,7 +212,6 @@ static bool is_of_a_letter(uint8_t byte) {
     return (byte >= 'A' && byte <= 'Z') || (byte >= 'a' && byte <= 'z') || byte >= 0x80;
 }
 
-/* Returns the first letters of the text that follow one another. */
 static struct text first_word(struct text text) {
     size_t start = 0;
     while (start < text.length && !is_of_a_letter(text.bytes[start]))
@@ -238,7 +222,6 @@ static struct text first_word(struct text text) {
     return text_at(prints, text.bytes + start, end - start);
 }
 
-/* The number of a name is that of a unit, or -1. */
 static void check_unit_name(struct text name) {
     const int32_t unit = duration_str_unit((const char *)name.bytes, name.length);
     HOLDS(unit >= -1 && unit <= DURATION_STR_UNIT_NANOSECOND);
