@@ -1,4 +1,4 @@
-"""How much larger a program gets by a library, for bench/run"""
+"""How much larger a program gets by this library, for bench/run."""
 import os
 import pathlib
 import tempfile
@@ -75,8 +75,9 @@ fn main() {
 
 
 def sizes(output):
-    """Returns the bytes of code and data of each program beyond those of the one that it is
-    compared with. `output` runs words, and returns what they write."""
+    """The bytes of code and data of each program beyond those of the one that it is compared with,
+    in a plain release build. `output` runs words, and returns what they write.
+    """
     programs = [ARGUMENT, NANOS, *(lines for lines, *_ in SIZES.values())]
     with tempfile.TemporaryDirectory() as room:
         folder = pathlib.Path(room, "src/bin")
