@@ -64,8 +64,8 @@ interface SecondsOptions extends Switches {
 export type NumberOptions = CountingOptions & { defaultUnit: Unit } | SecondsOptions;
 
 /**
- * The names of the units, with a line for each unit, the longest first. These are the names that a
- * text may use if all options are off. Code without type checks may write them in capitals too.
+ * The names of the units, with a line for each unit, the longest first. If all options are off, a
+ * text may have these names, also in ASCII capitals. Code without type checks may use capitals too.
  */
 // Made by tests/repository --write.
 export type Unit =
@@ -136,8 +136,7 @@ export interface Breakdown {
 
 /**
  * How much of a duration the function `parts` counts. By default it counts all of the duration,
- * from days to nanoseconds. It counts longer units if `units` names them, or up to the unit that
- * `largest` names.
+ * from days to nanoseconds. Longer units are counted only if you give `units` or `largest`.
  */
 export type PartFormat = Counted<Exclude<Unit, "q" | "quarter" | "quarters">>;
 
@@ -163,7 +162,7 @@ export interface Expected {
 interface Refused {
     /** The whole text. */
     readonly text: string;
-    /** What could stand at the place of a syntax fault. For other faults all fields are false. */
+    /** If this is not a syntax fault, all fields are false. */
     readonly expected: Expected;
 }
 
@@ -234,8 +233,8 @@ export type Fault = Refusal & Told;
 
 /**
  * The error for a refused text. In Node 20 a structured clone keeps the message and the `cause`.
- * `toJSON` returns the message and what the `cause` has. In Node `import` and `require` give the
- * same class, and `duration-str/plain` has another one of the same name.
+ * `toJSON` returns the name, the message and what the `cause` has. In Node `import` and `require`
+ * give the same class, and `duration-str/plain` has another one of the same name.
  *
  * ```js
  * try {
@@ -277,14 +276,14 @@ export declare const version: string;
  * `7200000`. A number with a fraction is refused as its text would be.
  *
  * @throws DurationError if the text or the number is refused
- * @throws TypeError if an option is unknown or of another type, or if `text` is not a string. With
- * a `defaultUnit`, a number and a bigint are read too.
+ * @throws TypeError if the options are not a plain object, if one of them is unknown or of another
+ * type, or if `text` is not a string. With a `defaultUnit`, a number and a bigint are read too.
  * @throws RangeError if `defaultUnit` is a string that names no unit, stands beside
  * `requireUnit: true`, or is not the second while `noCalc` is `false`. With a `defaultUnit`, it is
  * also thrown for NaN, and for a number of 2^53 or more, which can have lost digits.
- * @throws Error if WebAssembly is missing or refused. The other functions that read, print or count
- * throw it too. The message says what to do, and the `cause` is the engine's error. The next call
- * tries again. The functions of `duration-str/plain` don't need WebAssembly.
+ * @throws Error if WebAssembly is missing or refused. Other functions can throw it too. The message
+ * says what to do, and the `cause` is the engine's error. The next call tries again. The functions
+ * of `duration-str/plain` don't need WebAssembly.
  */
 export function parse(text: string, options?: Options): number;
 export function parse(value: string | number | bigint, options: NumberOptions): number;
@@ -336,15 +335,15 @@ export function pattern(options?: Options): string;
  * `1h 30min`, and with `{ parts: 1 }` it is `1h`.
  *
  * A number with a fraction, such as a difference of `performance.now()`, is rounded to the nearest
- * nanosecond: `format(1.005)` is `1ms 5µs`. The middle of two is rounded up, and so is a number
- * below it if their distance, which is then less than 1e-10 ns, is lost in the multiplication by
- * 1,000,000.
+ * nanosecond: `format(1.005)` is `1ms 5µs`. The middle of two is rounded up. A number that is less
+ * than 1e-10 ns below the middle may be rounded up too.
  *
  * @throws RangeError if the number is negative, 2^64 nanoseconds or more, NaN or infinite. It is
  * also thrown if a unit or the style does not exist, if `parts` is neither a whole number from 1 on
  * nor `Infinity`, if the largest unit is shorter than the smallest, or if `units` is empty or has
  * no unit between these two.
- * @throws TypeError if the duration is not a number, or if an option is unknown or of another type
+ * @throws TypeError if the duration is not a number, if the format is not a plain object, or if an
+ * option is unknown or of another type
  */
 export function format(milliseconds: number, format?: Format): string;
 
@@ -364,6 +363,8 @@ export function formatNs(nanoseconds: bigint, format?: Format): string;
  *
  * The parts are those that the printed text has, so a duration of 0 has none. The counts, each
  * times the length of its unit, and the rest are together the duration.
+ *
+ * A number with a fraction is rounded first, as by `format`.
  *
  * ```js
  * const { parts, restNs } = breakdown(193_029, { parts: 2 });
@@ -392,7 +393,7 @@ export function breakdown(
  * @throws RangeError if a count is 2^53 or more, if the quarter is named, or if `smallest` is
  * longer than a day and you give neither `largest` nor `units`. It is also thrown for a duration or
  * an option for which `format` or `formatNs` throws it.
- * @throws TypeError if the duration is neither a number nor a bigint, or for an option for which
- * `format` throws it
+ * @throws TypeError if the duration is neither a number nor a bigint, for an option for which
+ * `format` throws it, or if a style is given
  */
 export function parts(duration: number | bigint, format?: PartFormat): Parts;

@@ -1,29 +1,24 @@
-// What the page says about a refused text, and which part it marks; what it says about a text that
-// many people would read in another way; and the texts that it offers instead, each of which the
-// library reads as a whole.
+// What the page says about a text, which part it marks, and the texts that it offers instead.
 import { formatNs, tryParseNs } from "../js/dist/duration-str.js";
 import { clean, converted } from "./conversions.js";
 import { say } from "./sentences.js";
 import { defaultUnitOf, LONG, terms, UNITS, unitOf } from "./units.js";
 import { inWords } from "./values.js";
 
-/** A number with the sign of a day or month, as in a date. `cn_unit` would read these. */
+/** Dates have these signs, which `cn_unit` reads as units. */
 const DATE = /[0-9]\s*[日月]/;
 
-/** Changes of options with which more texts are read. */
 const CALC = { noCalc: false };
 const CAPITALS = { lowercase: false };
 const CHINESE = { cnUnit: true };
 
-/** These options, and then others with which more texts are read. Those with the fewest changes
- * come first. */
+/** Options with fewer changes come first. */
 function optionsToTry(options, text) {
     const both = { ...CALC, ...CAPITALS };
     const changes = [{}, CALC, CAPITALS, CHINESE, both];
     for (const each of [CALC, CAPITALS, both]) changes.push({ ...each, ...CHINESE });
     const isDate = DATE.test(text);
-    // Beside a default unit other than the second, operators are never read. If the page names a
-    // default unit, it is such a unit.
+    // If the page names a default unit, it isn't the second, so operators are not read.
     const hasOperators = options.defaultUnit === undefined;
     const tried = changes.filter(({ cnUnit, noCalc }) => (
         !(isDate && cnUnit) && (hasOperators || noCalc === undefined)
@@ -35,8 +30,7 @@ function optionsToTry(options, text) {
  * smaller unit out at the end, as in `1h 30`. */
 const LEFT_OUT = { d: [24n, "h"], h: [60n, "m"], m: [60n, "s"] };
 
-/** Adds the unit that is left out at the end of a sum. Returns null if it isn't certain which unit
- * that is. */
+/** Returns null if it isn't certain which unit is left out. */
 function complete(text, options) {
     const found = Array.from(terms(text, options));
     if (found.length < 2 || found[1].operator === "*") return text;
@@ -49,8 +43,6 @@ function complete(text, options) {
     return text.trimEnd().replace(/(?<=\p{L})(?=[0-9]+$)/u, " ") + added;
 }
 
-/** A list with the offer of a text and its meaning in words. It is empty for null and for a refused
- * text. */
 function offer(text, options) {
     const { ok, value } = text === null ? { ok: false } : tryParseNs(text, options);
     if (!ok) return [];
@@ -58,8 +50,6 @@ function offer(text, options) {
     return [{ text, options, value, meaning: inWords(sum, options) }];
 }
 
-/** The texts that are offered in place of a refused one: the same text under other options, or the
- * text with characters and names that the library has, or the text converted. */
 export function offersFor(text, options) {
     if (text.trim() === "") return [];
     for (const each of [text, clean(text)]) {
@@ -71,8 +61,7 @@ export function offersFor(text, options) {
     return readings.flatMap(({ text: each }) => offer(complete(each, options), options));
 }
 
-/** A list with one range, `{ from, to }`: the part of the text that the fault is about. The list is
- * empty if the fault has no index. */
+/** A list with the part that the fault is about, if there is one. */
 export function markedParts({ words, start, fault }, options) {
     if (!fault || fault.index === null) return [];
     const { code, index, found } = fault;
@@ -94,8 +83,6 @@ export function sentence(text, code, options) {
     return code === "SYNTAX" && text.length <= LONG ? converted(text, options)?.sentence : null;
 }
 
-/** A list with a sentence that says how many days a duration has, if it is printed in years,
- * quarters or months. */
 function inDays(value, format) {
     const printed = formatNs(value, { ...format, style: "short" });
     const isPrinted = ({ names: [name] }) => new RegExp(`[0-9]${name}\\b`).test(printed);
@@ -105,7 +92,7 @@ function inDays(value, format) {
     return [say`That is ${formatNs(value, { largest: "d" })}: ${[lengths.join(", ")]}.`];
 }
 
-/** The first term of minutes that people mean as months: after years, or before weeks or days. */
+/** People mean months by `m` after years, or before weeks or days. */
 function monthIn(sum) {
     const unitAt = (place) => unitOf(sum[place]?.unit ?? "")?.names[0];
     const isMonth = (place) => unitAt(place - 1) === "y" || ["w", "d"].includes(unitAt(place + 1));
@@ -117,7 +104,6 @@ function inMonths(sum, month) {
     return sum.map((term) => `${term.operator} ${words(term)}`.trim()).join(" ");
 }
 
-/** The page's notes on a text that was read, and the other readings that it offers. */
 export function notesOn(text, value, options, format) {
     const found = Array.from(terms(text, options));
     const sum = found[1]?.operator === "*" ? [] : found;

@@ -1,5 +1,3 @@
-// Shows the answer below the text: the text's value in all notations, or its fault and the texts
-// that are offered instead. For several lines, it shows their values and faults.
 import { formatNs, tryParseNs } from "../js/dist/duration-str.js";
 import { markedParts, notesOn, offersFor, sentence } from "./advice.js";
 import {
@@ -11,7 +9,7 @@ import { AROUND, lineOf } from "./sentences.js";
 import { LONG } from "./units.js";
 import { counts, decimal, groupDigits, iso, seconds, termRows } from "./values.js";
 
-/** The texts that the copy buttons copy, by the names of the elements that show them. */
+/** The texts that the copy buttons copy, by the ids of elements. */
 export const copied = {};
 
 function show(id, words, shown = words) {
@@ -21,7 +19,6 @@ function show(id, words, shown = words) {
 
 // ---- Marks
 
-/** Shows a text in the element, with a mark at each of these parts of it. */
 function markParts(target, shown, marked) {
     let end = 0;
     target.replaceChildren(...marked.flatMap(({ from, to }) => {
@@ -34,7 +31,7 @@ function markParts(target, shown, marked) {
     }), shown.slice(end));
 }
 
-/** The first index from `place` on that doesn't cut a surrogate pair. */
+/** This keeps surrogate pairs whole. */
 function whole(shown, place) {
     return /[\udc00-\udfff]/.test(shown.charAt(place)) ? place + 1 : place;
 }
@@ -55,14 +52,12 @@ function showMarks(marked) {
 
 // ---- What is offered
 
-/** The options that differ from the chosen ones, in words. */
 function changesTo(options) {
     const changed = changedOptions(options).map((name) => switches[name].dataset.switched);
     return changed.map((words) => `${words}, `).join("");
 }
 
-/** A button that replaces the text by the offer. `part` is the start and the end if only a part of
- * the text is replaced. */
+/** `part` is the start and the end if only a part of the text is replaced. */
 function offerButton({ text: words, options, meaning }, ...part) {
     const press = () => {
         choose(options);
@@ -79,7 +74,6 @@ function showOffers(offers) {
     element("offered").replaceChildren(...offers.map((offer) => offerButton(offer)));
 }
 
-/** The sentences about a line, and the texts that are offered for it. */
 function remarksOn({ words, value, fault }) {
     const said = fault ? [sentence(words, fault.code, chosenOptions()) ?? lineOf(fault)] : [];
     if (words.length > LONG) return { sentences: said, offers: [] };
@@ -102,7 +96,7 @@ function showFault(line) {
 
 // ---- A value
 
-/** Fills a table with rows. Each has a heading, and what stands beside it. */
+/** A row is a heading and what stands beside it. */
 function fill(table, rows) {
     table.querySelector("tbody").replaceChildren(...rows.map(([words, ...content]) => {
         const heading = make("th", words);
@@ -140,16 +134,14 @@ function showCode(isShown) {
 
 // ---- Several lines
 
-/** The lines that are not blank, each with the index where it starts. If there are fewer than two,
- * the whole text is one line. */
+/** If fewer than two lines are not blank, the whole text is one line. */
 function linesOf(whole) {
     const found = Array.from(whole.matchAll(/(?<![^\n])[^\n]*\S[^\n]*/g));
     const lines = found.map(({ 0: words, index }) => ({ words, start: index }));
     return lines.length > 1 ? lines : [{ words: whole, start: 0 }];
 }
 
-/** The lines that are shown. If there are very many, the refused ones come first, and then as many
- * others as fit. */
+/** If there are more than MOST_LINES, the refused ones come first. */
 function linesToShow(lines) {
     if (lines.length <= MOST_LINES) return lines;
     const refused = lines.filter(({ ok }) => !ok);
@@ -157,7 +149,6 @@ function linesToShow(lines) {
     return [...refused, ...read].slice(0, MOST_LINES);
 }
 
-/** The row of a line: the line, its value or fault, and the texts that are offered instead. */
 function lineRow(line) {
     const { words, start, ok, value } = line;
     const { sentences, offers } = remarksOn(line);
@@ -176,7 +167,7 @@ function howMany(lines) {
     return `${read} of ${all} lines are read; ${MOST_LINES} are shown, the refused ones first.`;
 }
 
-/** Shows the lines, and returns the text for screen readers. */
+/** Returns the text for screen readers. */
 function showLines(lines) {
     fill(element("lines"), linesToShow(lines).map(lineRow));
     showOffers([]);
@@ -184,15 +175,13 @@ function showLines(lines) {
     return howMany(lines);
 }
 
-/** The text for screen readers: the sentences, and the texts that are offered. */
 function announcement(sentences) {
     const offers = Array.from(element("offered").children, (one) => one.ariaLabel);
     const tried = offers.length > 0 ? [`Try instead ${offers.join("; ")}.`] : [];
     return [...sentences, ...tried].join(" ");
 }
 
-/** Reads the text and shows its value or fault, or the values and faults of its lines. Returns the
- * text for screen readers. */
+/** Returns the text for screen readers. */
 export function showAnswer() {
     const options = chosenOptions();
     const lines = linesOf(text.value)

@@ -1,4 +1,3 @@
-// The choices in the page: the options, and how a duration is printed.
 import { element, make } from "./elements.js";
 import { UNITS } from "./units.js";
 
@@ -10,15 +9,13 @@ export const switches = Object.fromEntries(boxes.map((box) => [camel(box.id), bo
 /** The choice for a number without a unit: a unit's printed name, or `REFUSED`. */
 export const defaultUnit = element("default_unit");
 export const REFUSED = "refused";
-/** The printed name of the default unit if none is chosen. */
 export const SECOND = "s";
 
 export const printing = { style: element("style"), parts: element("parts") };
 /** The choices with which everything is printed. */
 export const WHOLE = { style: "short", parts: String(UNITS.length) };
 
-/** The boxes of the units that are printed, the longest unit first. At least one of them is always
- * checked. */
+/** page.js keeps at least one of them checked. */
 export const unitBoxes = UNITS.map(({ names, printed }) => {
     const title = names.at(-1);
     const box = Object.assign(make("input"), { type: "checkbox", value: printed, title });
@@ -26,8 +23,7 @@ export const unitBoxes = UNITS.map(({ names, printed }) => {
     return box;
 });
 
-/** The units of the format: the largest and the smallest one, or a list if one between them is left
- * out. */
+/** If a unit between the largest and the smallest is left out, the format lists the units. */
 function chosenUnits() {
     const places = [...unitBoxes.keys()].filter((place) => unitBoxes[place].checked);
     const [first, last] = [places[0], places.at(-1)];
@@ -39,7 +35,6 @@ function chosenUnits() {
     };
 }
 
-/** The format for printing, without the choices that are as in WHOLE. */
 export function chosenFormat() {
     const chosen = Object.entries(printing).filter(([name, box]) => box.value !== WHOLE[name]);
     const valueOf = (name, box) => name === "parts" ? Number(box.value) : box.value;
@@ -47,8 +42,8 @@ export function chosenFormat() {
     return { ...Object.fromEntries(format), ...chosenUnits() };
 }
 
-/** Leaves only those units checked that the function keeps, by their places. If none would be left,
- * nothing changes. Returns whether one would be left. */
+/** Unchecks the units whose places the function doesn't keep. If none would be left, it changes
+ * nothing and returns false. */
 export function keepUnits(keeps) {
     const kept = unitBoxes.map((box, place) => box.checked && keeps(place));
     if (!kept.includes(true)) return false;
@@ -58,8 +53,7 @@ export function keepUnits(keeps) {
     return true;
 }
 
-/** The chosen options. `noCalc` is left out if the default unit turns it on. Otherwise its box says
- * whether it is on. */
+/** `noCalc` is undefined if the default unit turns it on. */
 export function chosenOptions() {
     const chosen = Object.entries(switches)
         .map(([name, box]) => [name, box.checked && !box.disabled]);
@@ -69,8 +63,7 @@ export function chosenOptions() {
     return { ...options, noCalc: undefined, defaultUnit: defaultUnit.value };
 }
 
-/** A default unit other than the second turns `no_calc` on. Then the box of `no_calc` can't be
- * pressed. */
+/** A default unit other than the second turns `no_calc` on. */
 export function showNoCalc() {
     const isTurnedOn = ![REFUSED, SECOND].includes(defaultUnit.value);
     if (isTurnedOn === switches.noCalc.disabled) return;
@@ -78,13 +71,11 @@ export function showNoCalc() {
     switches.noCalc.checked = isTurnedOn;
 }
 
-/** The names of the options that have boxes and differ from the chosen ones. */
 export function changedOptions(options) {
     const chosen = chosenOptions();
     return Object.keys(switches).filter((name) => chosen[name] !== options[name]);
 }
 
-/** Switches to these options by pressing their boxes. */
 export function choose(options) {
     for (const name of changedOptions(options)) switches[name].click();
 }

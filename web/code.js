@@ -1,23 +1,18 @@
-// Programs that read and print the text, in each language. A text that is read has no character
-// that Rust, Python or JavaScript escapes differently than JSON does.
+// Programs that read and print the text. A text that is read has no character that Rust, Python or
+// JavaScript escapes differently than JSON does.
 import { format as printed, formatNs, parse, parseNs } from "../js/dist/duration-str.js";
 import { UNITS } from "./units.js";
 
-/** The names of the options that are on, except the default unit: in JavaScript, and in other
- * languages. */
 const namesOf = (options) => Object.keys(options).filter((name) => options[name] === true);
 const idOf = (name) => name.replace(/[A-Z]/g, (letter) => `_${letter.toLowerCase()}`);
 const idsOf = (options) => namesOf(options).map(idOf);
 const capital = (word) => word.replace(/^./, (letter) => letter.toUpperCase());
-/** The name of a unit in words, by its printed name. */
 const wordOf = (unit) => UNITS.find(({ printed }) => printed === unit).names.at(-2);
 
-/** Rust's name of a unit. */
 function rustUnit(printed) {
     return `TimeUnit::${capital(wordOf(printed)).replace(/(?<=[io])sec/, "Sec")}`;
 }
 
-/** Rust's call for a choice of the format. */
 function rustChoice([name, value]) {
     if (name === "parts") return `.parts(${value})`;
     if (name === "style") return `.style(Style::${capital(value)})`;
@@ -31,7 +26,7 @@ function rustReading(text, { requireUnit, defaultUnit, ...options }) {
     const isPlain = names.length === 0;
     if (requireUnit && isPlain) return `parse_require_unit(${literal})`;
     if (defaultUnit && isPlain) return `parse_in(${literal}, ${rustUnit(defaultUnit)})`;
-    // `parse_in` would turn `no_calc` on.
+    // `parse_in` turns `no_calc` on, but `parse_with_default_unit` doesn't.
     if (defaultUnit) names.unshift("noCalc");
     const fields = names.map((name) => `${idOf(name)}: true, `).join("");
     const taken = fields ? `Options { ${fields}..Options::off() }` : "Options::off()";
@@ -54,17 +49,15 @@ function rust(text, options, format) {
     ].join("\n");
 }
 
-/** The names in quotation marks, with commas between them. */
 const quoted = (names) => names.map((name) => JSON.stringify(name)).join(", ");
 
-/** The last arguments of a call in Python. */
 function keywords(values) {
     const literal = (value) => Array.isArray(value) ? `(${quoted(value)})` : JSON.stringify(value);
     const words = Object.entries(values).map(([name, value]) => `, ${name}=${literal(value)}`);
     return words.join("");
 }
 
-/** A `timedelta` counts microseconds, so a text with nanoseconds is read by `parse_ns`. */
+/** A `timedelta` counts microseconds, so `parse_ns` reads what is finer. */
 function python(text, options, format) {
     const isWhole = parseNs(text, options) % 1_000n === 0n;
     const [name, call] = isWhole ? ["duration", "parse"] : ["nanoseconds", "parse_ns"];
@@ -79,8 +72,6 @@ function python(text, options, format) {
     ].join("\n");
 }
 
-/** The last argument of a call in JavaScript, with these properties. If there are none, there is no
- * such argument. */
 function argument(properties) {
     const literal = (value) => Array.isArray(value) ? `[${quoted(value)}]` : JSON.stringify(value);
     const fields = Object.entries(properties).map(([name, value]) => `${name}: ${literal(value)}`);
@@ -102,7 +93,6 @@ function javascript(text, options, format) {
 
 const cUnit = (printed) => `DURATION_STR_UNIT_${wordOf(printed).toUpperCase()}`;
 
-/** C's set of the units that are printed. */
 function cUnits({ units, largest = "y", smallest = "ns" }) {
     if (units) return units.map((unit) => `DURATION_STR_UNITS(${cUnit(unit)})`).join(" |\n    ");
     if (largest === "y" && smallest === "ns") return "DURATION_STR_UNITS_ALL";
@@ -126,7 +116,6 @@ function cPrintCall(format) {
     ];
 }
 
-/** The literal of a text in C, in which control characters and bytes beyond ASCII are escaped. */
 function cLiteral(text) {
     const escaped = (byte) => `\\${byte.toString(8).padStart(3, "0")}`;
     const isPlain = (byte) => byte >= 0x20 && byte < 0x7f;
@@ -149,8 +138,7 @@ function c(text, options, format) {
     ].join("\n");
 }
 
-/** `durstr` reads lines, and prints each duration in full. `duration` can do more, but it has no
- * `no_calc`. */
+/** `durstr` prints each duration in full. `duration` has no option `no_calc`. */
 function shell(text, options, format) {
     if (/\p{C}/u.test(text)) return "";
     const { requireUnit, defaultUnit } = options;
@@ -166,8 +154,8 @@ function shell(text, options, format) {
     return ["duration", ...taken, ...printed, "--", `'${text}'`].join(" ");
 }
 
-/** For each language, by its id in the page: its title, how to get the package in a clone, and the
- * function that returns the program, or an empty text if there is no program. */
+/** The values are a title, how to get the package in a clone, and a function that returns the
+ * program, or an empty text if there is none. */
 export const LANGUAGES = {
     rust: ["Rust", 'duration-str = { path = "../duration_str/rust" }', rust],
     python: ["Python", "pip install ./python", python],

@@ -1,18 +1,15 @@
-// Converts texts in other notations, with their exact values. A notation is converted if all of the
-// following is true:
+// Converts texts in other notations. These are the rules for a notation that is added:
 //
 // - People write durations like this: another program reads or prints it, a standard has it, or it
 //   is ordinary prose.
-// - It is recognised by the whole text, and not by a part of it.
-// - The text itself says what is meant. `10' 30"` is minutes and seconds; `5'` may be feet, so it is
-//   left out. No calendar is needed: `P1M` is left out, since months vary.
-// - If people use a text with two meanings, such as `1:30`, both are offered. A text with more
-//   meanings is left out.
+// - The whole text is in this notation, and not only a part of it.
+// - The text itself says what is meant. `10' 30"` is minutes and seconds; `5'` may be feet, so it
+//   is left out. No calendar is needed: `P1M` is left out, since months vary.
+// - If people use a text with two meanings, such as `1:30`, both are offered.
 // - texts.json has texts in this notation with their values, and similar texts that mean something
 //   else.
 //
-// If people type a notation that is left out, it should have a row in REFUSED, with a sentence that
-// says why.
+// A notation that is left out should have a row in REFUSED if people type it.
 import { tryParseNs } from "../js/dist/duration-str.js";
 import { defaultUnitOf, terms, UNITS, unitOf } from "./units.js";
 import { say } from "./sentences.js";
@@ -27,8 +24,6 @@ const [WEEK, DAY, HOUR, MINUTE, SECOND] = ["w", "d", "h", "m", "s"].map(unitOf);
 /** Marks of direction around a text, and characters without width anywhere in the text. */
 const UNSEEN = /^[\u202a\u2066]|[\u202c\u2069]$|[\u00ad\u200b-\u200f\u2060\ufeff]/g;
 
-/** The text without the characters of UNSEEN, with ASCII digits for the digits of other scripts,
- * with `µ` for the other mu, and with `microseconds` for `micro seconds`. */
 function plain(text) {
     const seen = text.trim().replace(UNSEEN, "");
     const joined = seen.replace(/\b(milli|micro|nano)[ -](?=sec)/gi, "$1");
@@ -40,18 +35,15 @@ function plain(text) {
     });
 }
 
-/** A map from each word to the library's name, made from the list of words for each name. */
 function byWord(rows) {
     const pairs = ([name, words]) => words.split(" ").map((word) => [word, name]);
     return new Map(Object.entries(rows).flatMap(pairs));
 }
 
-/** Names that people use but the library doesn't have: words near its names, and others. */
 const COMMON = new Map([
     ...UNITS.flatMap(({ near, printed }) => near.map((word) => [word, printed])),
     ...byWord({ ms: "millisec millisecs", µs: "microsec microsecs", ns: "nanosec nanosecs" }),
 ]);
-/** Words for lengths in other languages. */
 const FOREIGN = byWord({
     y: "年間",
     mon: "个月 か月 개월",
@@ -73,8 +65,8 @@ function isOneEdit(one, other) {
     return less === otherLess || less === otherRest || rest === otherLess || swapped === otherRest;
 }
 
-/** The name that a misspelt word of four letters or more means. The name has the same first letter,
- * and is one edit away from the word. No other unit has such a name. */
+/** The name must begin with the same letter as the word and be one edit away from it. No other unit
+ * may have such a name. */
 function correction(word) {
     if (word.length < 4) return null;
     const isNear = (name) => name[0] === word[0] && isOneEdit(name, word);
@@ -84,8 +76,6 @@ function correction(word) {
     return names.find((name) => name.at(-1) === word.at(-1)) ?? names[0];
 }
 
-/** The library's name for a word, which may be such a name, or a common, foreign or misspelt word.
- * It is null if there is no such name. */
 function unitName(word) {
     const small = word.toLowerCase();
     if (unitOf(word)) return word;
@@ -94,10 +84,9 @@ function unitName(word) {
     return COMMON.get(small) ?? FOREIGN.get(small) ?? correction(small);
 }
 
-/** `3 x 5min` and `5min x 3`, in which one factor is a duration */
+/** `3 x 5min` and `5min x 3` */
 const TIMES = /^([1-9][0-9]*)\s*x\s*(?=[0-9]+\s*\p{L}+$)|(?<=^[0-9]+\s*\p{L}+)\s+x\s*(?=[0-9]+$)/iu;
 
-/** The same text with characters and names that the library has. */
 export function clean(text) {
     return plain(text).replace(/[\u00a0\u2000-\u200a\u202f\u205f\u3000]/g, " ").replace(/×/g, "*")
         .replace(TIMES, (_, count = "") => `${count} * `)
@@ -106,8 +95,8 @@ export function clean(text) {
 
 // ---- Readings
 
-/** The nanoseconds of a count of a unit, or null if they are not whole. The count is the digits
- * times ten to this power, divided by the divisor. */
+/** The count is the digits times ten to the power, divided by the divisor. The result is null if it
+ * is not whole. */
 function nanosOf([digits, power, divisor = 1n], { nanos }) {
     const ten = 10n ** BigInt(Math.abs(power));
     const above = digits * nanos * (power > 0 ? ten : 1n);
@@ -115,8 +104,7 @@ function nanosOf([digits, power, divisor = 1n], { nanos }) {
     return above % below === 0n ? above / below : null;
 }
 
-/** The reading with this value. Its text counts this unit, and those smaller units that are a day
- * or shorter. */
+/** The text counts this unit, and those smaller units that are a day or shorter. */
 function reading(nanos, longest) {
     let rest = nanos ?? 0n;
     const parts = UNITS.slice(UNITS.indexOf(DAY)).filter((unit) => unit.nanos < longest.nanos);
@@ -128,7 +116,7 @@ function reading(nanos, longest) {
     return { nanos, text: counts.filter(Boolean).join(" ") || `0${longest.names[0]}` };
 }
 
-/** The meaning of a text: the readings, each value once, if the library can read all of them. */
+/** Readings with the same value are listed once. */
 function meaning(text, readings, sentence) {
     const values = readings.map(({ nanos }) => nanos);
     if (values.includes(null)) {
@@ -153,10 +141,9 @@ const LED = new RegExp(String.raw`^(?:${KEY}|(?<word>(?:${LEADING})(?=[=\s])|\+)
     + String.raw`(?<words>\S.*?)\s*[,;]?$`, "is");
 const ENCLOSED = /^(?:"(.+)"|'(.+)'|`(.+)`|“(.+)”|‘(.+)’|«(.+)»|\((.+)\)|\[(.+)\]|\{(.+)\})$/s;
 
-/** Up to one more than this many quotes, brackets and words are taken off around a duration. */
+/** This bounds a recursion, which takes off one quote, bracket or word at a time. */
 const MOST_AROUND = 4;
 
-/** The meaning of a part of a text, which is read as it stands or converted. */
 function inside(text, options, around) {
     for (const each of [text, clean(text)]) {
         const { ok, value } = tryParseNs(each, options);
@@ -165,15 +152,14 @@ function inside(text, options, around) {
     return around < MOST_AROUND ? converted(text, options, around + 1) : null;
 }
 
-/** Whether these terms, each with a unit, may be several durations. That is so if a unit is not
- * smaller than the one before it, with no operator between them. */
+/** Terms may be several durations if a unit is not smaller than the one before it, with no operator
+ * between them. Each term must have a unit. */
 function isListOf(sum) {
     const lengths = sum.map(({ unit }) => unitOf(unit).nanos);
     const isLonger = (place) => place > 0 && lengths[place] >= lengths[place - 1];
     return sum.some(({ operator }, place) => !operator && isLonger(place));
 }
 
-/** A duration after a key or another word. Every term must have a unit. */
 function afterKey(text, options, around) {
     const { key, word, words } = LED.exec(text)?.groups ?? {};
     if (!words) return null;
@@ -244,8 +230,7 @@ const COUNT = "([0-9]+(?:[.,][0-9]+)?)";
 const TIME = `(?:${COUNT}H)?(?:${COUNT}M)?(?:${COUNT}S)?`;
 const ISO = new RegExp(`^P(?=.)(?:${COUNT}W)?(?:${COUNT}D)?(?:T(?=.)${TIME})?$`, "i");
 
-/** `PT5M`, in which only the last count can be a decimal. Weeks together with days, as in `P1W2D`,
- * are from ISO 8601-2. */
+/** `PT5M`, in which only the last count can be a decimal */
 function iso8601(text) {
     if (!/^P[0-9T][0-9.,YMWDTHS]*$/i.test(text)) return null;
     const counts = (ISO.exec(text) ?? []).slice(1);
@@ -295,14 +280,11 @@ const GROUPS = String.raw`[1-9][0-9]{0,2}(?:([.,_'’\u00a0\u202f])[0-9]{3})(?:\
 const GROUPED = new RegExp(String.raw`^(${GROUPS})(?:(?!\2)[.,]([0-9]+))?$`);
 const EXPONENT = /^([0-9]+(?:\.[0-9]+)?)e([+-]?[0-9]{1,2})$/i;
 
-/** A decimal as its digits and a power of ten. */
 function digitsOf(words) {
     const [whole, fraction = ""] = words.split(/[.,]/);
     return [BigInt(whole + fraction), -fraction.length];
 }
 
-/** The counts that a number can mean, each as digits and a power of ten, and what is wrong with the
- * number. It is null if the number means nothing. */
 function numberOf(words) {
     if (/^[0-9]+$/.test(words)) return { counts: [[BigInt(words), 0]] };
     const [, mantissa, power] = EXPONENT.exec(words) ?? [];
@@ -323,8 +305,8 @@ function numberOf(words) {
 
 const isPlural = (name) => /\p{L}{2}s$/iu.test(name);
 
-/** The count that a number word means, in the form that `numberOf` returns. It is null if the
- * unit's singular or plural doesn't fit, since `twenty second` may be an ordinal. */
+/** It is null if the unit's singular or plural doesn't fit, since `twenty second` may be an
+ * ordinal. */
 function wordOf(words, name) {
     const [, hundreds = "", rest] = /^(?:(\w+) hundred(?: and)? ?)?(.*)/.exec(words.toLowerCase());
     const [first, second = ""] = rest.split(/[-\s]+/);
@@ -339,8 +321,7 @@ function wordOf(words, name) {
 
 const IN_LINE = /^(?:([0-9]+)\s+)?([0-9]{1,2})\/([0-9]{1,2})$/;
 
-/** The count that a fraction below one means, with or without a whole number before it. It is null
- * if the fraction is not in lowest terms, and so may be two numbers, as in `5/10 minutes`. */
+/** A fraction that is not in lowest terms may be two numbers, as in `5/10 minutes`. */
 function fractionOf(words, name) {
     const inLine = (vulgar) => ` ${vulgar.normalize("NFKD").replace("⁄", "/")}`;
     const ascii = words.replace(/[^0-9\s/]/, inLine).trim();
@@ -355,24 +336,21 @@ function fractionOf(words, name) {
     return { counts: [[count, 0, BigInt(bottom)]], sentence: say`Fractions can't be read.` };
 }
 
-/** The counts that a number means. It is a fraction, a numeral or in words. */
 function anyNumberOf(fraction, numeral, words, name) {
     if (fraction) return fractionOf(fraction, name);
     return numeral ? numberOf(numeral) : wordOf(words, name);
 }
 
-/** A term's unit and the counts that its number can mean, or null if it means nothing. */
 function termOf(fraction, numeral, words, name) {
     const number = anyNumberOf(fraction, numeral, words, name);
-    // Before a foreign word, the language decides whether a comma groups thousands or begins a
-    // decimal.
+    // Before a foreign word, the language decides what groups digits and what begins a decimal.
     if (number?.counts.length === 2 && FOREIGN.has(name.toLowerCase())) return null;
     if (number && /^fortnights?$/i.test(name)) {
         const weeks = number.counts.map(([digits, ...rest]) => [2n * digits, ...rest]);
         return { ...number, counts: weeks, unit: WEEK, isForeign: true };
     }
     const unit = unitOf(unitName(name) ?? "");
-    // It may be a quarter of an hour, or of a year.
+    // A quarter may be one of an hour, or of a year.
     const isVague = words && unit?.names[0] === "q";
     if (!number || !unit || isVague || unit.chinese.includes(name)) return null;
     return { ...number, unit, isForeign: !unitOf(name) };
@@ -406,8 +384,6 @@ function halves(text) {
     return meaning(text, [reading((2n * digits + 1n) * term.unit.nanos / 2n, term.unit)], sentence);
 }
 
-/** The terms of a sum, and whether the sum is a list. It is null if a part of the text is not a
- * term. */
 function termsOfSum(text) {
     const sum = [];
     let isList = false;
@@ -425,8 +401,6 @@ function termsOfSum(text) {
     return { sum, isList };
 }
 
-/** The sentence about the first thing that is wrong in a sum, or null if the library's line is
- * enough. */
 function wrongIn(sum) {
     const isWrong = ({ sentence, isForeign, joined }) => sentence || isForeign || joined.trim();
     return sum.find(isWrong)?.sentence ?? null;
@@ -465,7 +439,6 @@ const FIRST_OF_LIST = String.raw`^(?!${NUMBER}\s*\p{L}+\.?$)${NUMBER}\s*\p{L}*\s
 const LIST = new RegExp(String.raw`${FIRST_OF_LIST}(?:[,;]|and\b|or\b)\s*[0-9]`, "iu");
 
 const EXACT = say`Only exact durations can be read.`;
-/** Notations that are not converted, and what the page says about them. */
 const REFUSED = [
     [/^[-−–]\s*[0-9P.]|^PT?-/i, say`A duration can't be negative.`],
     [/^[0-9]{4}-[0-9]{2}-[0-9]{2}/, say`A date is not a duration.`],
@@ -496,16 +469,14 @@ const REFUSED = [
     [new RegExp(`^(?:${WORD})\\b`, "i"), say`Write numbers in digits.`],
 ];
 
-/** Each function returns what a text means in a notation, or null if the text is in another
- * notation. The first function that knows the text decides. */
+/** The first function that knows the text decides. */
 const CONVERSIONS = [
     afterKey, withinQuotes, clock, clockWithUnit, iso8601, primes, groupedByBlanks, sumOfTerms,
     halves,
 ];
 
-/** Returns what a text in another notation means, or null if the notation is unknown. The result
- * has a list of readings, each with its exact value and the text to write. It also has a sentence
- * that says why the text is refused, unless the library's line is enough. */
+/** The result is null if the notation is unknown. Its sentence is null if the library's line is
+ * enough. */
 export function converted(text, options, around = 0) {
     const words = plain(text);
     for (const convert of CONVERSIONS) {

@@ -13,8 +13,6 @@ const boxes = Object.values(switches);
 const lists = { ...printing, default_unit: defaultUnit };
 const printedNames = UNITS.map(({ printed }) => printed);
 
-/** The word in the link for the default unit. There is none if a number without a unit counts
- * seconds. */
 function defaultUnitWords() {
     if (defaultUnit.value === SECOND) return [];
     if (defaultUnit.value === REFUSED) return ["require_unit"];
@@ -43,15 +41,13 @@ export function writeLink() {
     return location.href;
 }
 
-/** Whether a word can name this choice in one of the lists. For the choice that no unit is the
- * default, there is `require_unit`. */
+/** `require_unit` is the only word for REFUSED. */
 function isChoice(id, value) {
     if (!Object.hasOwn(lists, id) || value === REFUSED) return false;
     return Array.from(lists[id].options, (one) => one.value).includes(value);
 }
 
-/** Takes a word about the units to print. Returns whether all its units exist, and one or more are
- * left to print. */
+/** Returns whether all names are units, and one or more units are left to print. */
 function takeUnits(id, names) {
     const places = names.map((name) => printedNames.indexOf(name));
     if (places.includes(-1)) return false;
@@ -62,7 +58,6 @@ function takeUnits(id, names) {
     });
 }
 
-/** Takes a word of the link, and returns whether it is known. */
 function take(word) {
     const [id, ...rest] = word.split("=");
     const box = boxes.find((each) => each.id === id);
@@ -76,8 +71,7 @@ function take(word) {
     return true;
 }
 
-/** Takes the state from the link. Words that are unknown or badly written change nothing, and are
- * returned. */
+/** Words that are unknown or badly written change nothing, and are returned. */
 export function readLink() {
     for (const box of boxes) box.checked = false;
     for (const [name, box] of Object.entries(printing)) box.value = WHOLE[name];

@@ -1,4 +1,3 @@
-// The page's behaviour when something is typed, pressed or chosen.
 import { tryParseNs } from "../js/dist/duration-str.js";
 import { copied, showAnswer } from "./answer.js";
 import {
@@ -24,7 +23,6 @@ let shownCopy;
 function read() {
     const told = showAnswer();
     clearTimeout(pause);
-    // Screen readers get the answer, and the link is written, once nothing more is typed.
     pause = setTimeout(() => {
         element("announcement").textContent = told;
         writeLink();
@@ -75,7 +73,6 @@ function showExamples() {
     roam(element("examples"));
 }
 
-/** The choices for a number without a unit. */
 function showDefaultUnits() {
     const units = UNITS.map(({ names, printed }) => new Option(names.at(-1), printed));
     defaultUnit.replaceChildren(...units, new Option(REFUSED, REFUSED));
@@ -86,7 +83,6 @@ function showDefaultUnits() {
     });
 }
 
-/** The choices of how a duration is printed. */
 function showPrinting() {
     const counts = UNITS.map((_, place) => new Option(place + 1, place + 1));
     counts.at(-1).text = "all";
@@ -106,7 +102,6 @@ function showPrinting() {
     }
 }
 
-/** Makes the place for the code in a language, with a button that copies it. */
 function placeForCode([id, [title, got]]) {
     const said = `the code in ${title}`;
     const code = Object.assign(make("pre"), { id, tabIndex: 0, role: "group", ariaLabel: said });
@@ -122,8 +117,7 @@ function showLanguages() {
     element("codes").replaceChildren(...Object.entries(LANGUAGES).map(placeForCode));
 }
 
-/** Copies what the element shows, with digits that are not grouped, or selects it if it can't be
- * copied. */
+/** Digits are copied without groups. A text that can't be copied is selected. */
 async function copy(id) {
     if (id === "link-note") copied[id] = writeLink();
     let said = `Copied: ${copied[id].split("\n", 1)}`;
@@ -143,7 +137,7 @@ function open() {
     const unknown = readLink();
     read();
     if (unknown.length === 0) return;
-    // The link stays as it is until something is typed or chosen.
+    // A link with unknown words is not rewritten at once.
     clearTimeout(pause);
     showUnknown(unknown);
 }

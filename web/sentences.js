@@ -1,11 +1,9 @@
-// Sentences, which are lists of strings and of quoted texts. This module needs no browser. Neither
-// do advice.js, conversions.js, units.js and values.js, which know what a text means.
+// A sentence is a list of strings and of quoted texts.
 
 /** How many characters of a long text are shown, and how many UTF-16 units on each side of a
  * fault. */
 export const AROUND = 40;
 
-/** This text, or its first 40 characters and `…` if it is longer. */
 export function shorten(found) {
     const first = Array.from(found.slice(0, 2 * AROUND)).slice(0, AROUND).join("");
     return first.length < found.length ? `${first}…` : first;
@@ -19,7 +17,6 @@ export function say(strings, ...values) {
     return [first, ...others.flatMap((each, place) => [...quoted[place], each])].filter(Boolean);
 }
 
-/** The library's line as a sentence with the words that it quotes. */
 export function lineOf({ message }) {
     const line = `${message.replace(/^./, (letter) => letter.toUpperCase())}.`;
     // The second, fourth, .. part stood between quotation marks.

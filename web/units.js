@@ -1,5 +1,3 @@
-// The units, and the terms of a text that the library has read. Only the library says what a text
-// means.
 import { UNITS as LISTED } from "./lists.js";
 import { formatNs, parseNs } from "../js/dist/duration-str.js";
 
@@ -7,8 +5,7 @@ import { formatNs, parseNs } from "../js/dist/duration-str.js";
  * written into the link. */
 export const LONG = 2_000;
 
-/** The units of the list, also with their lengths in nanoseconds and in words, and with their
- * printed names. */
+/** `length` is in words, such as `30 days`. */
 export const UNITS = LISTED.map((rows) => {
     const [names, chinese, near] = rows.map((row) => row.split(" ").filter(Boolean));
     const nanos = parseNs(`1${names[0]}`);
@@ -24,13 +21,11 @@ export function unitOf(word) {
     return UNITS.find(({ names, chinese }) => names.includes(name) || chinese.includes(name));
 }
 
-/** The unit that a number without a unit counts under these options, or null if it is refused. */
 export function defaultUnitOf({ requireUnit, defaultUnit = "s" }) {
     return requireUnit ? null : unitOf(defaultUnit);
 }
 
-/** The terms of a text that is read. Each has the operator before it, the term as it is written,
- * its number and its unit's name. In a refused text, those after the fault mean nothing. */
+/** The terms of a text that is read. In a refused text, those after the fault mean nothing. */
 export function* terms(text, { cnUnit }) {
     const letters = `A-Za-zµ${cnUnit ? CHINESE_LETTERS : ""}`;
     const sign = "(?:([+*])[ \t\r\n]*)?";

@@ -1,17 +1,15 @@
-// Values in words, as decimals, in ISO 8601 and term by term.
 import { breakdown, parseNs, parts } from "../js/dist/duration-str.js";
 import { defaultUnitOf, terms, UNITS, unitOf } from "./units.js";
 
 const [MINUTE, SECOND] = ["m", "s"].map((name) => unitOf(name).nanos);
-/** The most terms that are shown. */
 const SHOWN = 20;
 
-/** The digits before the point in groups of three: `193,029`. */
+/** `193,029` */
 export function groupDigits(digits) {
     return digits.replace(/^[0-9]+/, (whole) => whole.replace(/\B(?=([0-9]{3})+$)/g, ","));
 }
 
-/** A count of a unit in words: `30 minutes`, or `6 months of 30 days`, since the months of a
+/** Years, quarters and months have their lengths, as in `6 months of 30 days`, since those of a
  * calendar vary. */
 function countInWords(number, unit) {
     const count = BigInt(number).toString();
@@ -27,8 +25,7 @@ export function inWords(text, options) {
     return counts.join(" ");
 }
 
-/** The counts of the units in which a duration is printed, and the nanoseconds that they leave out:
- * `3 min, 13 s, 29000000 ns left out`. */
+/** `3 min, 13 s, 29000000 ns left out` */
 export function counts(nanos, { style, ...format }) {
     const { parts: counted, restNs } = breakdown(nanos, format);
     const words = counted.map(({ count, unit }) => `${count} ${unit}`);
@@ -36,7 +33,7 @@ export function counts(nanos, { style, ...format }) {
     return words.join(", ") || "none";
 }
 
-/** A count of nanoseconds in units of this length, exactly: `193.029`. */
+/** `193.029`, exactly. The length must be a power of ten. */
 export function decimal(nanos, length) {
     const places = length.toString().length - 1;
     const rest = nanos % length;
@@ -77,9 +74,8 @@ function steps(values) {
     return rows;
 }
 
-/** Rows with the terms of a text that is read and the value of each, and with the sum or the steps
- * of a product. If there are more than SHOWN terms, the last row says so instead. A single term has
- * no rows. */
+/** A single term has no rows. If there are more than SHOWN terms, the last row says so in place of
+ * the sum or the steps. */
 export function termRows(text, options) {
     const found = [];
     for (const term of terms(text, options)) if (found.push(term) > SHOWN) break;

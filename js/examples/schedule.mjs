@@ -1,5 +1,4 @@
-// A job that runs again and again until a deadline. The period and the deadline come from a
-// configuration.
+// Runs a job again and again until a deadline, with settings from a configuration.
 import { DurationError, parse } from "duration-str";
 
 /**

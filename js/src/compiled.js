@@ -5,7 +5,7 @@ import letters from "duration_str.txt";
 const ADVICE = "allow 'wasm-unsafe-eval' in the content security policy, lift --jitless or the "
     + "limit of the address space, or import duration-str/plain";
 
-/** The bytes that the letters stand for. Node's Buffer takes less time than the loop. */
+/** Node's Buffer takes less time than the loop. */
 function bytesOf(text) {
     const { Buffer, process } = globalThis;
     // In a page, `Buffer` may be something else.
@@ -15,7 +15,6 @@ function bytesOf(text) {
     return bytes;
 }
 
-/** The exports of the module. If it may not be compiled, the error says what to do. */
 export function instance() {
     try {
         return new WebAssembly.Instance(new WebAssembly.Module(bytesOf(letters))).exports;

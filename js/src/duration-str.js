@@ -1,4 +1,4 @@
-// Reads and prints durations as people write them. index.d.ts documents the exports.
+// index.d.ts documents the exports.
 import { UNITS } from "./lists.js";
 import {
     ANSWER, calls, fields, loneSurrogateIn, output, start, TEXT, write, WRITTEN,
@@ -23,11 +23,9 @@ export const version = VERSION;
 
 // ---- The duration in the memory, at ANSWER
 
-/** The duration in nanoseconds. */
 const nanoseconds = () => fields.getBigUint64(ANSWER, true);
 
-/** The duration in whole milliseconds, and the nanoseconds beyond them. All numbers on the way are
- * below 2^53, so they are exact. */
+/** All numbers on the way are below 2^53, so they are exact. */
 function split() {
     const high = fields.getUint32(ANSWER + 4, true);
     const lower = high % MILLISECOND;
@@ -37,8 +35,7 @@ function split() {
     return { millis, rest };
 }
 
-/** The arguments of the calls that take seconds and nanoseconds. The module takes a number of 64
- * bits, such as the seconds, as two halves. */
+/** The module takes the seconds, which have 64 bits, as two halves. */
 function secondsAndNanos() {
     const { millis, rest } = split();
     const secs = Math.trunc(millis / 1000);
@@ -59,9 +56,7 @@ function milliseconds() {
 const negative = (value) => new RangeError(`a duration is not negative: ${value}`);
 const tooLong = (longest) => new RangeError(`a duration is at most 584 years, ${longest}`);
 
-/** Puts a duration at ANSWER. It is a bigint of nanoseconds, or a number of milliseconds, which is
- * rounded to the nearest nanosecond. (The product can be the middle of two if the exact product is
- * less than 2^-34 below it. Then it is rounded up.) */
+/** Puts nanoseconds (a bigint) or milliseconds (a number) at ANSWER. */
 function put(value) {
     if (typeof value === "bigint") {
         if (value < 0n) throw negative(value);
@@ -91,8 +86,8 @@ function put(value) {
 const notText = (value, help = "") =>
     new TypeError(`a duration's text must be a string, not ${typeOf(value)}${help}`);
 
-/** The digits of a number or a bigint. For a fraction or a negative number, this returns the text
- * that JavaScript prints, which the library refuses. */
+/** For a fraction or a negative number, this is the text that JavaScript prints, which the library
+ * refuses. */
 function digitsOf(value, bits) {
     if (!(bits & READS_NUMBERS)) {
         throw notText(value, ": to read numbers, name their unit, as by { defaultUnit: 'ms' }");
@@ -102,8 +97,7 @@ function digitsOf(value, bits) {
     throw new RangeError(`a number must be below 2^53, or a bigint, not ${value}`);
 }
 
-/** Reads a text, or a number if a default unit is named. Returns the fault, or null if the text is
- * read. Then its value is at ANSWER. */
+/** Returns the fault, or null if the text is read. Then its value is at ANSWER. */
 function faultIn(value, options) {
     const isText = typeof value === "string";
     if (!isText && typeof value !== "number" && typeof value !== "bigint") throw notText(value);
@@ -182,9 +176,8 @@ export function format(milliseconds, options) {
 
 // ---- Counting parts
 
-/** Breaks a duration down. Afterwards the counts of all units are at WRITTEN, and the nanoseconds
- * that no part has are at ANSWER. `all` is the set of the units that can be counted, of which
- * `longest` is the largest by default. Returns the set of the units that are counted. */
+/** Afterwards the counts of all units are at WRITTEN, and the nanoseconds that no part has are at
+ * ANSWER. Returns the set of the units that are counted. */
 function breakDown(value, options, all, longest) {
     if (typeof value !== "number" && typeof value !== "bigint") {
         const wanted = "a number of milliseconds or a bigint of nanoseconds";
@@ -197,15 +190,14 @@ function breakDown(value, options, all, longest) {
     // `breakdown` counts all units, and `parts` all except the quarter.
     if (named & ~all) throw new RangeError("parts has no quarters");
     const most = countOf(chosen.parts);
-    // At least one part is allowed, and each count is below 2^64, so the call refuses nothing.
+    // The call refuses nothing, since the duration is below 2^64 ns.
     calls.duration_str_breakdown(low, high, nanos, left, most, WRITTEN, ANSWER);
     return left;
 }
 
-/** The count of a unit, as a bigint. */
 const countAt = (unit) => fields.getBigUint64(WRITTEN + 8 * unit, true);
 
-/** Whether a unit has a count. This makes no bigint. */
+/** This makes no bigint. */
 function isCounted(unit) {
     const address = WRITTEN + 8 * unit;
     return fields.getUint32(address, true) !== 0 || fields.getUint32(address + 4, true) !== 0;
@@ -220,7 +212,6 @@ export function breakdown(value, options = {}) {
     return { parts: counted, restNs: nanoseconds() };
 }
 
-/** The count as a number. It must be below 2^53. */
 function exactly(count) {
     const number = Number(count);
     if (Number.isSafeInteger(number)) return number;
@@ -237,8 +228,7 @@ export function parts(value, options = {}) {
         isZero = false;
     }
     if (!isZero) return counts;
-    // There are no parts, so the result is 0 of the smallest unit, or 0 seconds if that unit is
-    // shorter.
+    // The highest bit of `left` is the smallest unit.
     const zero = Math.min(31 - Math.clz32(left), UNITS.indexOf("s"));
     return { [PARTS[zero]]: 0 };
 }

@@ -1,6 +1,4 @@
-// The library's module, its memory, and texts out of it and into it. The module is one of
-// WebAssembly (compiled.js), or JavaScript made from that module (plain.js). `instance` comes from
-// one of the two.
+// `instance` comes from compiled.js or from plain.js.
 import { instance } from "instance";
 
 /** The size of a page in bytes, by which a memory of WebAssembly grows. */
@@ -9,8 +7,7 @@ const LONE_SURROGATE = /\p{Surrogate}/gu;
 
 /** The size of the buffer that the module writes to. Everything that it writes fits. */
 const WRITTEN_SIZE = 867;
-/** Copying a short text takes less time than calling an encoder or a decoder. A text to read is
- * short up to this many UTF-16 units, and a written text up to this many bytes. */
+/** A text to read is short up to this many UTF-16 units, a written text up to this many bytes. */
 const SHORT_TEXT = 40;
 const SHORT_WRITTEN = 28;
 
@@ -25,8 +22,8 @@ export let fields;
 let written;
 export let texts;
 
-/** Makes the module. This happens at the first call, so that an import takes less time, and does
- * not throw if WebAssembly is refused. */
+/** This happens at the first call that needs the module, so that an import takes less time, and
+ * does not throw if WebAssembly is refused. */
 export function start() {
     const { memory: all, __heap_base: heap, ...others } = instance();
     ANSWER = Math.ceil(heap.value / 8) * 8;
@@ -39,20 +36,19 @@ export function start() {
     TEXT = WRITTEN + WRITTEN_SIZE;
     memory = all;
     makeViews();
-    // A short text always has room. Usually the memory needn't grow for that. In V8 growing makes
-    // all typed arrays slower, which then may have lost their memory.
+    // A short text always has room.
     reserve(SHORT_TEXT);
     calls = others;
 }
 
-/** Makes the views. Older views stop working when the memory grows. */
+/** Older views stop working when the memory grows. */
 function makeViews() {
     fields = new DataView(memory.buffer);
     written = new Uint8Array(memory.buffer, WRITTEN, WRITTEN_SIZE);
     texts = new Uint8Array(memory.buffer, TEXT);
 }
 
-/** Grows the memory so that it has this many bytes from TEXT on. */
+/** Makes room for this many bytes from TEXT on. */
 function reserve(length) {
     if (texts.length >= length) return;
     memory.grow(Math.ceil((length - texts.length) / PAGE));
@@ -63,7 +59,7 @@ function reserve(length) {
 
 let decoder;
 
-/** Does what `decode` does, by the URI functions, if there is no decoder, as in jsdom. */
+/** Decodes where there is no decoder, such as in jsdom. */
 function decodeEscaped(bytes) {
     let escaped = "";
     for (let place = 0; place < bytes.length; place++) {
@@ -72,15 +68,14 @@ function decodeEscaped(bytes) {
     return decodeURIComponent(escaped);
 }
 
-/** The text of these bytes of UTF-8. */
 export function decode(bytes) {
     if (typeof TextDecoder === "undefined") return decodeEscaped(bytes);
     decoder ??= new TextDecoder("utf-8", { ignoreBOM: true });
     return decoder.decode(bytes);
 }
 
-/** The text of the codes `c`. `String.fromCharCode` also takes an array of codes, by `apply`, but
- * is slower then. So a text is cut from that of 9, 16 or 28 codes. */
+/** `String.fromCharCode` also takes an array of codes, by `apply`, but is slower then. So it gets
+ * 9, 16 or 28 codes, and the text is cut. */
 function textOf(c, length) {
     let whole;
     if (length <= 9) {
@@ -103,7 +98,7 @@ function textOf(c, length) {
 /** The codes of a short text that has a µ. */
 const codes = new Uint8Array(SHORT_WRITTEN);
 
-/** The text of this length that a call has written. */
+/** The text that a call has written, which has this many bytes. */
 export function output(length) {
     const bytes = written;
     if (length > SHORT_WRITTEN) return decode(bytes.subarray(0, length));
@@ -136,7 +131,6 @@ function copyShort(text) {
     return all <= 0x7f;
 }
 
-/** Does what `write` does, if there is no encoder. */
 function writeEscaped(text) {
     const bytes = unescape(encodeURIComponent(text.replace(LONE_SURROGATE, "\ufffd")));
     for (let index = 0; index < bytes.length; index++) texts[index] = bytes.charCodeAt(index);
@@ -153,7 +147,6 @@ export function write(text) {
     return encoder.encodeInto(text, texts).written;
 }
 
-/** The index of the first lone surrogate of a text that has this many bytes, or -1. A text that has
- * no more bytes than UTF-16 units is ASCII, and has no surrogates. */
+/** A text that has no more bytes than UTF-16 units is ASCII, and has no surrogates. */
 export const loneSurrogateIn = (text, length) =>
     length > text.length ? text.search(LONE_SURROGATE) : -1;

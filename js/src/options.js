@@ -1,4 +1,3 @@
-// The options of reading, and the format in which durations are printed and counted.
 import { STYLES, UNITS } from "./lists.js";
 import { calls, start, TEXT, write } from "./memory.js";
 
@@ -7,12 +6,10 @@ export const PARTS = [
     "years", null, "months", "weeks", "days", "hours", "minutes",
     "seconds", "milliseconds", "microseconds", "nanoseconds",
 ];
-/** A set of units is a number with the bit `1 << unit` for each unit. These are the set of all
- * units, and the set of the units that `parts` counts. */
+/** A set of units is a number with the bit `1 << unit` for each of them. */
 export const ALL_UNITS = (1 << UNITS.length) - 1;
 export const COUNTED_UNITS = ALL_UNITS & ~(1 << PARTS.indexOf(null));
-/** The options of reading that are on or off. Each has the bit `1 << index`, as in
- * `enum duration_str_option`. */
+/** Each has the bit `1 << index`, as in `enum duration_str_option`. */
 const OPTIONS = ["noCalc", "lowercase", "cnUnit", "requireUnit"];
 const NO_CALC = 1;
 const REQUIRE_UNIT = 8;
@@ -28,8 +25,7 @@ export function typeOf(value) {
     return Array.isArray(value) ? "array" : typeof value;
 }
 
-/** Whether a value is an object that inherits nothing, or only from Object.prototype, of this realm
- * or another. */
+/** Another realm has an Object.prototype of its own, which counts too. */
 function isPlain(options) {
     if (typeof options !== "object" || options === null) return false;
     const prototype = Object.getPrototypeOf(options);
@@ -46,8 +42,8 @@ export function checkPlain(options, hint = "") {
 
 const unknown = (name) => new TypeError(`unknown option: ${name}`);
 
-/** The number of the unit that a text calls by this name if all options are off. `what` is the
- * option that has this value, for the error. */
+/** The number of the unit that has this name if all options are off. `what` describes the value in
+ * errors. */
 function unitOf(what, name) {
     if (typeof name !== "string") {
         throw new TypeError(`${what} must be a string, not ${typeOf(name)}`);
@@ -61,8 +57,6 @@ function unitOf(what, name) {
     throw new RangeError(`${what} must be one of ${UNITS.join(", ")}, not ${name}`);
 }
 
-/** The bits of a default unit. Any has READS_NUMBERS. One other than the second also has its number,
- * and turns `noCalc` on. */
 function defaultUnitBits(name) {
     if (name === undefined) return 0;
     const unit = unitOf("the option defaultUnit", name);
@@ -70,7 +64,6 @@ function defaultUnitBits(name) {
     return READS_NUMBERS | NO_CALC | (unit + 1) << DEFAULT_UNIT;
 }
 
-/** The bits of the options that are on, and of the default unit. */
 export function bitsOf(options) {
     if (options === undefined) return 0;
     // `map` passes the index as the second argument.
@@ -78,7 +71,6 @@ export function bitsOf(options) {
     let bits = 0;
     let wantsOperators = false;
     const names = Object.keys(options);
-    // With `for..of` here, V8 compiles `parse` without options into more instructions.
     for (let index = 0; index < names.length; index++) {
         const name = names[index];
         const value = options[name];
@@ -111,7 +103,6 @@ export function bitsOf(options) {
 
 // ---- Formats
 
-/** The number of a style by its name. */
 export function styleOf(name) {
     if (typeof name !== "string") {
         throw new TypeError(`the option style must be a string, not ${typeOf(name)}`);
@@ -121,7 +112,6 @@ export function styleOf(name) {
     throw new RangeError(`the option style must be one of ${STYLES.join(", ")}, not ${name}`);
 }
 
-/** The set of the units that a list names. */
 function unitsOf(names) {
     if (!Array.isArray(names)) {
         throw new TypeError(`the option units must be an array, not ${typeOf(names)}`);
@@ -132,7 +122,7 @@ function unitsOf(names) {
     return units;
 }
 
-/** The greatest number of parts. No duration has more parts than there are units. */
+/** No duration has more parts than there are units. */
 export function countOf(parts) {
     if (typeof parts !== "number") {
         throw new TypeError(`the option parts must be a number, not ${typeOf(parts)}`);
@@ -147,7 +137,6 @@ export function countOf(parts) {
 export const PRINTED = ["units", "largest", "smallest", "parts", "style"];
 export const COUNTED = ["units", "largest", "smallest", "parts"];
 
-/** The format with these options. `known` are the names that they may have. */
 export function formatOf(options, known) {
     checkPlain(options);
     let units, largest, smallest = "ns", parts = Infinity, style = "short";
@@ -164,9 +153,8 @@ export function formatOf(options, known) {
     return { units, largest, smallest, parts, style };
 }
 
-/** The set of the units in `all` that a format leaves, and the set of all units in its options,
- * given or by default. If no units are listed and no largest is chosen, the largest is
- * `longest`. */
+/** `left` has the units that a format leaves. `named` has these, and at least all others that its
+ * options name. If no units are listed and no largest is chosen, the largest is `longest`. */
 export function unitsLeft({ units, largest, smallest }, all, longest) {
     const wanted = units === undefined ? all : unitsOf(units);
     if (largest === undefined) largest = units === undefined ? longest : "y";

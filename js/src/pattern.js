@@ -1,4 +1,3 @@
-// The regular expressions of the texts that the grammar allows.
 import { SENTENCES, UNIT_PATTERNS } from "./lists.js";
 import { bitsOf, checkPlain } from "./options.js";
 

@@ -1,13 +1,11 @@
-// Why a text is refused: the fault that a call returns, and the error that a call throws.
 import { CODES } from "./lists.js";
 import {
     CAUSE, decode, EXPECTED, fields, FOUND_LENGTH, HAS_PLACE, output, PLACE, texts,
 } from "./memory.js";
 
-/** The most UTF-16 units of a text that Node shows with an error. */
 const SHOWN_LENGTH = 80;
 
-/** What is wrong with a text. The report's last line is the message. */
+/** The report's last line is the message. */
 class Fault {
     code;
     text;
@@ -38,16 +36,16 @@ class Fault {
     }
 }
 
-/** Hides the field of this name behind a getter if its text is long. If nobody catches an error,
- * Node shows up to 10,000 characters of each text in its cause, but calls no getter. */
+/** If nobody catches an error, Node shows up to 10,000 characters of each text in its `cause`, but
+ * calls no getter. */
 function hideLong(cause, name) {
     const text = cause[name];
     if (text === null || text.length <= SHOWN_LENGTH) return;
     Object.defineProperty(cause, name, { get: () => text });
 }
 
-/** The error for a refused text. Everything about the fault except its message and its report is in
- * `cause`, since a structured clone of an error can keep that, but no fields of its own class. */
+/** Except the message, the fault's fields are in `cause`, since a structured clone of an error can
+ * keep that, but no fields of this class. */
 export class DurationError extends Error {
     #report;
 
@@ -100,7 +98,7 @@ Object.defineProperty(DurationError.prototype, "name", {
     value: "DurationError", writable: true, configurable: true,
 });
 
-/** What could stand at the place, from the bits of `enum duration_str_expected`. */
+/** The bits are those of `enum duration_str_expected`. */
 function expectedOf(bits) {
     return {
         number: (bits & 1) !== 0,
@@ -126,7 +124,6 @@ export function faultOf(text, length, reportLength) {
     return new Fault({ code, text, index, place, found, expected }, output(reportLength));
 }
 
-/** The fault of a text that has a lone surrogate at this index. */
 export function loneSurrogateAt(text, index) {
     const expected = expectedOf(0);
     const cause = { code: "NOT_TEXT", text, index, place: null, found: null, expected };

@@ -1,5 +1,4 @@
-// Tests the package as its users load it: by `require`, bundled, and in a service worker. If a tool
-// is missing, its test is skipped.
+// Tests the package as its users load it, such as by `require`, bundled, or in a service worker.
 import assert from "node:assert/strict";
 import { execFileSync, spawn, spawnSync } from "node:child_process";
 import { createServer } from "node:http";
@@ -78,8 +77,6 @@ console.log(said);`);
     assert.equal(runs("node", "both.mjs"), "true");
 });
 
-/** Runs these lines in Node, after the lines `before`, with the package as `all`. Returns what Node
- * prints. */
 function nodeOutput(words, before, lines) {
     const code = `${before}\nconst all = await import("duration-str");\n${lines}`;
     return runs("node", "--no-warnings", ...words, "--input-type=module", "--eval", code);
@@ -316,7 +313,6 @@ async function pageMessage(files, headers = {}) {
     }));
 }
 
-/** Bundles these lines with the modules that they import. */
 function bundle(lines) {
     writeFileSync(join(room, "lines.mjs"), lines);
     return runs("esbuild", "lines.mjs", "--bundle", "--log-level=error", "--format=iife");

@@ -1,6 +1,6 @@
-// `node durstr.js [OPTION..]` writes for each line what the program durstr writes, but for a
-// refused line the package's message. An option may also be `require_unit`, or a default unit such
-// as `default_unit=ms`. The status is 0 if all lines are read, and 1 if some are refused.
+// `node durstr.js [OPTION..]` answers each line of the standard input. It writes the nanoseconds
+// and the printed duration, or why the line is refused. Options are named as in vectors.json, such
+// as `no_calc` or `default_unit=ms`. The status is 0 if all lines are read, and otherwise 1.
 import { readFileSync, writeFileSync } from "node:fs";
 
 import { formatNs, tryParseNs } from "duration-str";
@@ -9,7 +9,6 @@ import { optionsOf } from "./vectors.js";
 const options = optionsOf(process.argv.slice(2));
 const strict = new TextDecoder("utf-8", { fatal: true, ignoreBOM: true });
 
-/** Returns the text that is written for a line, and whether the line is read. */
 function answer(line) {
     let text;
     try {
@@ -21,7 +20,7 @@ function answer(line) {
     return ok ? [`${value} ${formatNs(value)}`, true] : [String(fault), false];
 }
 
-// A line feed ends each line. It may be missing after the last line.
+// The last line may lack its line feed.
 const lines = readFileSync(0, "latin1").split("\n");
 if (lines.at(-1) === "") lines.pop();
 const answers = lines.map((line) => answer(Buffer.from(line, "latin1")));

@@ -10,7 +10,6 @@ import { CHOICES, optionsOf, VECTORS } from "./vectors.js";
 const HERE = fileURLToPath(new URL(".", import.meta.url));
 const NOTHING = { number: false, unit: false, operator: false, end: false };
 
-/** The error that reading this text throws. */
 function errorOf(text, options) {
     try {
         parseNs(text, options);
@@ -45,7 +44,8 @@ test("tells all of a refusal", () => {
 });
 
 test("lets nothing unsafe into the message, and keeps it short", () => {
-    // Characters that a terminal acts on, that turn the direction of writing, or that can't be seen
+    // A terminal acts on these characters, they turn the direction of writing, or they can't be
+    // seen.
     const unsafe = /[\0-\x1f\x7f-\x9f\u200b-\u200f\u2028-\u202e\u2060-\u2069\ufeff]/;
     for (let code = 0; code < 0x3000; code++) {
         for (const before of ["", "1", "1h ", "1h x"]) {

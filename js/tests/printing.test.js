@@ -9,17 +9,14 @@ import { VECTORS } from "./vectors.js";
 
 /** The printed names of the units, the longest first. */
 const NAMES = ["y", "q", "mon", "w", "d", "h", "min", "s", "ms", "µs", "ns"];
-/** All names of each unit, as the types have them. */
 const TYPES = readFileSync(new URL("../index.d.ts", import.meta.url), "utf8");
 const ALL_NAMES = /type Unit =([^;]*);/.exec(TYPES)[1].trim().split("\n")
     .map((line) => Array.from(line.matchAll(/"(.*?)"/g), ([, name]) => name));
 const DAY = 86_400_000_000_000n;
 
-/** The lengths of the units in nanoseconds, by their printed names. */
 const LENGTHS = Object.fromEntries(NAMES.map((name) => [name, parseNs(`1${name}`)]));
 
-/** Checks that a duration prints as the row says, and breaks down into the parts of its short text.
- * A text that begins with 0 has no parts. */
+/** A short text that begins with 0 is a zero, which has no parts. */
 function checkRow([text, limits, short, long, secs, nanos]) {
     const value = parseNs(text);
     const texts = { short, compact: short.replaceAll(" ", ""), long };
@@ -44,7 +41,7 @@ test("prints the vectors, and breaks them down", () => {
 });
 
 test("prints texts of each length", () => {
-    // Neighbouring digits differ, so that none can stand in the place of another.
+    // The counts differ, so that none can stand in the place of another.
     const counts = {
         d: [3, 6], h: [4, 17], min: [5, 28], s: [6, 39], ms: [7, 481], µs: [8, 592], ns: [9, 613],
     };
@@ -118,7 +115,7 @@ test("refuses formats that there are not", () => {
         [{ style: "wide" }, new RangeError(`${style} wide`)],
         [{ style: 1 }, new TypeError("the option style must be a string, not number")],
         [{ parts: "2" }, new TypeError("the option parts must be a number, not string")],
-        // Names that would make another text than one term with this unit
+        // None of these is a name of a unit.
         ...["x", "", "d 6d", "1d", " d", "d*1d", "分", "__proto__"].map(
             (name) => [{ units: ["d", name] }, noUnit(name)],
         ),
@@ -157,7 +154,7 @@ test("breaks numbers of milliseconds down, and refuses other values", () => {
     for (const words of [["1"], [undefined], [1n, null]]) {
         assert.throws(() => breakdown(...words), TypeError);
     }
-    // What is broken down is the value, whatever an option's getter calls.
+    // An option's getter may call the package, too.
     const options = { get parts() { return breakdown(5_400_000).parts.length; } };
     assert.deepEqual(breakdown(60_001, options).parts[1], { count: 1n, unit: "ms" });
 });
@@ -232,7 +229,7 @@ test("prints milliseconds", () => {
     }
     assert.equal(format(parse("1m 30s")), "1min 30s");
     assert.equal(format(18_446_744_073_709.55, { parts: 1 }), "584y");
-    // Values around which a half of 32 bits is full, or a number of nanoseconds is no longer exact
+    // These values are near 2^32 ns, 2^32 ms and 2^53 ns.
     for (const whole of [4_294, 4_295, 4_294_967_295, 4_294_967_296, 9_007_199_254, 9_007_199_255]) {
         for (const fraction of [0, 0.25, 0.5]) {
             const nanoseconds = BigInt(whole) * 1_000_000n + BigInt(fraction * 1_000_000);
@@ -243,8 +240,7 @@ test("prints milliseconds", () => {
             assert.deepEqual(parts(whole + fraction), parts(nanoseconds));
         }
     }
-    // The last nanosecond that a number of milliseconds must be able to hold, and the first that it
-    // can't
+    // index.d.ts says that `format` prints every nanosecond below 2^33 ms.
     for (const [text, isSame] of [["8589934591999999ns", true], ["8589934592000001ns", false]]) {
         assert.equal(format(parse(text)) === formatNs(parseNs(text)), isSame);
     }

@@ -6,16 +6,13 @@ import { DurationError, parseNs, parse, tryParse, tryParseNs } from "duration-st
 import { choicesFor, holds, optionsOf, VECTORS } from "./vectors.js";
 
 const LARGEST = 2n ** 64n - 1n;
-/** Texts that are no names of units: names with something before, after or within, Chinese names,
- * letters that look like a letter of a name or become one in small letters or capitals, and strings
- * with lone surrogates. */
 const NO_UNITS = [
     "fortnight", "toString", "", " ", "mins", "年", "毫秒", "1分", " ms", "ms ", "m s", "m\n", "m 0s",
     "d 6d", "1", "1ms", "0ms", "ms1", "m\0", "+s", "s+", "2*s", "\u039cs", "\u03bcs", "\u017f",
     "\u212a", "\u{1f600}", "\ud800", "ms\udc00", "\ud800s", "milliseconds".repeat(10_000),
 ];
 
-// This test is the first, while the memory is still small.
+// This test comes first, while the memory is still small.
 test("makes room at each size, for texts and faults", () => {
     for (let count = 1; count < 1_000_000; count = Math.ceil(count * 1.2)) {
         assert.equal(
@@ -125,7 +122,6 @@ test("refuses a number as its text, or says why it is no whole number", () => {
         assert.deepEqual([fault.text, fault.report], [text, tryParse(text, options).fault.report]);
         assert.throws(() => parseNs(number, options), { name: "DurationError", code: fault.code });
     }
-    // From 2^53 on a number can have lost digits.
     for (const number of [NaN, Infinity, 2 ** 53, 1e21, Number.MAX_VALUE]) {
         const error = new RangeError(`a number must be below 2^53, or a bigint, not ${number}`);
         for (const call of [parse, parseNs, tryParse, tryParseNs]) {
@@ -239,7 +235,7 @@ test("reads the nearest number of milliseconds", () => {
 test("reads the nearest number of milliseconds of a long duration", () => {
     for (let exponent = 52n; exponent < 64n; exponent++) {
         for (let step = 0n; step < 300n; step++) {
-            // This is near the middle of two numbers. 2^-20 ms are 15,625 / 2^14 ns.
+            // 2^-20 ms are 15,625 / 2^14 ns.
             const middle = 2n ** exponent + 15_625n * step * 997n / 2n ** 14n;
             for (const nanos of [middle, middle + 1n]) {
                 assert.equal(parse(`${nanos}ns`), Number(`${nanos}e-6`), `${nanos}`);

@@ -1,6 +1,4 @@
-// The function `pattern` returns the patterns of docs/duration.schema.json. They mean the same to
-// JavaScript's engine as to tests/patterns, which shows that they match exactly the texts that
-// the grammar allows.
+// Tests the patterns with JavaScript's engine. tests/patterns compares them with the grammar.
 import assert from "node:assert/strict";
 import { readFileSync } from "node:fs";
 import test from "node:test";
@@ -19,15 +17,14 @@ const OPTIONS = {
 const ASCII = Array.from({ length: 128 }, (_, code) => String.fromCharCode(code));
 const STRANGE = [...ASCII, ..."\x85\xa0\u2028\ufeff٣０μſK", "\ud800", "\u{1f600}"];
 
-/** Without flags, with `u`, and as HTML's `pattern` with its flag `v`, if Node has that. */
+/** HTML compiles a `pattern` with the flag `v` and these anchors. */
 function* expressions(source) {
     yield new RegExp(source);
     yield new RegExp(source, "u");
     if (Object.hasOwn(RegExp.prototype, "unicodeSets")) yield new RegExp(`^(?:${source})$`, "v");
 }
 
-/** Whether the grammar allows the text. With zeros for all digits, no number, term or step is too
- * large. */
+/** With zeros for all digits, no number, term or step is too large. */
 function isSentence(text, options) {
     const { ok, fault } = tryParse(text.replace(/[0-9]/g, "0"), options);
     return ok || fault.code === "MIXED";

@@ -1,5 +1,4 @@
-// Tests the types of the package by the compiler alone. Code that must be wrong stands below a line
-// that expects an error.
+// Tests the types of the package by the compiler alone.
 import {
     type Breakdown, breakdown, DurationError, type Expected, type Fault, formatNs, format,
     type Format, type Options, parseNs, parse, type Part, type PartFormat, type Parts, parts,
@@ -24,7 +23,6 @@ const timeouts: (number | bigint | undefined)[] = [
     parse(1500, { defaultUnit: "seconds", noCalc: false }),
 ];
 void [withoutFactors, inSeconds];
-/** Options of which some may be left out */
 function chosen(unit: Unit | undefined, isRequired: boolean | undefined): Options[] {
     return [{ defaultUnit: unit }, { requireUnit: isRequired }, { noCalc: isRequired }];
 }
@@ -75,11 +73,11 @@ try {
     void [places, any, told, index];
 }
 
-// @ts-expect-error: no string, and no unit of numbers is named
+// @ts-expect-error: a number is read only with a default unit
 parseNs(1);
-// @ts-expect-error: no unit of numbers is named
+// @ts-expect-error: these options name no default unit
 parse(1500, { noCalc: true });
-// @ts-expect-error: the unit of numbers may be left out
+// @ts-expect-error: options of this type may lack the default unit
 parse(1500, inMilliseconds);
 // @ts-expect-error: a unit can't be required and left out
 parse("1500", { requireUnit: true, defaultUnit: "ms" });
@@ -89,7 +87,7 @@ tryParseNs("1500", { requireUnit: true, defaultUnit: "s" });
 const contradictory: Options = { defaultUnit: "h", requireUnit: true };
 // @ts-expect-error: a factor would count milliseconds too
 parse("1500", { noCalc: false, defaultUnit: "ms" });
-// @ts-expect-error: a factor would count milliseconds too, beside a number as well
+// @ts-expect-error: a factor of a number would count milliseconds too
 tryParseNs(1500, { defaultUnit: "ms", noCalc: false });
 // @ts-expect-error: a factor would count hours too
 const withFactors: Options = { defaultUnit: "h", noCalc: false };
@@ -99,7 +97,7 @@ parseNs("1s", { no_calc: true });
 parseNs("1s", { noCalc: 1 });
 // @ts-expect-error: no unit
 parseNs("1", { defaultUnit: "fortnight" });
-// @ts-expect-error: an index is no options
+// @ts-expect-error: `map` passes an index in place of options
 ["1s"].map(parseNs);
 // @ts-expect-error: no bigint
 formatNs(milliseconds);

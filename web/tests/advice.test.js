@@ -11,10 +11,9 @@ import { lineOf, shorten } from "../sentences.js";
 import { counts, decimal, groupDigits, iso, seconds, termRows } from "../values.js";
 
 const TEXTS = JSON.parse(readFileSync(new URL("texts.json", import.meta.url), "utf8"));
-/** The most words in the page's own sentence about a refused text. A quoted text counts as one. */
+/** The most words in the page's own sentence. A quoted text counts as one. */
 const MOST_WORDS = 9;
 
-/** The names of the options in JavaScript, and their names in texts.json. */
 const OPTIONS = {
     noCalc: "no_calc",
     lowercase: "lowercase",
@@ -23,8 +22,7 @@ const OPTIONS = {
 };
 const NONE = optionsOf([]);
 
-/** The options with these names. A name may also be a default unit, such as `default_unit=ms`. It
- * turns `noCalc` on, which is then left out. */
+/** A name may also be a default unit, such as `default_unit=ms`. */
 function optionsOf(names) {
     const pairs = Object.entries(OPTIONS).map(([name, id]) => [name, names.includes(id)]);
     const options = Object.fromEntries(pairs);
@@ -32,13 +30,11 @@ function optionsOf(names) {
     return defaultUnit ? { ...options, noCalc: undefined, defaultUnit } : options;
 }
 
-/** The nanoseconds in a decimal number of seconds. */
 function nanosOf(decimalSeconds) {
     const [whole, fraction = ""] = decimalSeconds.split(".");
     return BigInt(whole + fraction.padEnd(9, "0"));
 }
 
-/** A sentence as one string, in which a long text is shortened. */
 function wordsOf(parts) {
     return parts.map((part) => part.quoted === undefined ? part : shorten(part.quoted)).join("");
 }
@@ -127,8 +123,7 @@ for (const [group, rows] of Object.entries(TEXTS.meant)) {
             const wanted = meant.filter(Boolean).map(nanosOf).filter((each) => each !== value);
             assert.deepEqual(offers.map((each) => each.value), wanted, text);
             for (const each of offers) {
-                // The meaning in words is also a text that can be read: "1,000 seconds", "2 months
-                // of 30 days".
+                // Without commas and `of 30 days`, the meaning can be read.
                 const inWords = each.meaning.replace(/,| of \d+ days/g, "");
                 assert.equal(parseNs(inWords), each.value, text);
             }

@@ -12,8 +12,7 @@ function put(text) {
     all("#text")[0].dispatchEvent(new Event("input", { bubbles: true }));
 }
 
-/** Puts the text into the input, as typing or as pasting does, and calls `done` when the answer is
- * drawn. */
+/** Calls `done` when the answer is drawn. */
 function answer(text, pasted, done) {
     all("#text")[0].select();
     if (pasted) document.execCommand("insertText", false, text);
@@ -21,10 +20,6 @@ function answer(text, pasted, done) {
     requestAnimationFrame(() => requestAnimationFrame(() => done()));
 }
 
-/**
- * For each name of a unit: the name, and the text and its nanoseconds after the name's button is
- * pressed with an empty text.
- */
 function pressedUnits() {
     return all("#units button").map((button) => {
         all("#text")[0].value = "";
@@ -33,7 +28,6 @@ function pressedUnits() {
     });
 }
 
-/** The positions of the answer while the texts are typed, character by character. */
 function places(texts) {
     const beginnings = texts.flatMap(
         (text) => Array.from({ length: text.length + 1 }, (_, end) => text.slice(0, end)),
@@ -50,7 +44,7 @@ function lowest() {
     return Math.max(...parts.map((element) => element.getBoundingClientRect().bottom));
 }
 
-/** The texts and edges whose contrast with their background is too low. */
+/** 4.5 and 3 are the contrasts that WCAG asks for on level AA. */
 function pale() {
     const channels = (colour) => colour.match(/[0-9.]+/g).map(Number);
     const light = (colour) => channels(colour).slice(0, 3).map((c) => c / 255)
@@ -77,7 +71,6 @@ function pale() {
     return excerpts([...texts, ...edges]);
 }
 
-/** The elements that break a rule of accessibility, by the rule. */
 function brokenRules() {
     const ids = all("[id]").map((element) => element.id);
     const named = (attribute) => all(`[${attribute}]`).flatMap(

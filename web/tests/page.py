@@ -7,9 +7,9 @@ texts.json has texts and what the page shows for them, worked out by hand from d
 answers to "lines"; and what is offered if an option is "switched". "meant" has the values in
 seconds that people mean by texts. There are several if people use a text with several meanings, and
 null if nothing may be offered. advice.test.js tries all of this except the "lines" without a
-browser. "typed" texts are typed character by character. "hostile" texts must be shown and do
-nothing else, and "hostile links" must choose nothing. Of the rows that advice.test.js tries, one of
-each kind is tried here. page.js runs in the page.
+browser, so only some of those rows are tried here. "typed" texts are typed character by character.
+"hostile" texts must be shown and do nothing else, and "hostile links" must choose nothing. page.js
+runs in the page.
 """
 import ast
 import base64
@@ -67,8 +67,6 @@ LONG = [
 
 
 class Page:
-    """The page in a Chromium of its own, and the faults that were found."""
-
     def __init__(self, file):
         self.address = pathlib.Path(file).resolve().as_uri()
         self.rows, self.wrong = 0, 0
@@ -109,18 +107,17 @@ class Page:
         return self.driver.find_element(By.ID, name)
 
     def text_of(self, name):
-        """The text of an element, or None if it can't be seen."""
+        """It is None if the element can't be seen."""
         element = self.find(name)
         return element.get_property("textContent") if element.is_displayed() else None
 
     def put(self, text, pasted=False):
-        """Puts the text into the input, and waits until the answer is drawn."""
+        """Waits until the answer is drawn."""
         script = "asked.answer(JSON.parse(arguments[0]), arguments[1], arguments[2])"
         self.driver.execute_async_script(script, json.dumps(text), pasted)
 
     def worked(self):
-        """The seconds of the processor that the page has taken. Those of the clock depend on what
-        else runs."""
+        """Seconds of the processor, since those of the clock depend on what else runs."""
         measured = self.driver.execute_cdp_cmd("Performance.getMetrics", {})["metrics"]
         return next(each["value"] for each in measured if each["name"] == "TaskDuration")
 
@@ -148,12 +145,10 @@ class Page:
         self.driver.find_element(By.CSS_SELECTOR, selector).click()
 
     def answer_line(self, expression):
-        """The value of a JavaScript expression, passed on as JSON, which can also hold lone
-        surrogates."""
+        """JSON can also hold lone surrogates."""
         return json.loads(self.run(f"return JSON.stringify({expression})"))
 
     def words(self, selector):
-        """The texts of all elements that the selector finds."""
         return self.answer_line(f"asked.words({json.dumps(selector)})")
 
     def text(self):
@@ -163,9 +158,6 @@ class Page:
         return next(iter(self.words("mark")), None)
 
     def key(self, *keys):
-        """Presses the keys in the element that has the focus, and returns the name of the element
-        that has it afterwards.
-        """
         self.driver.switch_to.active_element.send_keys(*keys)
         return self.run(
             "const e = document.activeElement; return e.id || e.textContent || e.className"
@@ -173,7 +165,6 @@ class Page:
 
 
 def default_unit_in(names):
-    """The choice for a number without a unit that these names of options contain."""
     if "require_unit" in names:
         return "refused"
     return next((name.split("=")[1] for name in names if "=" in name), "s")
@@ -185,7 +176,6 @@ def answer_to(text, *names):
 
 
 def line_of(text, *options):
-    """The line of a refusal as a sentence, without the quotation marks."""
     line = reference_parser.one_line(text, answer_to(text, *options))
     return re.sub(r'"((?:[^"\\]|\\.)*)"', r"\1", f"{line[0].upper()}{line[1:]}.")
 
@@ -217,8 +207,6 @@ def try_values(page):
 
 
 def kind_of_fault(row):
-    """The kind of a row: whether a part, the end or nothing is marked, whether it has options,
-    whether the sentence is the page's own, and whether the text is long."""
     text, options, marked, *sentence = row
     return marked in (None, "\u00a0") and marked, bool(options), bool(sentence), len(text) > 40
 
@@ -256,9 +244,6 @@ def try_faults(page):
 
 
 def try_lines(page):
-    """Each of several lines has its value or its fault. An offer mends only the line to which it
-    belongs.
-    """
     page.open("#text=1:30")
     for text, marks, expected in TEXTS["lines"]:
         page.put(text)
@@ -320,8 +305,6 @@ def try_switching(page):
 
 
 def try_examples(page):
-    """The buttons are in one row. Each puts its text into the input. Some texts are read, and some
-    are refused with something to try."""
     page.open()
     examples = page.driver.find_elements(By.CSS_SELECTOR, "#examples button")
     found = []
@@ -381,8 +364,6 @@ def try_units(page):
 
 
 def shows(page, what, code):
-    """Checks that the page shows this code, which is listed by its language, or no code in a
-    language for which None is listed."""
     for name, part in code.items():
         text = page.text_of(name)
         is_so = text is None if part is None else part in (text or "")
@@ -390,7 +371,6 @@ def shows(page, what, code):
 
 
 def try_code(page):
-    """The code has the options, and its literals are the text."""
     for link, code in {
         "1m%092%C2%B5s%0A&no_calc&cn_unit": {
             "rust": r'parse_with("1m\t2µs\n", Options { no_calc: true, cn_unit: true, ..Options::off() })?;',
@@ -406,7 +386,7 @@ def try_code(page):
             "c": "sizeof text - 1, DURATION_STR_OPTION_REQUIRE_UNIT, &answer);",
             "shell": "duration --require-unit -- '1h 30m'",
         },
-        # No program has both options.
+        # Neither `durstr` nor `duration` has both options.
         "1h%2030m&no_calc&require_unit": {"shell": None},
         "1h%2030m&cn_unit&require_unit": {
             "rust": 'parse_with_default_unit("1h 30m", Options { cn_unit: true, ..Options::off() }, None)?;',
@@ -463,15 +443,12 @@ def try_code(page):
 
 
 def no_calc_box(page):
-    """Whether the box of `no_calc` is selected, and whether it can be pressed."""
     box = page.find("no_calc")
     return [box.is_selected(), box.is_enabled()]
 
 
 def try_printing(page):
-    """Tries a duration of 90,061.000000001 s, which is 1 day 1 hour 1 minute 1 second 1 nanosecond,
-    printed in chosen ways.
-    """
+    """90,061 s are 1 day 1 hour 1 minute 1 second."""
     rows = [
         ({}, "1d 1h 1min 1s 1ns", {"shell": "printf '%s\\n' '90061s 1ns' | durstr"}),
         (
@@ -556,8 +533,6 @@ def try_printing(page):
 
 
 def try_units_printed(page):
-    """The units that are printed are those whose boxes are checked."""
-
     def same(what, printed, units):
         checked = page.words("#printed_units label:has(:checked)")
         page.same(what, [printed, units.split()], [page.text_of("printed"), checked])
@@ -590,7 +565,6 @@ def try_units_printed(page):
 
 
 def literal_of_c(code):
-    """The bytes that the compiler makes of the code's literal."""
     line = next(line for line in code.splitlines() if line.startswith("const char text[]"))
     program = f"#include <stdio.h>\n{line}\nint main(void) {{ fwrite(text, 1, sizeof text - 1, stdout); }}\n"
     with tempfile.TemporaryDirectory() as room:
@@ -764,7 +738,6 @@ def try_keyboard(page):
 
 
 def try_readers(page):
-    """Screen readers get a name for each field, and one line after a pause."""
     page.open()
     for field in page.driver.find_elements(
         By.CSS_SELECTOR, "input, select, textarea, pre, button:not(#units button)"
@@ -812,7 +785,6 @@ def emulate(page, scheme, width, height=1100, forced=False):
 
 
 def try_rules(page):
-    """Tries rules of accessibility under some texts."""
     for text in ("1:30", "1h\n1h 30\n5 mins", "3m + 13s + 29ms"):
         page.open("#cn_unit&text=" + urllib.parse.quote(text))
         for what, broken in page.answer_line("asked.brokenRules()").items():
@@ -836,7 +808,6 @@ def try_rules(page):
 
 
 def try_place(page):
-    """While the "typed" texts are typed, the answer doesn't move, and so nothing above it."""
     for width in (320, 900):
         emulate(page, "light", width)
         page.open()
@@ -845,7 +816,6 @@ def try_place(page):
 
 
 def try_phone(page):
-    """On a phone the answer and the first suggestion are above the keyboard."""
     emulate(page, "light", 375, 667)
     for text in ("3m + 13s + 29ms", "1h 30", "1:30", "5 mins", "5m, 10m"):
         page.open("#text=" + urllib.parse.quote(text))
@@ -855,7 +825,7 @@ def try_phone(page):
 
 def try_looks(page):
     papers = {}
-    # At 200 %, 640 pixels leave as much room as 320.
+    # On 640 pixels, a page that is enlarged to 200 % has as much room as on 320.
     for scheme in SCHEMES:
         for width in (320, 900):
             for text in (
@@ -891,7 +861,6 @@ def try_looks(page):
 
 
 def shown_in_picture(page, scheme):
-    """Opens the page as the pictures show it, and returns the height of a picture."""
     emulate(page, scheme, PICTURE_WIDTH)
     page.open("#text=1%3A30")
     page.run("document.activeElement.blur()")
@@ -916,9 +885,7 @@ def take_pictures(page):
 
 
 def try_outside(page):
-    """So far the page has asked for nothing outside, has broken no rule, and the browser has
-    reported no error. And the content security policy works.
-    """
+    """This comes after the tests whose requests it looks at."""
     messages = [
         json.loads(entry["message"])["message"] for entry in page.driver.get_log("performance")
     ]
@@ -948,10 +915,6 @@ def try_outside(page):
 
 
 def try_without(page):
-    """Without scripts or WebAssembly the page says so first, and shows nothing else except its
-    title and its end.
-    """
-
     def same(what, works):
         page.open()
         time.sleep(PAUSE)
