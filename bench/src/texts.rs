@@ -78,7 +78,7 @@ pub fn refusal(name: &str) -> String {
     text.to_string()
 }
 
-/// The function is inlined, so that the loop around a call costs the same in every program.
+/// The function is inlined, so that the loop around a call costs the same in both programs.
 #[inline(always)]
 pub fn repeat(count: u64, mut call: impl FnMut()) {
     for _ in 0..count {

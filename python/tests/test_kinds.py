@@ -131,7 +131,7 @@ def in_pandas(values):
 
 
 class Column(list):
-    """A column of a library that is not installed, with a type that has a name."""
+    """A column of a library that is not installed. Its type has only a name."""
 
     def __init__(self, name):
         super().__init__([1])

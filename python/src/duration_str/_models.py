@@ -44,7 +44,7 @@ _LONGEST = datetime.timedelta(microseconds=2**64 // 1000)
 
 
 def _print(value: Any) -> str:
-    """Returns a text as it is: it can be a default that isn't validated."""
+    """A text is returned as it is, since it can be a default that isn't validated."""
     if isinstance(value, str):
         return value
     if value > _LONGEST:

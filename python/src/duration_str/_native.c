@@ -349,7 +349,7 @@ static PyObject *timedelta_of(struct state *state, uint64_t nanos) {
         return state->datetime->timedelta((int)(secs / 86400), (int)(secs % 86400),
             (int)(nanos % SECOND / 1000), 0, (PyTypeObject *)state->kept[TIMEDELTA]);
     }
-    /* Multiplying takes less time than the constructor would take. */
+    /* Multiplying takes less time than calling the constructor. */
     PyObject *micros = PyLong_FromUnsignedLongLong(nanos / 1000);
     PyObject *value = micros ? PyNumber_Multiply(state->kept[A_MICROSECOND], micros) : NULL;
     Py_XDECREF(micros);
