@@ -34,7 +34,6 @@ def table():
 
 
 def humantime():
-    """Gives the units with humantime's further names."""
     text = (CRATE / "specs/Humantime.antt").read_text(encoding="utf-8")
     further = {variant: re.findall('"(.*?)"', names) for variant, names in FURTHER.findall(text)}
     for unit in table():

@@ -20,7 +20,6 @@ pub trait Library {
     fn reading_units(_: &str) -> Self::Value {
         unimplemented!()
     }
-    /// Numbers without a unit count milliseconds.
     fn reading_millis(_: &str) -> Self::Value {
         unimplemented!()
     }

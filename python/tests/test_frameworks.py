@@ -33,7 +33,6 @@ def recipe(name):
 
 
 def run(name, *words):
-    """Returns the recipe's status, its output and its last line on standard error."""
     with tempfile.TemporaryDirectory() as room:
         file = pathlib.Path(room, name)
         file.write_text(recipe(name), encoding="utf-8")

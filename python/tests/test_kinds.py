@@ -60,7 +60,6 @@ def of_numpy():
     for unit in (*UNITS, *OTHER_UNITS):
         types += [numpy.dtype(f"{kind}8[{unit}]") for kind in "mM"]
     types += [dtype.newbyteorder() for dtype in types]
-    # NumPy has this list since version 1.25.
     for kind in vars(getattr(numpy, "dtypes", array)).values():
         types += filter(None, [first(lambda kind: numpy.dtype(kind()), kind)])
     types = {(dtype.char, dtype.str): dtype for dtype in types}.values()

@@ -28,7 +28,6 @@ LENGTHS = re.compile(r"(timedelta64|duration)(\[.*\])?")
 
 
 def _type_of_values(dtype: Any) -> Any:
-    """Returns the type of the values in a column of this type."""
     if hasattr(dtype, "categories"):
         return _type_of_values(dtype.categories.dtype)
     if hasattr(dtype, "fill_value"):  # a sparse column

@@ -215,7 +215,6 @@ static PyObject *text_given(struct state *state, PyObject *value, const struct r
 
 /* Returns which of the kept names from `first` to `last` the keyword is, or -1 with an error. */
 static int name_of(struct state *state, const char *call, PyObject *keyword, int first, int last) {
-    /* Usually the keyword is the same object as the name. */
     for (int name = first; name <= last; name++)
         if (keyword == state->kept[name])
             return name;
