@@ -1,8 +1,6 @@
 """Prints times from Python: the name of the call, a tab, and the nanoseconds for a text or a value.
-The name says what the texts are like. A column has a million texts, or 50,000 if the call is slow.
 The time is the least of several rounds, in which the calls take turns. Except for Dask, it is the
-processor's time, since a call takes longer than a busy machine lets a program run at once.
-"""
+processor's time."""
 
 import random
 import time

@@ -1,8 +1,7 @@
 """What the tables of docs/SPEED.md measure, and when.
 
 A comment above each table, such as `<!-- rust at 270bdc6a -->`, names a group of files, and the
-commit with which these were measured. bench/run writes the commits. tests/repository warns of the
-tables that are older than a change of their files.
+commit with which these were measured. bench/run writes the commits.
 """
 import pathlib
 import re
@@ -11,7 +10,7 @@ import subprocess
 TOP = pathlib.Path(__file__).resolve().parent.parent
 SPEED = TOP / "docs/SPEED.md"
 MARK = r"<!-- (\w+) at (\w+) -->\n"
-# Each group's files, besides the core, and the command that measures them.
+# Each group's files, besides the core, and the command that measures them
 CORE = "rust/core/src"
 GROUPS = {
     "rust": ("rust/src bench/src bench/peer* bench/sizes.py", "bench/run --write"),
@@ -29,24 +28,22 @@ COMMENT = r"^\s*(//|# |/?\*+ )"
 
 
 def git(*words):
-    """What git writes. It is nothing if git fails, such as for a commit that the clone lacks."""
+    """Returns an empty str if git fails, such as for a commit that the clone lacks."""
     return subprocess.run(["git", *words], cwd=TOP, capture_output=True, text=True).stdout
 
 
 def uncommitted():
-    """The measured files with changes that are in no commit."""
     files = {file for files, _ in GROUPS.values() for file in files.split()}
     return [line[3:] for line in git("status", "--porcelain", "--", CORE, *files).splitlines()]
 
 
 def with_commit(text):
-    """The text before a table, with the last commit in the comment at its end."""
+    """Puts the last commit into the comment at the end of the text."""
     commit = git("rev-parse", "--short=8", "HEAD").strip()
     return re.sub(rf"{MARK}\Z", rf"<!-- \1 at {commit} -->\n", text)
 
 
 def unmarked():
-    """The tables without such a comment."""
     for before, head in re.findall(r"(?m)^(.*\n)(\| .*)\n\|-", SPEED.read_text(encoding="utf-8")):
         mark = re.fullmatch(MARK, before)
         if not mark or mark[1] not in GROUPS:
@@ -54,7 +51,6 @@ def unmarked():
 
 
 def older():
-    """The tables that are older than a change of their files, except in comments."""
     tables = {}
     for *mark, head in re.findall(rf"{MARK}\| (.*?) \|", SPEED.read_text(encoding="utf-8")):
         tables.setdefault(tuple(mark), []).append(head)

@@ -6,7 +6,7 @@ import tempfile
 TOP = pathlib.Path(__file__).resolve().parent.parent
 
 # Programs with these lines, each with the lines of the program that it is compared with, and the
-# most bytes by which it may be larger. Both are stripped.
+# most bytes by which it may be larger
 ARGUMENT, NANOS = 'println!("{text}");', 'println!("{}", length.as_nanos());'
 READ_AND_PRINT = """match duration_str::parse_duration(&text) {
         Ok(read) => println!("{}", duration_str::format_duration(read)),
@@ -85,7 +85,7 @@ def sizes(output):
         pathlib.Path(room, "Cargo.toml").write_text(PACKAGE % (TOP / "rust"))
         for number, lines in enumerate(programs):
             (folder / f"p{number}.rs").write_text(PROGRAM % lines)
-        # A panic names its source's path, which is to be as long in every checkout as humantime's.
+        # A panic names its source's path, whose length would differ from clone to clone.
         flags = {
             **os.environ,
             "RUSTFLAGS": f"--remap-path-prefix={TOP}/rust=/usr/share/cargo/registry/duration-str",

@@ -33,7 +33,6 @@ const hours = Array(1000).fill("1h");
 const halfHours = counts.map((count) => (1 + count % 47) * HALF_HOUR);
 const ms = existsSync(MS) ? createRequire(import.meta.url)(MS) : undefined;
 
-/** The calls, each with its arguments. */
 const calls = [
     ["`parseNs`", (text) => parseNs(text), texts],
     ["`parse`", (text) => parse(text), texts],

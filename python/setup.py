@@ -1,8 +1,6 @@
 """Builds the extension module with the library for C. The library is the archive that
-DURATION_STR_LIB names, or otherwise the one that cargo builds from the proved sources without their
-contracts. Each build starts anew in a temporary folder. Beside the sources it writes copies of
-the licences, and with pip's --editable also the module.
-"""
+DURATION_STR_LIB names, or otherwise one that cargo builds. The build runs in a temporary folder. In
+a clone, the licences are copied beside this file if it can be written there."""
 
 import atexit
 import contextlib
@@ -28,13 +26,11 @@ INCLUDE = CHECKOUT / "c/include" if IS_CHECKOUT else HERE / "include"
 
 
 def demand(is_there, what):
-    """Ends the build with a line that says what is missing, unless it is there."""
     if not is_there:
         raise SystemExit(f"to build duration-str, install {what}")
 
 
 def copy_crates(folder):
-    """Copies the sources from which cargo builds the library."""
     files = [
         "Cargo.toml",
         "c/Cargo.toml",
@@ -47,15 +43,13 @@ def copy_crates(folder):
         for file in filter(pathlib.Path.is_file, CRATES.glob(pattern)):
             copy = pathlib.Path(folder, file.relative_to(CRATES))
             copy.parent.mkdir(parents=True, exist_ok=True)
-            # No modes are copied, since a copied folder that can't be written to could not be
+            # Modes are not copied, since a copied folder that can't be written to could not be
             # deleted.
             shutil.copyfile(file, copy)
 
 
 def by_cargo(room):
-    """Builds the archive by cargo in this folder, from a copy of the sources, since cargo writes
-    beside them.
-    """
+    """cargo builds a copy of the sources, since it writes beside them."""
     demand(
         shutil.which("cargo"),
         "Rust 1.85 or later, with cargo on the path; or name the library in DURATION_STR_LIB",
@@ -83,7 +77,6 @@ def by_cargo(room):
 
 
 def archive(room):
-    """Returns the archive's file."""
     named = os.environ.get("DURATION_STR_LIB")
     if named:
         demand(
@@ -94,8 +87,6 @@ def archive(room):
 
 
 class Linked(build_ext):
-    """Builds the module and links it with the archive."""
-
     def build_extension(self, extension):
         header = pathlib.Path(sysconfig.get_path("include"), "Python.h")
         demand(header.exists(), f"Python's headers (Debian's python3-dev): {header} is missing")
@@ -109,8 +100,7 @@ class Linked(build_ext):
 
 
 class Sources(sdist):
-    """Makes an sdist that also has the sources of the library, and the tests with the files that
-    they read."""
+    """The sdist also has the sources of the library and the tests' files."""
 
     def make_release_tree(self, base_dir, files):
         super().make_release_tree(base_dir, files)
@@ -140,7 +130,7 @@ if {"bdist_wheel", "dist_info"} & set(sys.argv):
 limited = not sysconfig.get_config_var("Py_GIL_DISABLED")
 if IS_CHECKOUT:
     for name in ["LICENSE", "NOTICE"]:
-        with contextlib.suppress(OSError):  # Where nothing can be written, the package has neither.
+        with contextlib.suppress(OSError):
             shutil.copyfile(CHECKOUT / name, HERE / name)
 room = tempfile.mkdtemp()
 atexit.register(shutil.rmtree, room, True)

@@ -1,8 +1,8 @@
 """Makes the regular expressions of the sentences of docs/GRAMMAR.md from the table of units.
 
 They need no flags, except PCRE's flag for UTF-8. They use only what ECMA 262, RE2, PCRE, Python,
-Perl and Java have in common. At each character only one way to go on fits, so an engine that goes
-back after a mismatch takes no more steps than some multiple of the text's length.
+Perl and Java have in common. At each character at most one way to go on fits, so going back
+after a mismatch takes few steps.
 """
 import units
 
@@ -11,8 +11,7 @@ NUMBER = f"[0-9]+{BLANKS}"
 # The letter `U` stands for the pattern of a unit.
 UNIT = f"U{BLANKS}"
 
-# The sentences by the options `no_calc` and `require_unit`. If no unit is required, `$` lets a text
-# end after a unit, so that the unit occurs only once.
+# If no unit is required, `$` lets a text end after a unit, so that `U` occurs only once.
 SENTENCES = {
     (False, False): f"^{BLANKS}{NUMBER}"
     rf"(?:{UNIT}(?:(?:[+*]{BLANKS})?{NUMBER}|$)|[+*]{BLANKS}{NUMBER})*$",
@@ -23,9 +22,7 @@ SENTENCES = {
 
 
 def one_of(letters, capitals):
-    """The pattern of one of these letters. With `capitals` an ASCII capital is read as its small
-    letter.
-    """
+    """With `capitals` an ASCII letter stands for its capital, too."""
     cases = [
         case
         for letter in letters
@@ -35,9 +32,8 @@ def one_of(letters, capitals):
 
 
 def any_of(names, capitals):
-    """The pattern of one of these names. Names that begin alike share their beginning, and letters
-    after which the same can follow share a class.
-    """
+    """Names that begin alike share their beginning, and letters after which the same can follow
+    share a class."""
     follows = {}
     for name in names:
         follows.setdefault(name[:1], []).append(name[1:])
@@ -54,7 +50,6 @@ def any_of(names, capitals):
 
 
 def units_by(lowercase, cn_unit):
-    """The pattern of a unit under these options."""
     table = list(units.table())
     names = [name for unit in table for name in unit.names]
     chinese = [name for unit in table for name in unit.chinese if cn_unit]
@@ -62,5 +57,4 @@ def units_by(lowercase, cn_unit):
 
 
 def pattern(no_calc=False, lowercase=False, cn_unit=False, require_unit=False):
-    """The pattern of the sentences under these options."""
     return SENTENCES[no_calc, require_unit].replace("U", units_by(lowercase, cn_unit))

@@ -26,7 +26,6 @@ class Unit(typing.NamedTuple):
 
 
 def table():
-    """The units, the longest first."""
     for variant, length, printed, *words in ROW.findall(
         (CRATE / "specs/Units.antt").read_text(encoding="utf-8")
     ):
@@ -35,9 +34,6 @@ def table():
 
 
 def humantime():
-    """The units with humantime's further names. The lengths and the printed names are those of
-    `table`.
-    """
     text = (CRATE / "specs/Humantime.antt").read_text(encoding="utf-8")
     further = {variant: re.findall('"(.*?)"', names) for variant, names in FURTHER.findall(text)}
     for unit in table():

@@ -7,12 +7,12 @@
 //!   buffer.
 //! - `calls SIDE print NANOS COUNT`, `calls crate parts PARTS NANOS COUNT`: prints a duration into
 //!   a buffer, whole and in at most PARTS parts.
-//! - `calls SIDE units COUNT`: reads the same text, with units required.
+//! - `calls SIDE units COUNT`: reads `3m 13s 29ms`, with units required.
 //! - `calls SIDE millis TEXT COUNT`: reads a text whose numbers without a unit count milliseconds.
 //! - `calls crate as-humantime TEXT COUNT`, `calls crate print-as-humantime NANOS COUNT`: reads a
 //!   text, and prints a duration into a `String`, by the module `humantime`.
 //! - `calls crate print-string COUNT`: prints the duration of `3m 13s 29ms` into a `String`.
-//! - `calls SIDE with OPTIONS TEXT COUNT`: reads a text under the options, the bits of
+//! - `calls SIDE with OPTIONS TEXT COUNT`: reads a text under OPTIONS, which are bits of
 //!   `duration_str.h`.
 //! - `calls SIDE text BYTES COUNT`: reads a text of BYTES bytes.
 //! - `calls SIDE read-expressions COUNT`, `.. print-expressions ..`, `.. print-below-day ..`: reads

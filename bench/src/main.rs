@@ -4,8 +4,8 @@
 //!
 //! - `bench expressions`: prints the 1,000 expressions of `texts.rs`, one on each line.
 //! - `bench times`: prints the nanoseconds of a call over the expressions, in a line with WHAT,
-//!   OURS and THEIRS for reading and for each way to print. In all such lines tabs separate the
-//!   words.
+//!   OURS and THEIRS for reading and for each way to print. In such lines tabs separate the
+//!   columns.
 //! - `bench styles`: prints a line for each of some formats: its name, and the nanoseconds that
 //!   printing takes for values below a day and for all values.
 //! - `bench peer human_format` or `to_string`: prints the figures that `bench/peers` needs, for the
@@ -74,9 +74,8 @@ impl Library for Humantime {
     }
 }
 
-/// The nanoseconds of a call, for each side. They are the least of many rounds. The sides take
-/// turns, since the machine's speed may change, and the rounds are short, so that some run
-/// undisturbed.
+/// The sides take turns, since the machine's speed may change. The rounds are short, so that some
+/// run undisturbed.
 fn nanos_a_call<const SIDES: usize>(calls: usize, sides: [&dyn Fn(); SIDES]) -> [f64; SIDES] {
     const ROUNDS: usize = 2_500;
     let mut least = [f64::INFINITY; SIDES];
@@ -90,7 +89,6 @@ fn nanos_a_call<const SIDES: usize>(calls: usize, sides: [&dyn Fn(); SIDES]) -> 
     least
 }
 
-/// The expressions, and their values.
 fn expressions() -> (Vec<&'static str>, Vec<Duration>) {
     texts::expressions()
         .leak()
@@ -99,15 +97,12 @@ fn expressions() -> (Vec<&'static str>, Vec<Duration>) {
         .unzip()
 }
 
-/// Calls this for each element.
 fn all<T: Copy, R>(of: &[T], call: impl Fn(T) -> R) {
     of.iter().for_each(|each| {
         black_box(call(black_box(*each)));
     });
 }
 
-/// Prints a line for reading and for each way to print: its name, and the nanoseconds of a call for
-/// each side.
 fn times() {
     let (texts, lengths) = expressions();
     let sides: [(&str, &dyn Fn(), &dyn Fn()); 3] = [
@@ -129,8 +124,6 @@ fn times() {
     }
 }
 
-/// Prints a line for each limit and style: its name, and the nanoseconds of a call, for values
-/// below a day and for all values.
 fn styles() {
     let (_, lengths) = expressions();
     let short: Vec<Duration> = lengths
@@ -158,8 +151,6 @@ fn styles() {
     }
 }
 
-/// Prints the figures that `bench/peers` needs of each program. `printing` is the name of the call
-/// that prints.
 fn peer(printing: &str) {
     let texts: Vec<String> = std::io::stdin()
         .lines()
@@ -192,7 +183,6 @@ fn peer(printing: &str) {
     );
 }
 
-/// Reads the lines of a file in threads, and prints the sum of their nanoseconds modulo 2^64.
 fn column(file: &str, threads: usize) {
     let lines = std::fs::read_to_string(file).expect("a file of texts");
     let mut rest = lines.as_str();

@@ -10,52 +10,39 @@ use duration_str::{
 use std::hint::black_box;
 use std::time::Duration;
 
-/// The size of a buffer for a line.
 pub const ROOM: usize = ONE_LINE_BUFFER_SIZE;
 
-/// One way to a library.
 pub trait Library {
-    /// The type of the values that are read.
     type Value;
-    /// The value of a text.
     fn reading(text: &str) -> Self::Value;
-    /// The value of a text under these options, which are the bits of the header.
+    /// The options are the bits of the header.
     fn reading_with(text: &str, options: u32) -> Self::Value;
-    /// The value of a text whose numbers must have units, if the library has that rule.
     fn reading_units(_: &str) -> Self::Value {
         unimplemented!()
     }
-    /// The value of a text whose numbers without a unit count milliseconds, if the library can read
-    /// it so.
     fn reading_millis(_: &str) -> Self::Value {
         unimplemented!()
     }
-    /// The value of a text, and the text of a duration, by the calls for humantime's users.
     fn reading_as_humantime(_: &str) -> Duration {
         unimplemented!()
     }
     fn printing_as_humantime(_: Duration) -> String {
         unimplemented!()
     }
-    /// Prints a duration into a buffer, and returns the length of the text.
+    /// Returns the length of the printed text.
     fn printing(length: Duration) -> usize;
-    /// Prints a duration in at most this many parts, if the library can.
     fn printing_parts(_: Duration, _: u32) -> usize {
         unimplemented!()
     }
-    /// Prints a duration into a `String`, if the library can.
     fn printing_string(_: Duration) -> String {
         unimplemented!()
     }
     /// Writes the error of a refused text into the buffer, and returns its length.
     fn refusing(text: &str, buffer: &mut [u8; ROOM]) -> usize;
-    /// The type of the error of a refused text.
     type Error: ToString;
-    /// The error of a refused text, as a service gets it.
     fn error(text: &str) -> Self::Error;
 }
 
-/// The Rust crate.
 pub struct Crate;
 
 impl Library for Crate {
@@ -125,7 +112,6 @@ impl Library for Crate {
 pub struct Archive;
 
 impl Archive {
-    /// Reads a text under the options. Returns the answer, and whether the text is read.
     fn answer(text: &str, options: u32) -> (Answer, bool) {
         let mut answer = Answer::default();
         // SAFETY: the pointer and length are a slice's, and `answer` is laid out as in the header.
@@ -221,8 +207,7 @@ impl Library for Archive {
     }
 }
 
-/// Prints the values that `of` makes of the expressions' values, `count` times. It is a function of
-/// its own, so that it doesn't change how the other calls are compiled.
+/// It is a function of its own, so that it doesn't change how the other calls are compiled.
 #[inline(never)]
 fn print_all<L: Library>(count: u64, of: fn(Duration) -> Duration) {
     let lengths: Vec<Duration> = expressions()

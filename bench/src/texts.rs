@@ -3,8 +3,8 @@ use std::time::Duration;
 
 pub const EXPRESSION: &str = "3m 13s 29ms";
 
-/// The units, by names that this library and humantime read, the longest first. The number is the
-/// limit of each unit's counts.
+/// Units, by names that this library and humantime read, the longest first. The number is the limit
+/// of each unit's counts.
 const UNITS: [(&str, u64); 10] = [
     ("y year years", 24),
     ("month months", 11),
@@ -18,8 +18,7 @@ const UNITS: [(&str, u64); 10] = [
     ("ns nsec", 999),
 ];
 
-/// A thousand expressions of one to five terms. A linear congruential generator makes them, so they
-/// are the same in every run.
+/// A linear congruential generator makes the expressions, so they are the same in every run.
 pub fn expressions() -> Vec<String> {
     let mut state: u64 = 19;
     let mut below = move |bound: u64| {
@@ -32,7 +31,7 @@ pub fn expressions() -> Vec<String> {
         let mut terms = 1 + below(5);
         let mut text = String::new();
         for ((names, most), units_left) in UNITS.iter().zip((1..=10).rev()) {
-            // All choices of this many units are equally likely.
+            // All choices of this many units are about equally likely.
             if below(units_left) < terms {
                 terms -= 1;
                 let names: Vec<&str> = names.split(' ').collect();
@@ -66,7 +65,6 @@ pub fn long_text(bytes: usize) -> String {
     text
 }
 
-/// The text that is refused for the cause of this name.
 pub fn refusal(name: &str) -> String {
     let text = match name {
         "empty" => "",
@@ -80,8 +78,7 @@ pub fn refusal(name: &str) -> String {
     text.to_string()
 }
 
-/// Makes the call `count` times. The function is inlined, so that the loop around a call takes the
-/// same in every program.
+/// The function is inlined, so that the loop around a call costs the same in both programs.
 #[inline(always)]
 pub fn repeat(count: u64, mut call: impl FnMut()) {
     for _ in 0..count {

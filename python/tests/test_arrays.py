@@ -1,6 +1,4 @@
-"""Tests how columns of NumPy and pandas are read and printed. Without NumPy it tests the error that
-says so.
-"""
+"""Tests columns of NumPy and pandas."""
 
 import datetime
 import decimal
@@ -33,7 +31,6 @@ MINUTE = 60 * SECOND
 
 
 def numbers(result):
-    """The nanoseconds of an array of timedelta64[ns], in a list. A missing value is None."""
     values = result if isinstance(result, numpy.ndarray) else result.to_numpy()
     assert values.dtype == numpy.dtype("timedelta64[ns]"), values.dtype
     return [
@@ -42,7 +39,7 @@ def numbers(result):
 
 
 class Name(str):
-    """A subclass of str."""
+    pass
 
 
 @unittest.skipIf(numpy, "NumPy and pandas are installed")
@@ -160,12 +157,10 @@ class Reading(unittest.TestCase):
                 self.assertEqual(numbers(result), read)
                 self.assertEqual((result.name, [*result.index]), ("wait", [7, 8]))
                 self.assertEqual(parse_many(column, default_unit="ms").tolist(), read)
-                # With no unit named, numbers are refused.
                 coerced = to_timedelta(column, errors="coerce")
                 self.assertEqual(numbers(coerced), [None, None])
                 with self.assertRaisesRegex(TypeError, "^at index 0: .*default_unit='ms'$"):
                     to_timedelta(column)
-        # pandas makes floats of integers with gaps.
         gaps = pandas.Series([1500, None, 2])
         self.assertEqual(gaps.dtype, numpy.float64)
         self.assertEqual(numbers(to_timedelta(gaps, default_unit="ms")), [read[0], None, read[1]])

@@ -49,7 +49,6 @@ class Columns(unittest.TestCase):
         for length in LENGTHS:
             with self.subTest(length=length):
                 values = array("Q", range(length))
-                # Texts of up to 599 characters
                 texts = [f"{value}ns".rjust(value % 600) for value in values]
                 self.assertEqual(parse_many(texts), values)
                 self.assertEqual(parse_many(texts, errors="coerce"), (values, array("Q")))
@@ -124,7 +123,6 @@ class Columns(unittest.TestCase):
         self.assertEqual(parse_many(texts, errors="coerce"), wanted)
         error = error_of(parse_many, texts)
         self.assertEqual((error.index, error.cause, error.text), (1, Cause.NOT_TEXT, "\ud800"))
-        # The two halves of a character are no character if they are in two texts.
         self.assertEqual(list(parse_many(["\ud83d", "\ude00"], errors="coerce")[1]), [0, 1])
 
     def test_wants_str(self):

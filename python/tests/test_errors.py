@@ -67,7 +67,7 @@ class Errors(unittest.TestCase):
         self.assertEqual((str(error), error.report), (line, line))
 
     def test_costs_little(self):
-        """A refusal calls only one function that is written in Python: the error's `__init__`."""
+        """A refusal calls one function that is written in Python."""
         called = []
         sys.setprofile(
             lambda frame, event, _: called.append(frame.f_code.co_name) if event == "call" else None

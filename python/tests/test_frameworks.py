@@ -1,4 +1,4 @@
-"""Tests how pydantic, argparse and Click read durations, by the recipes of README.md."""
+"""Tests how pydantic, argparse and Click read durations, and the recipes of README.md."""
 
 import argparse
 import datetime
@@ -19,7 +19,6 @@ from duration_str import parse
 
 MINUTE = datetime.timedelta(minutes=1)
 HOUR = 60 * MINUTE
-# The JSON schema of a field without options
 TEXT = {"type": "string", "pattern": duration_str.pattern()}
 
 
@@ -28,13 +27,12 @@ def has(name):
 
 
 def recipe(name):
-    """The program in README.md whose first line has this name."""
+    """The first line of a recipe is a comment with its name."""
     told = importlib.metadata.metadata("duration-str").get_payload()
     return re.search(rf"^```python\n(# {name}\n.*?)^```$", told, re.M | re.S)[1]
 
 
 def run(name, *words):
-    """Runs a recipe, and returns its status, its output and its last line on standard error."""
     with tempfile.TemporaryDirectory() as room:
         file = pathlib.Path(room, name)
         file.write_text(recipe(name), encoding="utf-8")
@@ -54,7 +52,6 @@ class Lines(unittest.TestCase):
         field = duration_str.DurationField
         self.assertEqual(field(default_unit="ms"), field(default_unit="ms"))
         self.assertEqual(len({field(), field(), field(default_unit="ms")}), 2)
-        # With the second named, numbers are read too.
         self.assertNotEqual(field(), field(default_unit="s"))
         self.assertEqual(field(), field(no_calc=False))
         self.assertNotEqual(field(no_calc=True), field(lowercase=True))
@@ -119,7 +116,6 @@ class Lines(unittest.TestCase):
         self.assertEqual(DURATION("1m"), MINUTE)
         with self.assertRaises(duration_str.DurationTypeError):
             DURATION.convert(60, None, None)
-        # A default in a program need not be a text.
         milliseconds = DurationParamType(default_unit="ms")
         self.assertEqual(milliseconds.convert(60_000, None, None), MINUTE)
 
@@ -229,7 +225,7 @@ class Models(unittest.TestCase):
             self.assertEqual(strict.json_schema(mode=mode)["pattern"], pattern)
 
     def models_with(self, **words):
-        """Models with one field that has these limits: once assigned, and once in `Annotated`."""
+        """The first model assigns the limits, and the second has them in `Annotated`."""
         field = self.pydantic.Field(**words)
         for annotation, default in [
             (duration_str.Duration, field),

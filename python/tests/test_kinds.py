@@ -1,6 +1,5 @@
-"""Tests a column of each type that Python, NumPy, pandas and Arrow list against one table. A column
-of a type that is not in the table must be refused by the type's name.
-"""
+"""Tests columns of types that Python, NumPy, pandas and Arrow list against one table. A column of a
+type that is not in the table must be refused by the type's name."""
 
 import array
 import ctypes
@@ -19,26 +18,25 @@ try:
 except ImportError:
     pyarrow = None
 
-# The types whose values are read. In `object` each value is judged by itself.
+# In `object` each value is judged by itself.
 READ = {"object", "float64", "Float64", "double", "str", "str32", "string", "StringDType128"}
 READ |= {"large_string", "string_view"}
 READ |= {f"{kind}{bits}" for kind in ("int", "uint", "Int", "UInt") for bits in (8, 16, 32, 64)}
 READ |= {f"format '{order}{code}'" for order in ("", "<", ">") for code in "bBhHiIlLqQnNduwOZ"}
-# The types of timedeltas, which only to_timedelta reads, with the nanoseconds of a 1
+# The types that only to_timedelta reads, each with the nanoseconds of a 1
 UNITS = {"W": 604_800 * 10**9, "D": 86_400 * 10**9, "h": 3_600 * 10**9, "m": 60 * 10**9}
 UNITS |= {"s": 10**9, "ms": 10**6, "us": 10**3, "ns": 1}
 LENGTHS = {f"timedelta64[{unit}]": nanos for unit, nanos in UNITS.items()}
 LENGTHS |= {f"duration[{unit}]": nanos for unit, nanos in UNITS.items()}
-# The units of timedelta64 that are refused
 OTHER_UNITS = ("Y", "M", "ps", "fs", "as")
 UNREADABLE = {"timedelta64", *(f"timedelta64[{unit}]" for unit in OTHER_UNITS)}
-# What is raised if a column can't be made
 IMPOSSIBLE = (AttributeError, ImportError, KeyError, NotImplementedError, TypeError, ValueError)
 IMPOSSIBLE += (Warning,)
 
 
 def first(make, *choices):
-    """What is made of the first of the choices of which something can be made, or None."""
+    """Returns what is made of the first choice for which `make` raises none of IMPOSSIBLE. If there
+    is none, returns None."""
     for choice in choices:
         try:
             return make(choice)
@@ -48,7 +46,6 @@ def first(make, *choices):
 
 
 def of_python():
-    """A column of each type that an array, a view of memory and an array of C can have."""
     columns = [first(lambda one: array.array(code, one), [1], "1") for code in array.typecodes]
     columns += map(memoryview, filter(None, columns[:]))
     columns += [first(lambda code: memoryview(bytes(8)).cast(chr(code))[:1], n) for n in range(128)]
@@ -59,12 +56,10 @@ def of_python():
 
 
 def of_numpy():
-    """An array of each of NumPy's types."""
     types = [*map(numpy.dtype, [*numpy.typecodes["All"], *numpy.sctypeDict.values(), "i4,f4"])]
     for unit in (*UNITS, *OTHER_UNITS):
         types += [numpy.dtype(f"{kind}8[{unit}]") for kind in "mM"]
     types += [dtype.newbyteorder() for dtype in types]
-    # NumPy has this list since version 1.25.
     for kind in vars(getattr(numpy, "dtypes", array)).values():
         types += filter(None, [first(lambda kind: numpy.dtype(kind()), kind)])
     types = {(dtype.char, dtype.str): dtype for dtype in types}.values()
@@ -72,7 +67,6 @@ def of_numpy():
 
 
 def of_pandas():
-    """An array of each type of pandas that depends on no other type."""
     words = {name: [] for name in ("ArrowDtype", "CategoricalDtype", "SparseDtype")}
     words |= {"DatetimeTZDtype": [("ns", "UTC")], "IntervalDtype": [("float64", "right")]}
     words |= {"PeriodDtype": ["D"]}
@@ -88,7 +82,6 @@ def of_pandas():
 
 
 def of_arrow():
-    """An array of each type for which Arrow has a number."""
     int8, float32, field = pyarrow.int8(), pyarrow.float32(), pyarrow.field("a", pyarrow.int8())
     # pyarrow makes no arrays with a value of these types.
     types = {f"INTERVAL_{name}": [] for name in ("MONTHS", "DAY_TIME")}
@@ -115,14 +108,13 @@ def of_arrow():
 
 
 def of_memory(values):
-    """The name of the format of an array's memory, and the nanoseconds of its first value in
-    milliseconds. These are None if Python can't read that format."""
+    """Returns the name of the format of an array's memory, and the nanoseconds of its first value
+    in milliseconds. These are None if Python can't read that format."""
     nanos = first(lambda values: 10**6 * int(values[0]), values)
     return f"format {memoryview(values).format!r}", nanos
 
 
 def in_pandas(values):
-    """The columns of pandas that can be made of an array, each with the name of its type."""
     for make in (pandas.Series, pandas.Index, pandas.Categorical, pandas.arrays.SparseArray):
         column = first(make, values)
         if column is None:
@@ -138,7 +130,7 @@ def in_pandas(values):
 
 
 class Column(list):
-    """A column of a library that is not installed, with a type that has a name."""
+    """A column of a library that is not installed. Its type has only a name."""
 
     def __init__(self, name):
         super().__init__([1])
@@ -147,8 +139,7 @@ class Column(list):
 
 class Kinds(unittest.TestCase):
     def check(self, name, column, nanos=10**6, calls=(parse_many, to_timedelta)):
-        """Checks that a column of one value, whose type has this name, is read as these
-        nanoseconds, or refused."""
+        """`nanos` are what the column's one value is read as, if its type is read."""
         for call in calls if numpy else calls[:1]:
             with self.subTest(call=call.__name__, name=name, type=type(column)):
                 if name in READ or (call is to_timedelta and name in LENGTHS):
@@ -180,7 +171,6 @@ class Kinds(unittest.TestCase):
                 format_many(column)
 
     def check_missing(self, values):
-        """Checks that a column of one missing value is read, whatever its type is."""
         with self.subTest(type=type(values), dtype=getattr(values, "dtype", None)):
             answer = numpy.asarray(to_timedelta(values, default_unit="ms"))
             self.assertEqual(numpy.isnat(answer).tolist(), [True])
@@ -217,7 +207,7 @@ class Kinds(unittest.TestCase):
             nanos = LENGTHS.get(name, 10**6)
             self.check(name, values, nanos)
             self.check(name, numpy.ma.array(values), nanos)
-            # pandas takes records and the other order of bytes, but makes mistakes with them.
+            # pandas makes mistakes with records and with the other order of bytes.
             if values.dtype.isnative and values.dtype.kind != "V":
                 for name, column in in_pandas(values):
                     self.check(name, column, nanos)

@@ -8,14 +8,12 @@ import unittest
 import duration_str
 from tests.vectors import CHOICES, VECTORS, words_of
 
-# ASCII, and characters that other programs take for a blank, a digit or a letter of a unit.
+# ASCII, and some characters that another program may take for a blank, a digit or a letter
 STRANGE = [*map(chr, range(128)), *"\x85\xa0\u2028\ufeff٣０μſK"]
 
 
 def is_sentence(text, words):
-    """Whether the grammar allows the text. With zeros for all digits, no number, term or step is
-    too large.
-    """
+    """With zeros for all digits, no number or term is too large."""
     try:
         duration_str.parse_ns(re.sub("[0-9]", "0", text), **words)
     except duration_str.DurationError as error:

@@ -27,30 +27,24 @@ UNITS = ["y", "q", "mon", "w", "d", "h", "min", "s", "ms", "µs", "ns"]
 
 
 class Interrupted:
-    """An iterable that raises an error of its own."""
-
     def __iter__(self):
         raise KeyboardInterrupt("while it iterates")
 
 
 def length_of(text):
-    """The nanoseconds of a text of the vectors, also if the duration is too long to be read."""
+    """In the vectors, a duration that is too long to be read has the form `5 s 7 ns`."""
     secs, is_long, nanos = text.removesuffix(" ns").partition(" s ")
     return int(secs) * SECOND + int(nanos) if is_long else parse_ns(text)
 
 
-#: The lengths of the units in nanoseconds, by their printed names
 LENGTHS = {unit: parse_ns(f"1{unit}") for unit in UNITS}
 
 
 def check_breakdown(test, nanos, **words):
-    """Checks that the parts of a duration are those that are printed, and that they and the rest
-    are together the duration.
-    """
+    """The parts must be those that are printed. With the rest they must add up to the duration."""
     parts, rest_ns = breakdown(nanos, **words)
     printed = format(nanos, **words)
     joined = " ".join(f"{count}{unit}" for count, unit in parts)
-    # If all counts are 0, the text has a 0, and there are no parts.
     test.assertEqual(joined, "" if printed.startswith("0") else printed)
     test.assertEqual(sum(count * LENGTHS[unit] for count, unit in parts) + rest_ns, nanos)
 
@@ -237,7 +231,7 @@ class Breakdowns(unittest.TestCase):
 
     def test_breaks_random_durations_down_as_they_are_printed(self):
         seed = random.Random(19)
-        # With all seconds that there are, a duration has 94 bits.
+        # The longest duration has 94 bits.
         for _ in range(int(os.environ.get("DURATION_STR_ROUNDS", 10_000))):
             nanos = min(seed.getrandbits(seed.randrange(1, 95)), 2**64 * SECOND - 1)
             units = seed.sample(UNITS, seed.randrange(12)) or None

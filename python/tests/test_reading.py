@@ -30,8 +30,6 @@ from tests.vectors import CHOICES, REFUSED_IN_MILLIS, VECTORS, error_of, values_
 
 
 class Whole(enum.IntEnum):
-    """An int that prints as its name."""
-
     FEW = 1
     MANY = 1_500
 
@@ -40,15 +38,14 @@ class Whole(enum.IntEnum):
 
 
 class Place:
-    """No number, although it has the place of an item in a list."""
+    """It can be the place of an item in a list, but is no number."""
 
     def __index__(self):
         return 1
 
 
-# Texts that are no names of units: names with something before, after or within, Chinese names,
-# letters that look like a letter of a name or become one in small letters or capitals, and texts
-# with lone surrogates.
+# Texts that are no names of units, such as Chinese names and letters that become a letter of a name
+# in capitals
 NO_UNITS = ["", " ", "mins", "年", "毫秒", "1分", " ms", "ms ", "m s", "m\n", "m 0s", "1", "1ms", "0ms"]
 NO_UNITS += [
     "ms1",
@@ -64,7 +61,6 @@ NO_UNITS += [
 ]
 NO_UNITS += ["\ud800", "ms\udc00", "\ud800s", "m" * 15, "m" * 16, "milliseconds" * 10_000]
 
-# Calls that take options. Some of them read no text.
 CALLS = [
     lambda **words: parse("1s", **words),
     lambda **words: parse_ns("1s", **words),
@@ -108,7 +104,7 @@ class Reading(unittest.TestCase):
         self.assertEqual(parse("1h 30m", require_unit=True), datetime.timedelta(minutes=90))
 
     def test_makes_timedeltas_without_the_calls_of_datetime(self):
-        # Later versions of Python perhaps have other calls, and others have none.
+        # A version of Python may have other calls, or none.
         program = """
 import datetime, random
 del datetime.datetime_CAPI
@@ -168,7 +164,6 @@ assert parse("90s") == datetime.timedelta(seconds=90)
         for value in [*others, fractions.Fraction(1), Place()]:
             with self.assertRaisesRegex(DurationTypeError, "must be a str or a whole number, not "):
                 parse(value, default_unit="ms")
-        # A float from 2**53 on can have lost digits.
         for number in [2.0**53, 2.0**64, 1e22, float("inf")]:
             line = r"not a float of 2\*\*53 or more, which can have lost digits$"
             with self.assertRaisesRegex(DurationTypeError, line):
@@ -235,7 +230,6 @@ assert parse("90s") == datetime.timedelta(seconds=90)
                         with self.assertRaisesRegex(ValueError, line) as raised:
                             call(**words)
                         self.assertNotIsInstance(raised.exception, DurationError)
-        # These options can stand together.
         for call in CALLS:
             for words in [
                 {"no_calc": False},

@@ -1,6 +1,5 @@
-"""The file vectors.json, by which tests of several packages check how texts are read and refused,
-and how durations are printed.
-"""
+"""Reads vectors.json, by which tests of several packages check how texts are read and refused, and
+how durations are printed."""
 
 import itertools
 import json
@@ -22,14 +21,12 @@ REFUSED_IN_MILLIS += [
 
 
 def words_of(names):
-    """Turns names of options into the keywords of a call. A name is that of an option that is on,
-    or a default unit such as `default_unit=ms`.
-    """
+    """A name is that of an option that is on, or a default unit such as `default_unit=ms`."""
     words = {name: True for name in names if "=" not in name}
     return words | dict(name.split("=") for name in names if "=" in name)
 
 
-# Every choice of options, alone, with each default unit that a row names, and with units required
+# Each choice of the options, alone and with each name in UNITS
 NAMES = [name for group in VECTORS["values"] for name in group["on"]]
 UNITS = sorted({name for name in NAMES if name not in VECTORS["options"]})
 CHOICES = itertools.product((False, True), repeat=len(VECTORS["options"]))
@@ -38,9 +35,8 @@ CHOICES = [[*names, *unit] for names in CHOICES for unit in ([], *([unit] for un
 
 
 def values_under(names):
-    """The texts of the vectors for a choice of options, with their values in nanoseconds, or None
-    for a text that is refused.
-    """
+    """Gives texts of the vectors with their values in nanoseconds. A value is None if this choice
+    refuses the text."""
     unit = {*names} & {*UNITS}
     for group in VECTORS["values"]:
         if unit != {*group["on"]} & {*UNITS}:
@@ -51,9 +47,6 @@ def values_under(names):
 
 
 def value_columns():
-    """For each choice, the options and the texts of the vectors, including the texts that only this
-    choice refuses.
-    """
     for names in CHOICES:
         refused = [(text, None) for text, on, *_ in VECTORS["refused"] if {*on} == {*names}]
         yield words_of(names), [*values_under(names), *refused]
@@ -64,7 +57,6 @@ def refused_positions(values):
 
 
 def error_of(call, *arguments, **words):
-    """The error that a call raises for these arguments."""
     try:
         value = call(*arguments, **words)
     except DurationError as error:

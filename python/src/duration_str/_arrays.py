@@ -1,4 +1,5 @@
-"""Columns of NumPy and pandas. NumPy is imported only when it is used, and pandas never."""
+"""Columns of NumPy and pandas. NumPy is imported only when it is used, and pandas is never
+imported."""
 
 from __future__ import annotations
 
@@ -22,9 +23,8 @@ _NAT = -(2**63)
 
 
 def _is_missing(value: Any) -> bool:
-    """Whether a value is None, NaT, a float that is NaN, or, if pandas is imported, another value
-    that pandas takes for missing."""
-    # If a module isn't imported, no value has one of its types.
+    """Returns whether a value is None, NaT, a float that is NaN, or, if pandas is imported, another
+    value that pandas takes for missing."""
     numpy: Any = sys.modules.get("numpy")
     pandas: Any = sys.modules.get("pandas")
     if pandas is not None:
@@ -34,7 +34,6 @@ def _is_missing(value: Any) -> bool:
 
 
 def _missing_in(values: Any) -> Any:
-    """Which values of a column are missing, as an array of truth values."""
     import numpy
 
     for method in ("isna", "is_null"):  # of pandas and of Arrow
@@ -45,8 +44,7 @@ def _missing_in(values: Any) -> Any:
 
 
 def _flat(values: Any, name: str) -> list[Any]:
-    """A list of the values of a sequence, or of an array of any shape. `name` is that of their
-    type. A masked value is None. If the type is not read, the list has stand-ins."""
+    """`name` is that of the values' type. If the type is not read, the list has stand-ins."""
     import numpy
 
     pandas = sys.modules.get("pandas")
@@ -71,7 +69,6 @@ def _flat(values: Any, name: str) -> list[Any]:
 
 
 def _lengths(values: Any) -> Any:
-    """The values of a column of timedeltas as an array of timedelta64. A masked value is NaT."""
     import numpy
 
     is_masked = isinstance(values, numpy.ma.MaskedArray)
@@ -80,7 +77,7 @@ def _lengths(values: Any) -> Any:
 
 def _like(values: Any, result: Any) -> Any:
     """Turns a flat array of results into a Series or an Index like the values, or otherwise into an
-    array, which has their shape if they have one."""
+    array. This has the shape of the values if they have one."""
     pandas = sys.modules.get("pandas")
     if pandas is not None and isinstance(values, pandas.Series):
         return pandas.Series(result, index=values.index, name=values.name)
@@ -90,9 +87,9 @@ def _like(values: Any, result: Any) -> Any:
 
 
 def _nanos_of_value(value: Any, index: int, raises: bool, takes_numbers: bool) -> int:
-    """The nanoseconds of a value that is neither a text nor a number that is read. They stand for
-    NaT if the value is missing, or if it is refused and `raises` is false. A timedelta64 in a unit
-    that `nanos_of` refuses raises TypeError even then."""
+    """Returns the nanoseconds of a value that has no text. They stand for NaT if the value is
+    missing, or if it is refused and `raises` is false. A timedelta64 in a unit that `nanos_of`
+    refuses raises TypeError even then."""
     import numpy
 
     if _is_missing(value):
@@ -109,8 +106,6 @@ def _nanos_of_value(value: Any, index: int, raises: bool, takes_numbers: bool) -
 
 
 def _nanos_of_lengths(values: Any, lengths: Any, raises: bool) -> Any:
-    """Turns a column of timedelta64 into timedelta64[ns]. A column that has that type already keeps
-    its values."""
     import numpy
 
     if lengths.dtype == numpy.dtype("timedelta64[ns]"):
@@ -120,7 +115,7 @@ def _nanos_of_lengths(values: Any, lengths: Any, raises: bool) -> Any:
             else _like(values, lengths)
         )
     step, numbers = nanos_a_step(lengths.dtype), lengths.astype("int64").ravel()
-    # `abs` returns the number that stands for NaT as it is, below zero. So NaT isn't beyond.
+    # `abs` leaves the number that stands for NaT below zero, so NaT isn't beyond.
     beyond = abs(numbers) > (2**63 - 1) // step
     if raises and beyond.any():
         first = int(beyond.argmax())
@@ -205,7 +200,8 @@ def to_timedelta(
     refuses, except NaN, raises an error of the same type. Any other value in a
     column, such as bytes, raises DurationTypeError, even if a text before it
     is refused. A timedelta of 2**63 nanoseconds or more raises OverflowError.
-    With `errors="coerce"` all of these become NaT.
+    With `errors="coerce"` all of these become NaT. But a timedelta64 in years
+    or months raises TypeError even then.
     """
     raises = raises_errors(errors)
     reading = _native.reading(
@@ -248,11 +244,11 @@ def format_many(
     int of nanoseconds or a timedelta. The options are those of `format`.
 
     For a list or a generator it returns a list of str. For a Series, an Index
-    or a NumPy array it returns the same kind of column, with the dtype
-    `object` and the same shape, index and name. (A masked array, and an array
-    of pandas, become plain ones of NumPy.) Such a column may also have the
-    type timedelta64, in units from weeks to nanoseconds. Missing values, such
-    as None, NaN and NaT, become None.
+    or a NumPy array it returns the same kind of column, with the same shape,
+    index and name. (A masked array, and an array of pandas, become plain ones
+    of NumPy.) Such a column may also have the type timedelta64, in units from
+    weeks to nanoseconds. Missing values, such as None, NaN and NaT, become
+    None.
 
     It raises the errors of `format`. The error of a value says the value's
     position.
@@ -283,10 +279,7 @@ def format_many(
 
 
 def _durations(values: Any) -> list[Any]:
-    """Returns the values of an array in a list. Those of the type timedelta64 become ints of
-    nanoseconds, or None if they are missing. In an array of the type `object` they stay as they
-    are.
-    """
+    """The values of a timedelta64 column become ints of nanoseconds. A missing one becomes None."""
     if not LENGTHS.fullmatch(name := type_name(values)):
         return _flat(values, name)
     lengths = _lengths(values)

@@ -1,4 +1,4 @@
-"""Columns of texts, each read by one call."""
+"""Columns of texts"""
 
 from __future__ import annotations
 
@@ -17,8 +17,8 @@ from ._texts import UNNAMED, UNSAID
 Errors = Literal["raise", "coerce"]
 
 
-#: The types whose values are read, as NumPy, pandas, Arrow and the formats of buffers name them:
-#: integers, floats of 64 bits and texts. In `object`, each value has a type of its own.
+#: The types whose values are read, as NumPy, pandas, Arrow and the formats of buffers name them. In
+#: `object`, each value has a type of its own.
 _READ = re.compile(
     "object|double|large_string|string_view|format '[@=<>!]?[bBhHiIlLqQnNduwOZ]'"
     "|(?i:u?int(8|16|32|64)|float64|str(ing(dtype)?)?[0-9]*)"
@@ -28,7 +28,6 @@ LENGTHS = re.compile(r"(timedelta64|duration)(\[.*\])?")
 
 
 def _type_of_values(dtype: Any) -> Any:
-    """The type that the values have in a column of this type."""
     if hasattr(dtype, "categories"):
         return _type_of_values(dtype.categories.dtype)
     if hasattr(dtype, "fill_value"):  # a sparse column
@@ -40,13 +39,12 @@ def _type_of_values(dtype: Any) -> Any:
 
 @lru_cache(maxsize=100)
 def _name_of(dtype: Any) -> str:
-    """The name of a type. NumPy takes some microseconds to make it."""
+    """NumPy takes some microseconds to make the name."""
     return str(getattr(dtype, "name", dtype))
 
 
 def type_name(values: Any) -> str:
-    """The name of the type that a column says that its values have. It is `object` for a sequence
-    that says nothing, such as a list."""
+    """Returns `object` for a sequence that doesn't say the type of its values, such as a list."""
     if type(values) is list:
         return "object"
     dtype = getattr(values, "dtype", None)
@@ -63,16 +61,14 @@ def type_name(values: Any) -> str:
 
 
 def stand_in(name: str) -> Any | None:
-    """None if values of the type of this name are read. Otherwise an object that takes the place of
-    each value. Errors say the name of its type, which is this name."""
+    """Returns None if values of the type of this name are read. Otherwise it returns an object that
+    takes the place of each value. The object's type has this name, so errors say it."""
     return None if _READ.fullmatch(name) else type(name, (), {})()
 
 
 def values_of(texts: Any, name: str) -> list[Any]:
-    """The values of a sequence in a list of their own. `name` is that of their type. If the type
-    is not read, a stand-in takes the place of each. Raises TypeError for a single text, and for
-    other than one dimension.
-    """
+    """`name` is that of the values' type. If the type is not read, a stand-in takes the place of
+    each value. Raises TypeError for a single text, and for an array of other than one dimension."""
     if isinstance(texts, (str, bytes, bytearray)):
         raise TypeError(f"the texts must be a sequence of str, not one {type(texts).__name__}")
     if getattr(texts, "ndim", 1) != 1:
@@ -88,12 +84,10 @@ def values_of(texts: Any, name: str) -> list[Any]:
 
 
 def zeros(count: int) -> array[int]:
-    """An array of this many values, all of them 0."""
     return array("Q", (0,)) * count
 
 
 def raises_errors(errors: str) -> bool:
-    """Whether `errors` is "raise". Raises ValueError if it is neither "raise" nor "coerce"."""
     if errors not in ("raise", "coerce"):
         raise ValueError(f"errors must be 'raise' or 'coerce', not {errors!r}")
     return errors == "raise"

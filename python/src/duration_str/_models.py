@@ -14,8 +14,7 @@ from ._texts import DurationError, DurationTypeError
 
 
 def _read(value: Any, options: dict[str, Any]) -> Any:
-    """Returns the value of a text, and, if a default unit is named, of a whole number. Returns a
-    timedelta as it is if it is not negative. Raises pydantic's own errors."""
+    """Returns a timedelta as it is if it is not negative."""
     core = import_module("pydantic_core")
     if isinstance(value, datetime.timedelta):
         if value < datetime.timedelta(0):
@@ -45,8 +44,7 @@ _LONGEST = datetime.timedelta(microseconds=2**64 // 1000)
 
 
 def _print(value: Any) -> str:
-    """Returns the text of a timedelta. A text, which can be a default that isn't validated, is
-    returned as it is. Raises ValueError if the text could not be read back."""
+    """A text is returned as it is, since it can be a default that isn't validated."""
     if isinstance(value, str):
         return value
     if value > _LONGEST:
@@ -56,9 +54,8 @@ def _print(value: Any) -> str:
 
 class _Shown(dict[str, Any]):
     """A JSON schema, to which pydantic adds a field's default last. A default that is a timedelta
-    comes in ISO 8601, or as a number of seconds. This class replaces it by the duration's text,
-    if it has one.
-    """
+    comes in ISO 8601, or as a number of seconds. This class replaces it by the duration's text, if
+    it has one."""
 
     def __setitem__(self, key: str, value: Any) -> None:
         if key == "default" and (isinstance(value, float) or str(value).startswith("P")):

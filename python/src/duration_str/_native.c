@@ -1,6 +1,6 @@
-/* The calls of duration_str.h for Python. They use the limited API, so that one module serves
- * CPython from 3.11 on. Up to CPython 3.14, interpreters without a global lock have no such API.
- * They turn a lock on when they load the module, unless a user forbids it. */
+/* This module calls the library for C. It uses the limited API, so that one build serves CPython
+ * from 3.11 on. Up to CPython 3.14, interpreters without a global lock have no such API. When such
+ * an interpreter loads the module, it turns a lock on, unless a user forbids it. */
 #ifndef Py_GIL_DISABLED
 #define Py_LIMITED_API 0x030b0000
 #endif
@@ -10,10 +10,9 @@
 #include <duration_str.h>
 #include <string.h>
 
-/* The headers of CPython 3.11 count references in place. From 3.12 on, None, small ints and other
- * objects never end, and all interpreters share them. If their counts changed, interpreters with
- * locks of their own could free them. The functions of the running interpreter know these objects.
- */
+/* The headers of CPython 3.11 count references in place. From 3.12 on, interpreters share None and
+ * other objects that never end, so the counts of these must not change. The functions of the
+ * running interpreter know such objects. */
 #if PY_VERSION_HEX < 0x030c0000
 #undef Py_NewRef
 #undef Py_INCREF
@@ -26,10 +25,8 @@
 
 #define SECOND 1000000000u
 
-/* The Python objects that the module keeps. First come the names of the options: the flags, in the
- * order of their bits, and then the default unit. They are followed by the names of the keywords
- * that limit printing, the names of a timedelta's parts, and the types, functions and values that
- * the module uses. The last ones are the names of the units, from UNIT_NAMES on. */
+/* The Python objects that the module keeps. The first four are names of flags, in the order of
+ * their bits. */
 enum kept {
     NO_CALC,
     LOWERCASE,
@@ -59,22 +56,21 @@ enum kept {
     UNIT_NAMES,
     KEPT = UNIT_NAMES + DURATION_STR_UNIT_NANOSECOND + 1
 };
-/* The names. In the enumeration they come before ERROR, in the same order */
+/* The objects before ERROR are these names, in this order. */
 static const char *const kept_names[] = {"no_calc", "lowercase", "cn_unit", "require_unit",
     "default_unit", "parts", "units", "largest", "smallest", "style", "days", "seconds",
     "microseconds"};
 
-/* The number that stands for timedelta64's NaT, and the most days that timedelta64 can hold
- * whatever seconds and microseconds are added. */
+/* timedelta64's NaT as a number, and a count of days to which timedelta64 can add any seconds and
+ * microseconds of a timedelta */
 #define MISSING ((uint64_t)INT64_MIN)
 #define MOST_DAYS 106750
 
 /* From here on a float can have lost digits of the number that it was made of. */
 #define INEXACT 9007199254740992.0
 
-/* The beginning of the structure that the module datetime exports, whose function makes a timedelta
- * of days, seconds and microseconds. It is the same in the headers of CPython 3.11 to 3.13, but the
- * limited API leaves it out, so it is used for these versions only. */
+/* The beginning of the structure that the module datetime exports. The limited API leaves it out.
+ * It is the same in the headers of CPython 3.11 to 3.13, so it is used for these versions only. */
 struct datetime_calls {
     PyTypeObject *types[5];
     PyObject *utc;
@@ -82,7 +78,6 @@ struct datetime_calls {
     PyObject *(*timedelta)(int days, int seconds, int micros, int normalizes, PyTypeObject *type);
 };
 #define KNOWN_DATETIME (Py_Version < 0x030e0000)
-/* Where the type timedelta is among its types */
 #define TIMEDELTA_TYPE 3
 
 struct state {
@@ -90,14 +85,12 @@ struct state {
     const struct datetime_calls *datetime; /* NULL if the structure isn't known */
 };
 
-/* What the keywords of a call say about how values are read. */
 struct said {
     uint32_t on;      /* the flags that are on */
     uint32_t off;     /* the flags that are off, except one whose value is UNSAID */
     int default_unit; /* -1 if none is named */
 };
 
-/* How values are read. */
 struct reading {
     uint32_t options;
     int takes_numbers; /* whether a whole number that is not a text is read */
@@ -113,8 +106,8 @@ static PyObject *size_or_none(bool is_there, size_t size) {
     return is_there ? PyLong_FromSize_t(size) : Py_NewRef(Py_None);
 }
 
-/* Raises the package's error for a text, with this report. Takes over the references to the report
- * and the text. The index -1 stands for none. */
+/* Raises a DurationError. Takes over the references to the report and the text. The index -1 stands
+ * for none. */
 static void raise_error(struct state *state, PyObject *report, PyObject *text,
     const struct duration_str_answer *answer, const char *bytes, Py_ssize_t index) {
     const char *found = answer->found_length ? bytes + answer->place : NULL;
@@ -126,8 +119,6 @@ static void raise_error(struct state *state, PyObject *report, PyObject *text,
     Py_XDECREF(error);
 }
 
-/* Raises the package's error for a value that is neither a text nor a number that is read. The
- * index -1 stands for none. */
 static void raise_type_error(
     struct state *state, PyObject *value, const struct reading *reading, Py_ssize_t index) {
     PyObject *error = PyObject_CallFunction(
@@ -137,7 +128,7 @@ static void raise_type_error(
     Py_XDECREF(error);
 }
 
-/* Turns the pending error, of a str that can't be encoded, into the package's error. */
+/* Replaces the pending UnicodeEncodeError by a DurationError. */
 static void raise_surrogate(struct state *state, PyObject *text, Py_ssize_t index) {
     const struct duration_str_answer answer = {.cause = DURATION_STR_CAUSE_NOT_TEXT};
     PyObject *type, *error, *traceback, *line = NULL;
@@ -152,8 +143,6 @@ static void raise_surrogate(struct state *state, PyObject *text, Py_ssize_t inde
     Py_XDECREF(traceback);
 }
 
-/* Returns the report of a text that the library refuses, and writes the answer. If the text is
- * read, returns NULL and sets no error. */
 static PyObject *report_of(struct text text, uint32_t options, struct duration_str_answer *answer) {
     char report[DURATION_STR_REPORT_BUFFER_SIZE];
     const size_t length = duration_str_report(text.bytes, text.length, options, answer, report);
@@ -161,8 +150,7 @@ static PyObject *report_of(struct text text, uint32_t options, struct duration_s
 }
 
 /* Reads the text of a str, whatever a subclass says that it holds. Returns 1 if the text is read,
- * and 0 if it is refused and `raises` is false. Returns -1 with an error if the text is refused and
- * `raises` is true, and if anything else fails. */
+ * and 0 if it is refused and `raises` is false. Otherwise returns -1 with an error. */
 static int read_str(struct state *state, PyObject *given, uint32_t options, uint64_t *nanos,
     bool raises, Py_ssize_t index) {
     Py_ssize_t length;
@@ -192,9 +180,8 @@ static int read_str(struct state *state, PyObject *given, uint32_t options, uint
     return -1;
 }
 
-/* The digits of a whole number, as a str. For a float that is not whole, or is -2^53 or less, it is
- * what Python prints, which the library refuses. Returns NULL if the value is no number, or a float
- * of 2^53 or more, or with an error if Python refuses to print the number. */
+/* The text that the library is given for a number, such as its digits. Returns NULL without an
+ * error for a value that is not taken for a number, such as a bool. */
 static PyObject *digits_of(struct state *state, PyObject *value) {
     PyObject *number = NULL, *digits = NULL;
     if (PyBool_Check(value))
@@ -219,18 +206,15 @@ static PyObject *digits_of(struct state *state, PyObject *value) {
     return digits;
 }
 
-/* The text that a value is read as: a str, or, if whole numbers are read, the digits of one.
- * Returns NULL if the value is neither, or with an error. */
+/* Returns NULL without an error if the value has no text. */
 static PyObject *text_given(struct state *state, PyObject *value, const struct reading *reading) {
     if (PyUnicode_CheckExact(value) || PyUnicode_Check(value))
         return Py_NewRef(value);
     return reading->takes_numbers ? digits_of(state, value) : NULL;
 }
 
-/* Returns which of the names from `first` to `last` this keyword of a call is, or -1 with an error.
- * */
+/* Returns which of the kept names from `first` to `last` the keyword is, or -1 with an error. */
 static int name_of(struct state *state, const char *call, PyObject *keyword, int first, int last) {
-    /* Almost always the keyword is the same object as the name. */
     for (int name = first; name <= last; name++)
         if (keyword == state->kept[name])
             return name;
@@ -241,7 +225,6 @@ static int name_of(struct state *state, const char *call, PyObject *keyword, int
     return -1;
 }
 
-/* Returns whether a call has one positional argument. If not, it sets an error. */
 static bool has_one(const char *call, Py_ssize_t count) {
     if (count != 1)
         PyErr_Format(
@@ -249,7 +232,6 @@ static bool has_one(const char *call, Py_ssize_t count) {
     return count == 1;
 }
 
-/* The index of a name among these names, or -1. */
 static int place_among(PyObject *name, const char *const *names, int count) {
     for (int place = 0; PyUnicode_Check(name) && place < count; place++)
         if (!PyUnicode_CompareWithASCIIString(name, names[place]))
@@ -257,15 +239,14 @@ static int place_among(PyObject *name, const char *const *names, int count) {
     return -1;
 }
 
-/* Raises an error, which says that the value of a keyword is none of the listed names. */
 static void raise_name(PyObject *name, const char *keyword, const char *listed) {
     PyErr_Format(PyUnicode_Check(name) ? PyExc_ValueError : PyExc_TypeError,
         "%s must be one of %s, not %R", keyword, listed, name);
 }
 
-/* The number of the unit that has this name if all options are off. Returns -1 with an error. */
+/* Returns the unit of this name, or -1 with an error. A Chinese name is an error, too. */
 static int unit_of(struct state *state, PyObject *name, const char *keyword) {
-    /* Python usually keeps one object for equal names in a program. So most are found here. */
+    /* Python usually keeps one object for equal names in a program, so this finds most of them. */
     for (int unit = 0; unit <= DURATION_STR_UNIT_NANOSECOND; unit++)
         if (name == state->kept[UNIT_NAMES + unit])
             return unit;
@@ -278,8 +259,7 @@ static int unit_of(struct state *state, PyObject *name, const char *keyword) {
     return unit;
 }
 
-/* Takes the value of an option's keyword: a flag, or the default unit. UNNAMED and UNSAID are the
- * values of keywords that a caller of the package hasn't written. Returns -1 with an error. */
+/* UNNAMED and UNSAID are the values of keywords that a caller of the package hasn't written. */
 static int take_option(
     struct state *state, const char *call, PyObject *keyword, PyObject *value, struct said *said) {
     const int option = name_of(state, call, keyword, NO_CALC, DEFAULT_UNIT);
@@ -302,7 +282,6 @@ static int take_option(
     return 0;
 }
 
-/* Takes the options that a call is given by keywords. Returns -1 with an error. */
 static int take_options(struct state *state, const char *call, PyObject *const *values,
     PyObject *keywords, struct reading *reading) {
     const Py_ssize_t words = keywords ? PyTuple_Size(keywords) : 0;
@@ -329,8 +308,6 @@ static int take_options(struct state *state, const char *call, PyObject *const *
     return 0;
 }
 
-/* Reads the value of a call, whose arguments METH_FASTCALL | METH_KEYWORDS gives. Returns -1 with
- * an error if it is refused. */
 static int read_call(struct state *state, const char *call, PyObject *const *arguments,
     Py_ssize_t count, PyObject *keywords, uint64_t *nanos) {
     struct reading reading;
@@ -371,7 +348,7 @@ static PyObject *timedelta_of(struct state *state, uint64_t nanos) {
         return state->datetime->timedelta((int)(secs / 86400), (int)(secs % 86400),
             (int)(nanos % SECOND / 1000), 0, (PyTypeObject *)state->kept[TIMEDELTA]);
     }
-    /* Multiplying takes less time than the constructor would take. */
+    /* Multiplying takes less time than calling the constructor. */
     PyObject *micros = PyLong_FromUnsignedLongLong(nanos / 1000);
     PyObject *value = micros ? PyNumber_Multiply(state->kept[A_MICROSECOND], micros) : NULL;
     Py_XDECREF(micros);
@@ -399,18 +376,15 @@ static PyObject *parse_seconds(
     return seconds;
 }
 
-/* How durations are printed. */
 struct limits {
     uint32_t units; /* a set of units */
     uint32_t parts;
     uint32_t style;
 };
 
-/* No limits: all units, as many parts as there are units, and the short style */
 static const struct limits no_limits = {
     DURATION_STR_UNITS_ALL, DURATION_STR_UNIT_NANOSECOND + 1, DURATION_STR_STYLE_SHORT};
 
-/* Takes a count of parts. Returns -1 with an error. */
 static int take_parts(PyObject *value, uint32_t *parts) {
     int overflow;
     if (PyBool_Check(value) || !PyIndex_Check(value)) {
@@ -430,7 +404,6 @@ static int take_parts(PyObject *value, uint32_t *parts) {
     return 0;
 }
 
-/* Takes a style by its name. Returns -1 with an error. */
 static int take_style(PyObject *name, uint32_t *style) {
     const int place = place_among(name, style_names, sizeof style_names / sizeof *style_names);
     if (place < 0)
@@ -439,14 +412,13 @@ static int take_style(PyObject *name, uint32_t *style) {
     return place < 0 ? -1 : 0;
 }
 
-/* Takes a set of units. None stands for all units. Returns -1 with an error. */
 static int take_units(struct state *state, PyObject *value, uint32_t *units) {
     if (Py_IsNone(value))
         return 0;
     PyObject *names = PyUnicode_Check(value) ? NULL : PyObject_GetIter(value), *name;
     if (!names) {
         /* An error of the value's own __iter__ passes through, except a TypeError, which Python
-         * also raises if there is no __iter__. */
+         * also raises if a value can't be iterated. */
         if (!PyErr_Occurred() || PyErr_ExceptionMatches(PyExc_TypeError))
             PyErr_Format(PyExc_TypeError, "units must be a list of units, not %R", value);
         return -1;
@@ -470,9 +442,8 @@ static int take_units(struct state *state, PyObject *value, uint32_t *units) {
     return 0;
 }
 
-/* Takes the value of a keyword, one from PARTS to STYLE, into the limits. The largest and the
- * smallest unit go to `*largest` and `*smallest` instead. Returns -1 with an error, also for a
- * keyword of -1, whose error name_of has set. */
+/* The largest and the smallest unit go to `*largest` and `*smallest`. If the keyword is -1, name_of
+ * has set the error. */
 static int take_limit(struct state *state, int keyword, PyObject *value, struct limits *limits,
     int *largest, int *smallest) {
     switch (keyword) {
@@ -492,8 +463,7 @@ static int take_limit(struct state *state, int keyword, PyObject *value, struct 
     return -1;
 }
 
-/* Takes the limits that a call is given by keywords, of which it knows those from PARTS to `last`.
- * Returns -1 with an error. */
+/* The call knows the keywords from PARTS to `last`. */
 static int take_limits(struct state *state, const char *call, int last, PyObject *const *values,
     PyObject *keywords, struct limits *limits) {
     const Py_ssize_t words = keywords ? PyTuple_Size(keywords) : 0;
@@ -513,13 +483,12 @@ static int take_limits(struct state *state, const char *call, int last, PyObject
     return -1;
 }
 
-/* A duration: seconds, and nanoseconds below a second. */
+/* `nanos` is below a second. */
 struct duration {
     uint64_t secs;
     uint32_t nanos;
 };
 
-/* Takes the duration of an int of nanoseconds. Returns -1 with an error. */
 static inline int take_int(struct state *state, PyObject *value, struct duration *duration) {
     int overflow;
     const long long few = PyLong_AsLongLongAndOverflow(value, &overflow);
@@ -550,8 +519,7 @@ static inline int take_int(struct state *state, PyObject *value, struct duration
     return -1;
 }
 
-/* Gets the days, seconds and microseconds of a value whose type is exactly timedelta. Returns -1
- * with an error if there is no memory. */
+/* Gets the days, seconds and microseconds of a value whose type is exactly timedelta. */
 static int parts_of(struct state *state, PyObject *value, long *parts) {
     for (int part = 0; part < 3; part++) {
         PyObject *number = PyObject_GetAttr(value, state->kept[DAYS + part]);
@@ -561,7 +529,6 @@ static int parts_of(struct state *state, PyObject *value, long *parts) {
     return PyErr_Occurred() ? -1 : 0;
 }
 
-/* Takes the duration of a value whose type is exactly timedelta. Returns -1 with an error. */
 static int take_timedelta(struct state *state, PyObject *value, struct duration *duration) {
     long parts[3];
     if (parts_of(state, value, parts))
@@ -575,9 +542,9 @@ static int take_timedelta(struct state *state, PyObject *value, struct duration 
     return 0;
 }
 
-/* Takes the duration of a value. `function` is called for a value whose type is neither int nor
- * timedelta. Returns 1 if the duration is taken, and 0 if the function returns None, since the
- * value is missing. Returns -1 with an error. */
+/* Returns 1 if the duration is taken, and -1 with an error. `function` is called for a value whose
+ * type is neither int nor timedelta. If it returns None, the value is missing, and 0 is returned.
+ */
 static inline int take_duration(
     struct state *state, PyObject *value, PyObject *function, struct duration *duration) {
     if (PyLong_CheckExact(value))
@@ -593,8 +560,7 @@ static inline int take_duration(
     return failed ? -1 : !is_missing;
 }
 
-/* The text of a duration. If there are no limits, and the duration is not too long, it uses the
- * call without limits, which is faster. */
+/* The call without limits is faster, but takes only durations below 2^64 nanoseconds. */
 static PyObject *text_of(const struct duration *duration, const struct limits *limits) {
     char buffer[DURATION_STR_FORMAT_WITH_BUFFER_SIZE];
     const bool is_whole = !memcmp(limits, &no_limits, sizeof *limits);
@@ -606,8 +572,6 @@ static PyObject *text_of(const struct duration *duration, const struct limits *l
     return PyUnicode_FromStringAndSize(buffer, (Py_ssize_t)length);
 }
 
-/* The text of a value's duration, or None if the value is missing. `function` is called as
- * take_duration says. */
 static PyObject *text_of_value(
     struct state *state, PyObject *value, PyObject *function, const struct limits *limits) {
     struct duration duration;
@@ -628,7 +592,8 @@ static PyObject *format(
     return text_of_value(state, arguments[0], state->kept[NANOS_OF], &limits);
 }
 
-/* The count of the first part of a duration, of any size: the number with which its text begins. */
+/* The count of the first part, which can be 2^64 or more. It is the number with which the text
+ * begins. */
 static PyObject *printed_count(const struct duration *duration, uint32_t units) {
     char buffer[DURATION_STR_FORMAT_WITH_BUFFER_SIZE];
     duration_str_format_with(
@@ -640,8 +605,8 @@ static PyObject *printed_count(const struct duration *duration, uint32_t units) 
     return PyLong_FromString(buffer, NULL, 10);
 }
 
-/* Makes a named tuple of this type. It takes over the reference to the items, which are a tuple.
- * The type's own constructor is a function in Python, and takes longer. */
+/* Takes over the reference to the items, which are a tuple. The type's own constructor is a
+ * function in Python, and takes longer. */
 static PyObject *named_tuple(PyObject *type, PyObject *items) {
     const newfunc new_tuple = (newfunc)(uintptr_t)PyType_GetSlot(&PyTuple_Type, Py_tp_new);
     PyObject *arguments = items ? PyTuple_Pack(1, items) : NULL;
@@ -651,8 +616,7 @@ static PyObject *named_tuple(PyObject *type, PyObject *items) {
     return made;
 }
 
-/* The parts whose counts are not 0, as a list. `first` is the count of the first part if it is 2^64
- * or more, and otherwise NULL. */
+/* `first` is the count of the first part if it is 2^64 or more, and otherwise NULL. */
 static PyObject *list_of_parts(struct state *state, const uint64_t *counts, PyObject *first) {
     PyObject *parts = PyList_New(0);
     for (int unit = 0; parts && unit < DURATION_STR_UNIT_COUNT; unit++) {
@@ -669,7 +633,6 @@ static PyObject *list_of_parts(struct state *state, const uint64_t *counts, PyOb
     return parts;
 }
 
-/* The breakdown of a duration. */
 static PyObject *breakdown_of(
     struct state *state, const struct duration *duration, const struct limits *limits) {
     uint64_t counts[DURATION_STR_UNIT_COUNT], rest = 0;
@@ -720,20 +683,18 @@ static PyObject *limits(
     return Py_BuildValue("(III)", limits.units, limits.parts, limits.style);
 }
 
-/* After this many values of a column, other threads may run, and a signal may end the call. For
- * values such as `3m 13s 29ms` that takes far less than a hundredth of a second. */
+/* After this many values of a column, other threads may run, and a signal may end the call. */
 static const Py_ssize_t A_TURN = 4096;
 
-/* Lets other threads run. Returns -1 with an error if a signal has raised one. */
+/* Returns -1 with an error if a signal has raised one. */
 static int end_turn(void) {
     Py_BEGIN_ALLOW_THREADS;
     Py_END_ALLOW_THREADS;
     return PyErr_CheckSignals();
 }
 
-/* format_list(values, function, texts, limits): appends the text of each value to `texts`, whose
- * length then says at which value an error is. The function is called for a value whose type is
- * neither int nor timedelta. */
+/* format_list(values, function, texts, limits): appends the text of each value, or None if the
+ * value is missing, to `texts`. The length of `texts` then says at which value an error is. */
 static PyObject *format_list(PyObject *self, PyObject *arguments) {
     PyObject *values, *function, *texts;
     struct limits limits;
@@ -752,7 +713,6 @@ static PyObject *format_list(PyObject *self, PyObject *arguments) {
     Py_RETURN_NONE;
 }
 
-/* Adds a position to a list. Returns -1 with an error if there is no memory. */
 static int add_position(PyObject *list, Py_ssize_t position) {
     PyObject *number = PyLong_FromSsize_t(position);
     const int failed = !number || PyList_Append(list, number);
@@ -760,7 +720,6 @@ static int add_position(PyObject *list, Py_ssize_t position) {
     return failed ? -1 : 0;
 }
 
-/* A list of values to be read, with room for the results. */
 struct list {
     PyObject *values;
     uint64_t *nanos;
@@ -771,15 +730,14 @@ struct list {
     PyObject *function; /* for timedelta64: called for values that have no text; otherwise NULL */
 };
 
-/* How many values are read: at most as many as there is room for. A function that is called may
- * have made the list shorter. */
+/* A function that is called may have made the list longer or shorter. */
 static Py_ssize_t length_of(const struct list *list) {
     const Py_ssize_t length = PyList_Size(list->values);
     return length < list->room ? length : list->room;
 }
 
-/* Keeps a value that has no text, for timedelta64. `*missing` is the last value for which the
- * function has returned NaT, and becomes NaT without another call. Returns -1 with an error. */
+/* `*missing` is the last value for which the function has returned NaT. If a value is the same
+ * object, it becomes NaT without a call. */
 static int keep(struct state *state, const struct list *list, Py_ssize_t at, PyObject *value,
     PyObject **missing) {
     long parts[3];
@@ -810,7 +768,6 @@ static int keep(struct state *state, const struct list *list, Py_ssize_t at, PyO
     return PyErr_Occurred() ? -1 : 0;
 }
 
-/* Raises an error, which says that timedelta64 can't hold a text's value. */
 static void raise_beyond(struct state *state, PyObject *given, Py_ssize_t index) {
     const struct duration_str_answer answer = {.cause = DURATION_STR_CAUSE_OVERFLOW};
     PyObject *line = PyUnicode_FromString(
@@ -818,8 +775,8 @@ static void raise_beyond(struct state *state, PyObject *given, Py_ssize_t index)
     raise_error(state, line, PyUnicode_FromObject(given), &answer, NULL, index);
 }
 
-/* Reads a text of the list, and returns what read_str does. If there is a function, it also refuses
- * a value that timedelta64 can't hold. */
+/* Returns what read_str does. If there is a function, a value that timedelta64 can't hold is
+ * refused, too. */
 static int read_text(
     struct state *state, const struct list *list, Py_ssize_t at, PyObject *text, bool raises) {
     int is_read =
@@ -834,9 +791,8 @@ static int read_text(
     return is_read;
 }
 
-/* Reads a value that has no text. Returns 1 if it is kept, 0 if it is refused, and -1 with an
- * error. If there is a ValueError already, a number has more digits than Python writes, and the
- * value is refused. */
+/* Returns 1 if the value is kept, 0 if it is refused, and -1 with an error. A ValueError that is
+ * set already means that a number has more digits than Python writes. */
 static int read_other(struct state *state, const struct list *list, Py_ssize_t at, PyObject *value,
     PyObject **missing) {
     if (PyErr_Occurred()) {
@@ -854,7 +810,6 @@ static int read_other(struct state *state, const struct list *list, Py_ssize_t a
     return -1;
 }
 
-/* Reads a value, and adds its position to the list if it is refused. Returns -1 with an error. */
 static int read_value(struct state *state, const struct list *list, Py_ssize_t at,
     PyObject *refused, PyObject **missing) {
     PyObject *value = Py_NewRef(PyList_GetItem(list->values, at));
@@ -868,7 +823,6 @@ static int read_value(struct state *state, const struct list *list, Py_ssize_t a
     return add_position(refused, at);
 }
 
-/* Raises the error of the first value that is refused. */
 static int raise_first(struct state *state, const struct list *list, PyObject *refused) {
     const Py_ssize_t at =
         PyList_Size(refused) ? PyLong_AsSsize_t(PyList_GetItem(refused, 0)) : length_of(list);
@@ -889,7 +843,7 @@ static int raise_first(struct state *state, const struct list *list, PyObject *r
  * there is none, that of the first refused text or number. The error counts positions from `first`.
  *
  * If `function` is not None, the buffer gets numbers of timedelta64. None, NaN and a refused text
- * become NaT, and a timedelta is kept. For any other value the function returns the number. */
+ * become NaT. For a value that is not read here, the function returns the number. */
 static PyObject *read_list(PyObject *self, PyObject *arguments) {
     struct list list;
     Py_buffer nanos;
@@ -1009,7 +963,6 @@ static PyMethodDef methods[] = {
     {NULL, NULL, 0, NULL},
 };
 
-/* Takes a member of a module. Returns NULL with an error if there is none. */
 static PyObject *member(const char *module, const char *name) {
     PyObject *imported = PyImport_ImportModule(module);
     PyObject *taken = imported ? PyObject_GetAttrString(imported, name) : NULL;
@@ -1017,9 +970,8 @@ static PyObject *member(const char *module, const char *name) {
     return taken;
 }
 
-/* Finds the structure of the module datetime, if it is known. Otherwise timedelta_of does without.
- * It does so too if a program has replaced `datetime.timedelta`, such as by a mock, while it
- * imported this module: the structure's function would take that object for a type. */
+/* The structure is not used if a program has replaced `datetime.timedelta`, such as by a mock,
+ * while it imported this module: the structure's function would take that object for a type. */
 static void find_datetime(struct state *state) {
     const char *name = "datetime.datetime_CAPI";
     PyObject *capsule = KNOWN_DATETIME ? member("datetime", "datetime_CAPI") : NULL;

@@ -8,8 +8,8 @@ from ._texts import Breakdown
 
 @type_check_only
 class NumpyDuration(Protocol):
-    """An integer of NumPy, or its timedelta64. Both have a denominator, which NumPy's floats
-    don't."""
+    """An integer of NumPy, or its timedelta64. Both have a denominator, which NumPy's
+    floats lack."""
 
     @property
     def denominator(self) -> Any: ...

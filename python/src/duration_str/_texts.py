@@ -1,6 +1,5 @@
-"""The errors that say why and where a text is refused, the parts of a duration, and its
-nanoseconds.
-"""
+"""The errors that say why and where a text is refused, the parts of a duration, and durations as
+nanoseconds"""
 
 from __future__ import annotations
 
@@ -33,17 +32,14 @@ class Breakdown(NamedTuple):
 
 
 class _Unnamed(str):
-    """The type of `UNNAMED`."""
+    pass
 
 
-#: The default unit of a call that names none. It equals "s", but is another object, so that it can
-#: be told from an "s" that a caller gives.
+#: The default unit of a call that names none. It equals "s", but is another object.
 UNNAMED: Any = _Unnamed("s")
 
 
 class _Unsaid(int):
-    """The type of `UNSAID`."""
-
     def __repr__(self) -> str:
         return "False"
 
@@ -97,7 +93,7 @@ _EXPECTED = [Expected(bits) for bits in range(16)]
 class DurationError(ValueError):
     """A text is refused. `str(error)` is one line for people: it says what is
     wrong, for a syntax fault also where, and often what to write. For a text
-    of a column, the line begins with the text's index.
+    of a column, the line begins with the index, such as `at index 1`.
 
     >>> try:
     ...     duration_str.parse("3h 2 mins")
@@ -154,8 +150,7 @@ class DurationError(ValueError):
 
 
 def type_error_of(value: Any, takes_numbers: bool, index: int) -> DurationTypeError:
-    """The error for a value that is neither a text nor a number that is read. The index -1 stands
-    for none."""
+    """The index -1 stands for none."""
     where = "" if index < 0 else f"at index {index}: "
     what = type(value).__name__
     if takes_numbers:
@@ -172,8 +167,8 @@ def type_error_of(value: Any, takes_numbers: bool, index: int) -> DurationTypeEr
 
 
 def whole_of(value: Any) -> int | None:
-    """The int of an integer of NumPy. None for any other value, also for timedelta64, which NumPy
-    counts among its integers."""
+    """Returns the int of an integer of NumPy, and None for any other value. NumPy also counts
+    timedelta64 among its integers."""
     numpy: Any = sys.modules.get("numpy")
     if numpy is None or isinstance(value, numpy.timedelta64):
         return None
@@ -181,8 +176,8 @@ def whole_of(value: Any) -> int | None:
 
 
 def nanos_a_step(dtype: Any) -> int:
-    """The nanoseconds of one step of this type of timedelta64. Raises TypeError if the type's unit
-    is none from weeks to nanoseconds."""
+    """Returns the nanoseconds of one step of this type of timedelta64. Raises TypeError if its unit
+    is not one from weeks to nanoseconds."""
     numpy: Any = import_module("numpy")
     unit, count = numpy.datetime_data(dtype)
     if unit not in _NANOS:
@@ -193,8 +188,7 @@ def nanos_a_step(dtype: Any) -> int:
 
 
 def nanos_of(value: Any) -> int:
-    """The nanoseconds of a timedelta or an int, also one of pandas or NumPy. Raises TypeError if
-    the value is neither."""
+    """Returns the nanoseconds of a timedelta or an int, also one of pandas or NumPy."""
     numpy: Any = sys.modules.get("numpy")
     if isinstance(value, datetime.timedelta):
         nanos = ((value.days * 86_400 + value.seconds) * 10**6 + value.microseconds) * 1000

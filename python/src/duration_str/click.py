@@ -1,7 +1,7 @@
 """A type for options of Click. Only this module imports Click."""
 
 # mypy: disallow-any-generics=False
-# From Click 8.4 on the base class takes a type parameter, which earlier versions refuse.
+# In Click 8.4 the base class takes a type parameter, which earlier versions refuse.
 
 from __future__ import annotations
 
