@@ -1,4 +1,4 @@
-//! Gives the shared library its soname, whose number is raised if a structure, a number or a
+//! Gives the shared library its soname, whose number is raised if a structure, a constant or a
 //! signature of the header is changed or removed. The Makefile reads the soname here.
 fn main() {
     println!("cargo:rerun-if-changed=build.rs");
