@@ -51,11 +51,10 @@ function isChoice(id, value) {
 function takeUnits(id, names) {
     const places = names.map((name) => printedNames.indexOf(name));
     if (places.includes(-1)) return false;
-    return keepUnits((place) => {
-        if (id === "largest") return place >= Math.max(...places);
-        if (id === "smallest") return place <= Math.min(...places);
-        return places.includes(place);
-    });
+    if (id === "units") return keepUnits((place) => places.includes(place));
+    const [limit, ...others] = places;
+    if (others.length > 0) return false;
+    return keepUnits((place) => (id === "largest" ? place >= limit : place <= limit));
 }
 
 function take(word) {
@@ -64,7 +63,7 @@ function take(word) {
     if (box && rest.length === 0) return box.checked = true;
     const value = decodeURIComponent(rest.join("="));
     if (["largest", "smallest", "units"].includes(id)) return takeUnits(id, value.split(","));
-    if (id === "text") text.value = value;
+    if (id === "text" && rest.length > 0) text.value = value;
     else if (word === "require_unit") defaultUnit.value = REFUSED;
     else if (isChoice(id, value)) lists[id].value = value;
     else return false;
