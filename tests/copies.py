@@ -26,7 +26,7 @@ def in_strings(text):
 
 
 def paragraphs():
-    """The manual pages of C take these paragraphs from the header."""
+    """The places of the marked paragraphs. C's manual page takes them from the header."""
     copied = r"<!-- tests/repository --write copies this paragraph .*? -->\n(.*?)\n\n"
     told = re.findall(copied, read("docs/GRAMMAR.md"), re.S)
     meaning, printing, parts = (paragraph.replace("\n", " ") for paragraph in told)

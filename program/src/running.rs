@@ -10,9 +10,9 @@ use std::io::{Read, Write};
 
 /// Reads the whole input, then writes the output for its lines.
 ///
-/// Lines end at line feeds. For each line the output has a text and a line feed. For an accepted
-/// line, the text is its value in nanoseconds, a space and the printed duration. For a refused
-/// line, it is the fault's message. For a line that is not UTF-8, it says so.
+/// Lines are cut at line feeds. For each line the output has a text and a line feed. For an
+/// accepted line, the text is its value in nanoseconds, a space and the printed duration. For a
+/// refused line, it is the fault's message. For a line that is not UTF-8, it says so.
 ///
 /// The clauses are about the bytes that the reader says it has left (`R.remaining`), and the bytes
 /// that the writer says it holds (`W.contents`). If the reader is a `&[u8]` and the writer a

@@ -22,13 +22,13 @@ use Rattle.duration_str_c.specs.declared.answer.Answer.{Answer}
 abbrev pub has_flag : ℕ → ℕ → Bool
 has_flag bits flag = not (bit_and bits flag == 0)
 
--- the number in the bits from bit 16 on. In options it is 0, or the default unit's index in `units`
+-- the number in the bits from 2^16 on. In options it is 0, or the default unit's index in `units`
 -- plus 1
 abbrev pub unit_field : ℕ → ℕ
 unit_field bits = bits / 2 ^ 16
 
--- whether the bits are options. These are the bits 1, 2, 4, 8, and the four bits from bit 16 on.
--- The four bits are 0, or a unit's index plus 1. If they are not 0, the flag 1 must be set, so that
+-- whether the bits are options: the flags 1, 2, 4 and 8, and a field of the four bits from 2^16 to
+-- 2^19. The field is 0, or a unit's index plus 1. If it is not 0, the flag 1 must be set, so that
 -- no operators are read, and the flag 8, which requires a unit, must not be set
 abbrev pub are_options : ℕ → Bool
 are_options bits =
