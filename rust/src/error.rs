@@ -45,7 +45,7 @@ impl DurationError {
         Fault::of(&self.text, self.cause, self.options)
     }
 
-    /// Returns the whole text that was read.
+    /// Returns the whole refused text.
     ///
     /// ```
     /// assert_eq!("1x".parse::<duration_str::HumanDuration>().unwrap_err().text(), "1x");

@@ -41,7 +41,7 @@ impl<'a> Fault<'a> {
         Fault::new(fault, options)
     }
 
-    /// Returns the whole text that was read.
+    /// Returns the whole refused text.
     ///
     /// ```
     /// use duration_str::{Options, parse_with};

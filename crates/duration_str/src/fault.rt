@@ -19,7 +19,7 @@ use crate::token::Tokens;
 /// ```
 #[derive(Clone, Copy, Debug, PartialEq, Eq, Hash)]
 pub struct Fault<'a> {
-    /// The whole text that was read. For the cause `NotText` it is empty.
+    /// The whole refused text. For the cause `NotText` it is empty.
     pub text: &'a str,
     /// Why the text is refused.
     pub cause: Cause,
@@ -30,7 +30,7 @@ pub struct Fault<'a> {
 impl<'a> Fault<'a> {
     ghost use Rattle.duration_str.specs.Faults.{IsMissingAtEnd};
 
-    /// The whole text that was read. For the cause `NotText` it is empty.
+    /// The whole refused text. For the cause `NotText` it is empty.
     ///
     /// ```
     /// use duration_str::{Options, parse_with};

@@ -1,4 +1,4 @@
-//! Multiplies a rate by a length.
+//! The product of two durations.
 ghost use Rattle.std.specs.Prelude.{◌≡◌, ℕ, ◌^◌, ◌≤◌, List, IfSome, IfNone};
 ghost use Rattle.uses.specs.Common.{as_nanos, IsRead, Rules};
 

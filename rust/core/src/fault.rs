@@ -15,14 +15,14 @@ use crate::token::Tokens;
 /// ```
 #[derive(Clone, Copy, Debug, PartialEq, Eq, Hash)]
 pub struct Fault<'a> {
-    /// The whole text that was read. For the cause `NotText` it is empty.
+    /// The whole refused text. For the cause `NotText` it is empty.
     pub(crate) text: &'a str,
     /// Why the text is refused.
     pub(crate) cause: Cause,
 }
 
 impl<'a> Fault<'a> {
-    /// The whole text that was read. For the cause `NotText` it is empty.
+    /// The whole refused text. For the cause `NotText` it is empty.
     ///
     /// ```
     /// use duration_str_core::{Options, parse_with};

@@ -12,8 +12,8 @@
 //! - The empty text is refused, except if the format takes it for null, such as csv in an `Option`.
 //! - In a format that has null, `None` is null. With `#[serde(default)]` a missing field is `None`
 //!   too.
-//! - If a text is refused, the error's message is `invalid duration: ` and the line of the fault, to
-//!   which a format may add its own line and column.
+//! - If a text is refused, the error's message is `invalid duration: ` and what the fault displays.
+//!   A format may add the line and the column of its own text.
 //!
 //! Writing fails for a negative duration, and for one of 2^64 nanoseconds or more, which is some
 //! 584 years, since their texts could not be read back.
@@ -258,7 +258,7 @@ impl<'de, T: Length, const HOW: u8> Visitor<'de> for Text<T, HOW> {
             }
             _ => parse_with(text, ADDITIONS),
         };
-        // The message begins with what it is about, since a format can add its line and column.
+        // A format can add a line and a column of its own, so the message says what it is about.
         read.map(T::of_std)
             .map_err(|fault| E::custom(format_args!("invalid duration: {fault}")))
     }
