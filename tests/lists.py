@@ -131,7 +131,7 @@ pub const UNIT_PATTERNS: [&str; 4] = [
 
 
 def schema():
-    """It has no patterns for `lowercase` and `cn_unit`."""
+    """The schema has no patterns for `lowercase` and `cn_unit`."""
     texts = {}
     for no_calc, required in patterns.SENTENCES:
         name = "duration" + "_no_calc" * no_calc + "_require_unit" * required

@@ -12,8 +12,8 @@
 //! - `calls crate as-humantime TEXT COUNT`, `calls crate print-as-humantime NANOS COUNT`: reads a
 //!   text, or prints a duration into a `String`, by the module `humantime`.
 //! - `calls crate print-string COUNT`: prints the duration of `3m 13s 29ms` into a `String`.
-//! - `calls SIDE with OPTIONS TEXT COUNT`: reads a text under OPTIONS, which are bits of
-//!   `duration_str.h`.
+//! - `calls SIDE with OPTIONS TEXT COUNT`: reads a text under OPTIONS, a sum of 1 for `no_calc`, 2
+//!   for `lowercase` and 4 for `cn_unit`.
 //! - `calls SIDE text BYTES COUNT`: reads a text of BYTES bytes.
 //! - `calls SIDE read-expressions COUNT`, `.. print-expressions ..`, `.. print-below-day ..`: reads
 //!   the 1,000 expressions of `texts.rs`, prints their values into a buffer, or prints the part of
