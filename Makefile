@@ -61,8 +61,8 @@ cargo = tools/cargo-for $(call quoted,$(target)) $(1) --quiet --profile $(profil
 static =
 comma := ,
 
-# $(call serves,FILE,FOLDERS): if nothing can be written, or if make installs without cargo, as
-# often under sudo, an existing file is used if it is up to date
+# $(call serves,FILE,FOLDERS): succeeds if the file is up to date, and can't be built here: nothing
+# can be written, or make installs without cargo, as it may under sudo
 installing =
 serves = { { [ ! -w . ] $(if $(installing),|| ! type -P cargo >/dev/null); } && [ -e $(1) ] && \
     [ -z "$$(find Cargo.toml $(2) rust/core -newer $(1) -print -quit)" ]; }

@@ -28,7 +28,7 @@ COMMENT = r"^\s*(//|# |/?\*+ )"
 
 
 def git(*words):
-    """Returns an empty str if git fails, such as for a commit that the clone lacks."""
+    """Returns what git prints. `git diff` prints nothing for a commit that the clone lacks."""
     return subprocess.run(["git", *words], cwd=TOP, capture_output=True, text=True).stdout
 
 

@@ -13,7 +13,7 @@ const rounds = 800
 
 var kept string
 
-// least returns the nanoseconds of a call, as the least of many rounds of this many calls.
+// least returns the nanoseconds of a call: the least of many rounds, each of count calls.
 func least(count int, calls func()) float64 {
 	best := time.Hour
 	for round := 0; round < rounds; round++ {

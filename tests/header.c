@@ -191,7 +191,7 @@ struct breakdown {
     uint64_t counts[DURATION_STR_UNIT_COUNT], rest;
 };
 
-/* The counts are set before the call, so that one that it does not write shows. */
+/* The counts are set before the call, so that a count that the call does not write shows. */
 static bool is_broken_down(const struct breakdown *wanted) {
     uint64_t counts[DURATION_STR_UNIT_COUNT], rest = 77;
     memset(counts, '#', sizeof counts);

@@ -12,8 +12,8 @@ import units
 CRATES = pathlib.Path(__file__).resolve().parent.parent / "crates"
 UNITS = list(units.table())
 PRINTED = [unit.printed for unit in UNITS]
-# The lists of regular expressions have an index: 1 for `no_calc` and 2 for `require_unit`, or 1 for
-# `lowercase` and 2 for `cn_unit`.
+# An index into a list of regular expressions is a sum: 1 for `no_calc` and 2 for `require_unit`, or
+# 1 for `lowercase` and 2 for `cn_unit`.
 INDEXES = [(first, second) for second in (False, True) for first in (False, True)]
 SENTENCES = [patterns.SENTENCES[each] for each in INDEXES]
 UNIT_PATTERNS = [patterns.units_by(*each) for each in INDEXES]
@@ -131,7 +131,7 @@ pub const UNIT_PATTERNS: [&str; 4] = [
 
 
 def schema():
-    """The options that read other names of units are left out."""
+    """The schema has no patterns for `lowercase` and `cn_unit`."""
     texts = {}
     for no_calc, required in patterns.SENTENCES:
         name = "duration" + "_no_calc" * no_calc + "_require_unit" * required

@@ -78,7 +78,7 @@ def names_elsewhere(name):
 
 
 def code_in_prose(name):
-    """tests/documents runs only blocks, and no code in the prose."""
+    """Names code in a document's prose, which tests/documents doesn't run."""
     for code in re.findall(r"`([^`\n]+)`", prose(name)):
         if re.search(r"\w\([^)]|;|\w -[\w-]+ .*\w", code):
             yield f"{name}: has code in its prose, which nothing runs: {code}"
@@ -157,7 +157,7 @@ def answers_in(cell):
 
 
 def told_of(row, column):
-    """In a cell, `\\f` is a form feed."""
+    # In a cell, `\f` stands for a form feed.
     texts = re.findall(r"`([^`]+)`", row.get("text", "").replace(r"\f", "\f"))
     told = answers_in(row[column])
     return zip(texts, told * (len(texts) if len(told) == 1 else 1))

@@ -123,7 +123,7 @@ class Terminal(typing.NamedTuple):
 
 
 class Answer(typing.NamedTuple):
-    """A place counts characters."""
+    """The place is counted in characters."""
 
     cause: str
     value: typing.Optional[int] = None
@@ -429,8 +429,8 @@ def standing_fault(front, default_unit):
 
 
 def answer_of(text, options, default_unit=SECOND):
-    """Without capitals `lowercase` is turned off, and without Chinese letters `cn_unit`, so that
-    fewer answers are computed.
+    """If the text has no capitals, `lowercase` is turned off, and if it has no Chinese letters,
+    `cn_unit`, so that fewer answers are computed.
     """
     folds = options.lowercase and text != text.translate(FOLDED)
     knows = options.cn_unit and any(character in CHINESE for character in text)
@@ -612,9 +612,9 @@ def listed(words):
 
 
 GRAMMAR = pathlib.Path(__file__).resolve().parent.parent / "docs/GRAMMAR.md"
-# Characters that a quote escapes
+# Characters that can't be seen, which a quote escapes
 HIDDEN = re.compile(r"[\0-\x1f\x7f-\x9f]|" + listed("Of the characters that can't be seen"))
-# Characters beyond ASCII that are not taken for letters, such as punctuation and arrows
+# Signs beyond ASCII, such as arrows, which are not taken for letters
 SIGNS = re.compile("[×÷]|(?!µ)" + listed("nor are these signs"))
 ESCAPES = {'"': '\\"', "\\": "\\\\", "\t": "\\t", "\n": "\\n", "\r": "\\r"}
 

@@ -81,8 +81,9 @@ finds() {
 # can WHAT NEED WORDS..: returns whether the words succeed. If they fail, NEED says what is missing
 can() { "${@:3}" >/dev/null 2>&1 || skips "$1" "missing: $2"; }
 
-# copies FOLDER: copies the files into the folder as they are here, except what was built. If root
-# copies the files of another user, the copy is root's, since git refuses a clone of another user
+# copies FOLDER: copies the files into the folder as they are here, except .git and folders such as
+# out. If root copies the files of another user, the copy is root's, since git refuses a clone of
+# another user
 copies() {
     mkdir "$1" && tar -c --exclude={.git,dist,out,target,__pycache__} . |
         tar -x --no-same-owner -C "$1"

@@ -1,4 +1,6 @@
-"""Reads the tables of units in crates/duration_str/specs: Units.antt and Humantime.antt."""
+"""Reads the table of units in crates/duration_str/specs/Units.antt, and humantime's further names
+in Humantime.antt.
+"""
 import pathlib
 import re
 import typing

@@ -1,25 +1,25 @@
-//! Single calls of this library, for a tool that counts instructions. The program needs no other
-//! crate, so `rustc` alone builds it. SIDE is `crate` (the Rust crate) or `archive` (the archive,
-//! called through C). The last word, COUNT, says how often that is done.
+//! Single calls of this library, for a tool that counts instructions. The program needs no crates
+//! of others, so `rustc` alone builds it. SIDE is `crate` (the Rust crate) or `archive` (the
+//! archive, called through C). The program does one of these things COUNT times:
 //!
-//! - `calls SIDE nothing COUNT`: only the loop.
-//! - `calls SIDE read COUNT`, `calls SIDE print COUNT`: reads `3m 13s 29ms`, and prints it into a
-//!   buffer.
+//! - `calls SIDE nothing COUNT`: runs only the loop.
+//! - `calls SIDE read COUNT`, `calls SIDE print COUNT`: reads `3m 13s 29ms`, or prints its duration
+//!   into a buffer.
 //! - `calls SIDE print NANOS COUNT`, `calls crate parts PARTS NANOS COUNT`: prints a duration into
-//!   a buffer, whole and in at most PARTS parts.
+//!   a buffer, whole or in at most PARTS parts.
 //! - `calls SIDE units COUNT`: reads `3m 13s 29ms`, with units required.
-//! - `calls SIDE millis TEXT COUNT`: reads a text whose numbers without a unit count milliseconds.
+//! - `calls SIDE millis TEXT COUNT`: reads a text, with milliseconds as the default unit.
 //! - `calls crate as-humantime TEXT COUNT`, `calls crate print-as-humantime NANOS COUNT`: reads a
-//!   text, and prints a duration into a `String`, by the module `humantime`.
+//!   text, or prints a duration into a `String`, by the module `humantime`.
 //! - `calls crate print-string COUNT`: prints the duration of `3m 13s 29ms` into a `String`.
-//! - `calls SIDE with OPTIONS TEXT COUNT`: reads a text under OPTIONS, which are bits of
-//!   `duration_str.h`.
+//! - `calls SIDE with OPTIONS TEXT COUNT`: reads a text under OPTIONS, a sum of 1 for `no_calc`, 2
+//!   for `lowercase` and 4 for `cn_unit`.
 //! - `calls SIDE text BYTES COUNT`: reads a text of BYTES bytes.
 //! - `calls SIDE read-expressions COUNT`, `.. print-expressions ..`, `.. print-below-day ..`: reads
 //!   the 1,000 expressions of `texts.rs`, prints their values into a buffer, or prints the part of
 //!   each value below a day.
-//! - `calls SIDE refuse NAME COUNT`: reads a refused text, and writes its line into a buffer.
-//!   `texts.rs` has the names.
+//! - `calls SIDE refuse NAME COUNT`: reads a refused text, and writes the error's line into a
+//!   buffer. `texts.rs` has the names.
 //! - `calls crate error NAME COUNT`, `calls crate printed-error NAME COUNT`: reads a refused text
 //!   by `parse_duration`. The second call also prints the error into a `String`.
 #[allow(dead_code)] // for the other program

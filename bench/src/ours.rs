@@ -15,7 +15,7 @@ pub const ROOM: usize = ONE_LINE_BUFFER_SIZE;
 pub trait Library {
     type Value;
     fn reading(text: &str) -> Self::Value;
-    /// The options are the bits of the header.
+    /// The options are bits of `duration_str.h`.
     fn reading_with(text: &str, options: u32) -> Self::Value;
     fn reading_units(_: &str) -> Self::Value {
         unimplemented!()
@@ -221,7 +221,7 @@ fn print_all<L: Library>(count: u64, of: fn(Duration) -> Duration) {
     });
 }
 
-/// Calls a library `count` times, as the first lines of `calls.rs` say.
+/// Does `count` times what the words say. The first lines of `calls.rs` describe them.
 pub fn calls<L: Library>(words: &[&str], count: u64) {
     let length = Duration::new(193, 29_000_000);
     let of_nanos = |nanos: &str| Duration::from_nanos(nanos.parse().expect("nanoseconds"));
