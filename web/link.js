@@ -41,7 +41,7 @@ export function writeLink() {
     return location.href;
 }
 
-/** `require_unit` is the only word for REFUSED. */
+/** A link says `require_unit` for REFUSED, so `default_unit=refused` is unknown. */
 function isChoice(id, value) {
     if (!Object.hasOwn(lists, id) || value === REFUSED) return false;
     return Array.from(lists[id].options, (one) => one.value).includes(value);
