@@ -47,7 +47,7 @@ function isChoice(id, value) {
     return Array.from(lists[id].options, (one) => one.value).includes(value);
 }
 
-/** Returns whether all names are units, and one or more units are left to print. */
+/** Keeps only the units that the names allow. If it can't, it changes nothing and returns false. */
 function takeUnits(id, names) {
     const places = names.map((name) => printedNames.indexOf(name));
     if (places.includes(-1)) return false;

@@ -102,8 +102,8 @@ struct Vectors {
     refused: Vec<Refused>,
 }
 
-/// Rows of a value, in seconds and nanoseconds, and its texts. They are read if the options in `on`
-/// are on and the options in `off` are off.
+/// Rows of a value, in seconds and nanoseconds, and its texts. The texts are read if the options in
+/// `on` are on and the options in `off` are off.
 #[derive(Deserialize)]
 struct Group {
     on: Vec<String>,
