@@ -111,8 +111,8 @@ struct Group {
     rows: Vec<(u64, u32, Vec<String>)>,
 }
 
-/// A text, its options, its cause, the byte of its place, the token that was found there, the kinds
-/// that could stand there, the line, and the spaces before the caret, if the report has a caret.
+/// A refused text, its options, the cause, the place, the token that was found there, the kinds that
+/// could stand there, the line, and the spaces before the caret, if the report has a caret.
 #[derive(Deserialize)]
 struct Refused(
     String,
