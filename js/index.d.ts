@@ -95,7 +95,7 @@ interface Counted<Name extends Unit> {
      */
     units?: readonly Name[] | undefined;
     /**
-     * The greatest number of parts. `Infinity` means all of them. The rest is left out.
+     * The greatest number of parts. The rest is left out. `Infinity` means all parts.
      */
     parts?: number | undefined;
     /** The largest unit. With `d`, 120 days are `120d`. */

@@ -95,8 +95,8 @@ export function clean(text) {
 
 // ---- Readings
 
-/** The count is the digits times ten to the power, divided by the divisor. The result is null if it
- * is not whole. */
+/** The count is the digits times ten to the power, divided by the divisor. Returns its nanoseconds,
+ * or null if they are not whole. */
 function nanosOf([digits, power, divisor = 1n], { nanos }) {
     const ten = 10n ** BigInt(Math.abs(power));
     const above = digits * nanos * (power > 0 ? ten : 1n);
@@ -152,8 +152,8 @@ function inside(text, options, around) {
     return around < MOST_AROUND ? converted(text, options, around + 1) : null;
 }
 
-/** Terms may be several durations if a unit is not smaller than the one before it, with no operator
- * between them. Each term must have a unit. */
+/** Returns whether a term without an operator has a unit that is not smaller than that of the term
+ * before. Such terms may be several durations. Each term must have a unit. */
 function isListOf(sum) {
     const lengths = sum.map(({ unit }) => unitOf(unit).nanos);
     const isLonger = (place) => place > 0 && lengths[place] >= lengths[place - 1];
@@ -305,7 +305,7 @@ function numberOf(words) {
 
 const isPlural = (name) => /\p{L}{2}s$/iu.test(name);
 
-/** It is null if the unit's singular or plural doesn't fit, since `twenty second` may be an
+/** Returns null if the unit's singular or plural doesn't fit, since `twenty second` may be an
  * ordinal. */
 function wordOf(words, name) {
     const [, hundreds = "", rest] = /^(?:(\w+) hundred(?: and)? ?)?(.*)/.exec(words.toLowerCase());

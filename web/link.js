@@ -41,13 +41,13 @@ export function writeLink() {
     return location.href;
 }
 
-/** `require_unit` is the only word for REFUSED. */
+/** A link says `require_unit` for REFUSED, so `default_unit=refused` is unknown. */
 function isChoice(id, value) {
     if (!Object.hasOwn(lists, id) || value === REFUSED) return false;
     return Array.from(lists[id].options, (one) => one.value).includes(value);
 }
 
-/** Returns whether all names are units, and one or more units are left to print. */
+/** Keeps only the units that the names allow. If it can't, it changes nothing and returns false. */
 function takeUnits(id, names) {
     const places = names.map((name) => printedNames.indexOf(name));
     if (places.includes(-1)) return false;

@@ -9,8 +9,8 @@ export function groupDigits(digits) {
     return digits.replace(/^[0-9]+/, (whole) => whole.replace(/\B(?=([0-9]{3})+$)/g, ","));
 }
 
-/** Years, quarters and months have their lengths, as in `6 months of 30 days`, since those of a
- * calendar vary. */
+/** Years, quarters and months are written with their lengths, as in `6 months of 30 days`, since
+ * those of a calendar vary. */
 function countInWords(number, unit) {
     const count = BigInt(number).toString();
     const name = count === "1" ? unit.names.at(-2) : unit.names.at(-1);

@@ -244,7 +244,8 @@ struct duration_str_answer {
     /* 1 if `place` is set, and otherwise 0; it is set for
      * DURATION_STR_CAUSE_SYNTAX, and if the first term is too large */
     uint8_t has_place;
-    /* for DURATION_STR_CAUSE_MIXED: the operator that came first, '+' or '*' */
+    /* for DURATION_STR_CAUSE_MIXED: the first operator, '+' or '*'; an operator
+     * that is left out is '+' */
     char first_operator;
     /* for DURATION_STR_CAUSE_MIXED: the other operator */
     char later_operator;

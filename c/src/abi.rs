@@ -17,9 +17,9 @@ unsafe fn bytes<'a>(start: *const u8, len: usize) -> &'a [u8] {
     }
 }
 
-/// C may not have initialised its buffer. Rust may make no `&mut [u8; SIZE]` of such memory, since
-/// a reference must point to a valid value (the Rust Reference, "Behavior considered undefined").
-/// So the text is copied.
+/// C's buffer can be uninitialised. Rust must not make a `&mut [u8; SIZE]` of such memory, since a
+/// reference must point to a valid value (the Rust Reference, "Behavior considered undefined"). So
+/// the text is copied.
 #[cfg(not(target_family = "wasm"))]
 fn written<const SIZE: usize>(
     out: &mut MaybeUninit<[u8; SIZE]>,

@@ -1,5 +1,5 @@
-// The library as its WebAssembly module. In the bundle the module is a string with one character
-// for each byte, which gzip packs into fewer bytes than base64.
+// The library as a WebAssembly module. In the bundle the module is a string with one character for
+// each byte, which gzip packs into fewer bytes than base64.
 import letters from "duration_str.txt";
 
 const ADVICE = "allow 'wasm-unsafe-eval' in the content security policy, lift --jitless or the "

@@ -7,8 +7,9 @@ const LONE_SURROGATE = /\p{Surrogate}/gu;
 
 /** The size of the buffer that the module writes to. Everything that it writes fits. */
 const WRITTEN_SIZE = 867;
-/** A text to read is short up to this many UTF-16 units, a written text up to this many bytes. */
+/** A text to read is short if it has at most this many UTF-16 units. */
 const SHORT_TEXT = 40;
+/** A written text is short if it has at most this many bytes. */
 const SHORT_WRITTEN = 28;
 
 let memory;

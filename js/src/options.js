@@ -153,8 +153,8 @@ export function formatOf(options, known) {
     return { units, largest, smallest, parts, style };
 }
 
-/** `left` has the units that a format leaves. `named` has these, and at least all others that its
- * options name. If no units are listed and no largest is chosen, the largest is `longest`. */
+/** `left` has the units that a format allows. `named` also has all others that its options name. If
+ * no units are listed and no largest is chosen, the largest is `longest`. */
 export function unitsLeft({ units, largest, smallest }, all, longest) {
     const wanted = units === undefined ? all : unitsOf(units);
     if (largest === undefined) largest = units === undefined ? longest : "y";

@@ -22,7 +22,8 @@ export const CHOICES = VECTORS.options.reduce(
     [[]],
 );
 
-/** Each includes the group's default unit, or its requirement of units, if it has one. */
+/** Returns all choices, each with the group's default unit, or its requirement of units, if it has
+ * one. */
 export function choicesFor({ on }) {
     const unit = on.filter((name) => !VECTORS.options.includes(name));
     return CHOICES.map((names) => [...names, ...unit]);

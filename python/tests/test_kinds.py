@@ -108,8 +108,8 @@ def of_arrow():
 
 
 def of_memory(values):
-    """Returns the name of the format of an array's memory, and the nanoseconds of its first value
-    in milliseconds. These are None if Python can't read that format."""
+    """Returns the name of the format of an array's memory, and the nanoseconds of its first value,
+    which counts milliseconds. The nanoseconds are None if Python can't read that format."""
     nanos = first(lambda values: 10**6 * int(values[0]), values)
     return f"format {memoryview(values).format!r}", nanos
 

@@ -1,7 +1,7 @@
 //! Moments that lie before or after another moment, computed by chrono's own checked arithmetic.
 //!
 //! All calls are also at the root of the crate, where `duration-str` 0.19.0 has the four that start
-//! from now. They need the feature `chrono`.
+//! from now. This module needs the feature `chrono`.
 use crate::fault::Fault;
 use crate::parser::{FEATURES, chrono_of, parse_with};
 use alloc::string::String;

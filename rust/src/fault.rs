@@ -65,8 +65,7 @@ impl<'a> Fault<'a> {
         self.fault.cause()
     }
 
-    /// Returns the byte of the text at which the fault is, counted from 0, or `None` if the fault
-    /// has no place.
+    /// Returns the byte offset of the fault in the text, or `None` if the fault has no place.
     ///
     /// ```
     /// use duration_str::{Options, parse_with};

@@ -13,11 +13,11 @@ use duration_str_core::{HUMAN_BUFFER_SIZE, write_human};
 /// assert_eq!(Duration::ZERO.human_format(), "0s");
 /// ```
 ///
-/// No call reads a text that stands for 2^64 nanoseconds or more, which is some 584 years.
+/// A text that stands for 2^64 nanoseconds or more, which is some 584 years, can't be read back.
 ///
 /// A duration of `chrono` or `time` may be negative. Then it prints as a minus and the text of its
-/// magnitude, which no call reads back, since texts have no minus. If that text is a zero, such as
-/// that of half a second in whole seconds, there is no minus:
+/// magnitude. No call reads a minus. If the text of the magnitude is a zero, such as that of half a
+/// second in whole seconds, there is no minus:
 ///
 #[cfg_attr(feature = "chrono", doc = "```")]
 #[cfg_attr(not(feature = "chrono"), doc = "```ignore")]

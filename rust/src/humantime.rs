@@ -86,7 +86,7 @@ fn read_other(text: &str) -> Result<StdDuration, Fault<'_>> {
     }
 }
 
-/// The reader is compiled for this case alone, which makes it faster.
+/// A copy of the reader is compiled for humantime's units alone, which makes it faster.
 #[inline(never)]
 fn read_with(text: &str, no_calc: bool) -> Result<u64, proved::Fault<'_>> {
     let options = Options {

@@ -150,8 +150,8 @@
 //! months and years have humantime's lengths.
 //!
 //! This crate has the calls of `duration-str` 0.19.0 from crates.io, such as [`parse`], whose error
-//! is a `String`, [`HumanFormat`] and `deserialize_duration`. Two macros are missing, which
-//! `docs/MIGRATING.md` in the repository names. The module `dates` has the calls of `duration-str`
+//! is a `String`, and `deserialize_duration`. Two macros are missing, which `docs/MIGRATING.md` in
+//! the repository names. The module `dates` has the calls of `duration-str`
 //! for a moment before or after now, and two for a moment before or after another.
 //!
 //! ```
@@ -181,8 +181,8 @@ mod parser;
 #[cfg(feature = "serde")]
 mod serde;
 
-// Otherwise the list of this crate's functions, which is in alphabetical order, would begin with
-// four of these.
+// These are hidden, since the list of this crate's functions, which is in alphabetical order, would
+// otherwise begin with four of them.
 #[cfg(feature = "chrono")]
 #[doc(hidden)]
 pub use dates::{

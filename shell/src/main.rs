@@ -14,7 +14,7 @@ use std::io::{self, BufRead, BufReader, BufWriter, IsTerminal, Read, Write};
 use std::os::fd::AsFd;
 use std::os::unix::ffi::OsStrExt;
 
-/// In bytes, without the line end.
+/// The most bytes of a line in which a text is read, without the byte that ends the line.
 const LONGEST: usize = 1 << 20;
 
 /// C's `main`. Rust's would open /dev/null for a closed stream, and would ignore the signal for a

@@ -14,7 +14,7 @@ use std::os::unix::ffi::OsStrExt;
 use std::time::Duration;
 
 /// The options that say how to print for people. If one of them is given, clap doesn't report that
-/// `--decimals` or `--round` lacks its `--to`. So these two are in conflict with them too.
+/// `--decimals` or `--round` lacks its `--to`. So each of them conflicts with both options.
 const SHAPES: [&str; 5] = ["style", "parts", "units", "largest", "smallest"];
 
 /// Read durations such as 1h 30m, and print them for people or as numbers
@@ -171,7 +171,7 @@ impl Choices {
     }
 }
 
-/// Without `decimals` the number has as many as it needs, up to nine.
+/// If `decimals` is `None`, the number has as many decimals as it needs, up to nine.
 pub fn in_unit(nanos: u64, unit: TimeUnit, decimals: Option<u8>, round: Round) -> String {
     let length = unit.nanos();
     let (whole, rest) = (nanos / length, nanos % length);

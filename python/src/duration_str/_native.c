@@ -66,7 +66,7 @@ static const char *const kept_names[] = {"no_calc", "lowercase", "cn_unit", "req
 #define MISSING ((uint64_t)INT64_MIN)
 #define MOST_DAYS 106750
 
-/* From here on a float can have lost digits of the number that it was made of. */
+/* From this number on a float can have lost digits of the number that it was made of. */
 #define INEXACT 9007199254740992.0
 
 /* The beginning of the structure that the module datetime exports. The limited API leaves it out.

@@ -21,7 +21,7 @@ where
     let text = value.to_string();
     let of_text = serde_json::from_str(&text).map_err(|error| error.to_string());
     let of_value = from_value(value).map_err(|error| error.to_string());
-    // If the settings are read from a text, the error's message can end with the place in it.
+    // If the settings are read from a text, the error's message can end with a place in that text.
     assert!(
         of_text == of_value
             || of_text

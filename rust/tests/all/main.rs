@@ -102,8 +102,8 @@ struct Vectors {
     refused: Vec<Refused>,
 }
 
-/// Rows of a value, in seconds and nanoseconds, and its texts. They are read if the options in `on`
-/// are on and the options in `off` are off.
+/// Rows of a value, in seconds and nanoseconds, and its texts. The texts are read if the options in
+/// `on` are on and the options in `off` are off.
 #[derive(Deserialize)]
 struct Group {
     on: Vec<String>,
@@ -111,8 +111,8 @@ struct Group {
     rows: Vec<(u64, u32, Vec<String>)>,
 }
 
-/// A text, its options, its cause, the byte of its place, the token that was found there, the kinds
-/// that could stand there, the line, and the spaces before the caret, if the report has a caret.
+/// A refused text, its options, the cause, the place, the token that was found there, the kinds that
+/// could stand there, the line, and the spaces before the caret, if the report has a caret.
 #[derive(Deserialize)]
 struct Refused(
     String,

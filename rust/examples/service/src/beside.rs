@@ -19,7 +19,7 @@ impl Numbers {
         (self.next() % limit as u64) as usize
     }
 
-    /// Short numbers are not rare among these.
+    /// Returns a number, and often a short one.
     fn any(&mut self) -> u64 {
         self.next() >> self.below(64)
     }
