@@ -116,7 +116,8 @@ pub fn duration_str_version() -> u32 {
     19_000
 }
 
-/// Most texts are ASCII, which takes less time to test than UTF-8.
+/// Returns the bytes as a text, or `None` if they are not UTF-8. It first tests for ASCII, since
+/// most texts are ASCII.
 #[inline(always)]
 pub(crate) fn text_of(bytes: &[u8]) -> Option<&str> {
     if bytes.is_ascii() || is_utf8(bytes) {

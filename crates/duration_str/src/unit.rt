@@ -184,8 +184,8 @@ pub(crate) struct Printed {
 }
 
 impl Printed {
-    /// It multiplies by the reciprocal, which is faster than a division and gives the quotient or
-    /// one less.
+    /// Returns the quotient and the remainder. Multiplying by the reciprocal is faster than a
+    /// division, and gives the quotient or one less.
     #[inline(always)]
     pub(crate) fn division(&self, nanos: u64) -> (u64, u64)
         requires right { self.now ≡ printed_row self.now.unit }

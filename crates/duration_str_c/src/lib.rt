@@ -147,7 +147,8 @@ pub fn duration_str_version() -> u32
     19_000
 }
 
-/// Most texts are ASCII, which takes less time to test than UTF-8.
+/// Returns the bytes as a text, or `None` if they are not UTF-8. It first tests for ASCII, since
+/// most texts are ASCII.
 #[inline(always)]
 pub(crate) fn text_of(bytes: &[u8]) -> Option<&str>
     ensures text { IfSome result (λ text. (text.now ≡ bytes.now) × IsUtf8 bytes.now) }

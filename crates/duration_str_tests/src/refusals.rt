@@ -131,12 +131,12 @@ fn is_shown(alloc: Global, fault: Fault<'_>, row: &Value) -> Result<bool, AllocE
     )
 }
 
-/// The row has an empty text if there is no token.
+/// Whether the fault has the row's token. The row has an empty text if there is no token.
 fn has_token(fault: Fault<'_>, o: Options, row: &Value) -> bool {
     fault.found(o).unwrap_or("") == text_at(row, 4)
 }
 
-/// The row doesn't name the operators that are mixed.
+/// Whether the fault has the row's cause. The row doesn't name the operators that are mixed.
 fn has_cause(alloc: Global, fault: Fault<'_>, row: &Value) -> Result<bool, AllocError> {
     match cause_of(row) {
         Some(cause) => Ok(fault.cause() == cause && prints_message(alloc, fault)?),
