@@ -12,8 +12,8 @@ IsShown bytes old len new =
     × (length bytes < length old → new ≡ bytes ++ (0 ∷ drop (length bytes + 1) old))
     × (length old ≤ length bytes → new ≡ old)
 
--- The buffer shows the text for the case that applies, which for a cause is the one that `shown`
--- gives, and the empty text if the bytes are read.
+-- The buffer shows the text for the case that applies. If the bytes are refused for a cause, it is
+-- the text that `shown` gives. If they are read, it is the empty text.
 abbrev pub ShowsRefusal : (Cause → List ℕ) → ℕ → List ℕ → List ℕ → ℕ → List ℕ → Type 0
 ShowsRefusal shown bits bytes old len new =
     IsTold (IsShown (codes "unknown option") old len new) (IsShown (codes "not UTF-8") old len new)
