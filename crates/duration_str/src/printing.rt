@@ -342,7 +342,7 @@ fn put_spaced(buffer: &mut [u8], at: usize, count: u32, unit: TimeUnit) -> usize
     if count == 0 { at } else { at + next + 1 }
 }
 
-/// The first count is that of the unit `UNITS[first]`.
+/// Writes the counts with their units. The first count is that of the unit `UNITS[first]`.
 #[inline(always)]
 fn put_counts(buffer: &mut [u8], at: usize, first: usize, counts: &[u32]) -> usize
     requires short { All (λ n. n < 1000) counts.now }
@@ -389,8 +389,9 @@ fn put_days(buffer: &mut [u8], secs: u64) -> (usize, u32)
     (end, (secs % (24 * 3_600)) as u32)
 }
 
-/// From the hour on, each count is computed from the seconds after the days or from the nanoseconds
-/// after the seconds, so that none has to wait for the count before it.
+/// Writes the parts of a duration below 1,000 years. From the hour on, each count is computed from
+/// the seconds after the days or from the nanoseconds after the seconds, so that none has to wait
+/// for the count before it.
 #[inline(never)]
 fn put_whole(buffer: &mut [u8], d: Duration) -> usize
     requires short { as_nanos d < 1000 * nanos_of Year }
@@ -428,7 +429,7 @@ fn put_first(buffer: &mut [u8], count: u128, row: &Printed, style: Style) -> usi
     put_name_in(buffer, end, row, count == 1, style)
 }
 
-/// Prints a duration of 2^60 nanoseconds or more. Its first part leaves less than that.
+/// Writes the parts of a duration of 2^60 nanoseconds or more. The first part leaves less.
 #[inline(never)]
 fn put_long(buffer: &mut [u8], set: Units, most: usize, d: Duration, style: Style) -> usize
     requires long { 2 ^ 60 ≤ as_nanos d }

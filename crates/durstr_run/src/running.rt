@@ -21,8 +21,8 @@ use std::io::{Read, Write};
 ///
 /// `Ok(true)` means that every line was accepted, and `Ok(false)` that some line was not. In both
 /// cases everything was written and flushed. The input may have at most 1,048,576 bytes. After the
-/// errors `Read`, `TooLong` and `Memory` nothing was written. After `Write` a beginning of the
-/// output was written.
+/// errors `Read`, `TooLong` and `Memory` nothing was written. After `Write` the output may be
+/// incomplete.
 ///
 /// ```text
 /// run(alloc, &mut "3m31".as_bytes(), &mut output, Options::off()) // Ok(true)

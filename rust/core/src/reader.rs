@@ -106,7 +106,7 @@ fn no_operator(place: usize, settings: Settings) -> Cause {
     Cause::syntax(place, Expected::after_unit(settings))
 }
 
-/// `next` is the operator before the new term.
+/// Combines the later terms so far with a new term. `next` is the operator before it.
 #[inline(always)]
 fn with_term(
     later: Later,
