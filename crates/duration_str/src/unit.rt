@@ -169,7 +169,7 @@ const QUARTER: u64 = 91 * DAY;
 
 const YEAR: u64 = 365 * DAY;
 
-/// A unit's printed name and its length.
+/// A unit with its printed name, and its length in nanoseconds.
 #[derive(Clone, Copy)]
 pub(crate) struct Printed {
     pub(crate) unit: TimeUnit,
@@ -216,8 +216,8 @@ impl Printed {
     }
 }
 
-/// The short names and the lengths that printing uses, the longest unit first. The names that are
-/// read are in another table, so that a program that only prints does not contain them.
+/// The units with their printed names, the longest unit first. The names that are read are in
+/// another table, so that a program that only prints does not contain them.
 pub(crate) static PRINTED: [Printed; 11] = [
     Printed {
         unit: TimeUnit::Year,
