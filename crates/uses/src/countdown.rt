@@ -31,7 +31,7 @@ pub fn time_left<'b>(left: &Duration, buffer: &'b mut [u8; FORMAT_BUFFER_SIZE]) 
     )
 }
 
-/// Returns how many of the nanoseconds `time_left` does not show.
+/// Returns how many nanoseconds `time_left` does not show.
 ///
 /// ```text
 /// not_shown(&Duration::new(5_400, 999_999_999)) // 999_999_999

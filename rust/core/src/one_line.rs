@@ -138,7 +138,7 @@ fn put_text(buffer: &mut [u8], at: usize, text: &str) -> Option<usize> {
     put(buffer, at, text.as_bytes())
 }
 
-/// Writes a text in quotes. If it is short and needs no escapes, it is copied whole.
+/// Writes a text in quotes. A short ASCII text that needs no escapes is copied whole.
 #[inline(never)]
 fn put_quoted(buffer: &mut [u8], at: usize, text: &str) -> Option<usize> {
     let mut end = put(buffer, at, b"\"")?;

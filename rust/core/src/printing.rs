@@ -287,7 +287,8 @@ fn put_first(buffer: &mut [u8], count: u128, row: &Printed, style: Style) -> usi
     put_name_in(buffer, end, row, count == 1, style)
 }
 
-/// Writes the parts of a duration of 2^60 nanoseconds or more. The first part leaves less.
+/// Writes the parts of a duration of 2^60 nanoseconds or more. After the first part, less than 2^60
+/// nanoseconds are left.
 #[inline(never)]
 fn put_long(buffer: &mut [u8], set: Units, most: usize, d: Duration, style: Style) -> usize {
     let mut parts = Breakdown::of(d.as_nanos(), set, most);
