@@ -81,7 +81,8 @@ pub fn duration_str_parse(text: &[u8], nanos: &mut u64) -> bool {
 }
 
 /// Prints a duration of this many nanoseconds to the start of the buffer, with a zero byte after
-/// it. Returns the length of the text without the zero. The rest of the buffer is unchanged.
+/// it. Returns the length of the text in bytes, without the zero. The rest of the buffer is
+/// unchanged.
 pub fn duration_str_format(nanos: u64, buffer: &mut [u8; HUMAN_BUFFER_SIZE]) -> usize {
     let mut printed = [0; HUMAN_BUFFER_SIZE];
     put(
@@ -116,7 +117,8 @@ pub fn duration_str_version() -> u32 {
     19_000
 }
 
-/// Most texts are ASCII, which takes less time to test than UTF-8.
+/// Returns the bytes as a text, or `None` if they are not UTF-8. It first tests for ASCII, since
+/// most texts are ASCII.
 #[inline(always)]
 pub(crate) fn text_of(bytes: &[u8]) -> Option<&str> {
     if bytes.is_ascii() || is_utf8(bytes) {

@@ -8,7 +8,8 @@ use crate::outside::{AllocError, Allocator, String};
 use std::io::Write;
 use std::time::Duration;
 
-/// Most texts are ASCII, which takes less time to test than UTF-8.
+/// Returns the bytes as a text, or `None` if they are not UTF-8. It first tests for ASCII, since
+/// most texts are ASCII.
 fn text_of(bytes: &[u8]) -> Option<&str> {
     if bytes.is_ascii() {
         // SAFETY: ASCII is UTF-8.

@@ -1,4 +1,4 @@
--- Where a text stops being the beginning of a sentence, and what could stand there.
+-- The place of a syntax fault, and what could stand there.
 use Rattle.std.specs.Prelude.{◌≡◌, ℕ, ◌≤◌, List, [], ◌∷◌, ◌++◌, Some, map, length, take, drop, IsTrue, ◌↔◌}
 use Rattle.duration_str.specs.declared.unit.TimeUnit.{TimeUnit}
 use Rattle.duration_str.specs.declared.operator.CondUnit.{CondUnit}

@@ -82,7 +82,7 @@ impl Expected {
 pub enum Cause {
     /// The text is empty.
     Empty,
-    /// The text stops being valid at `place`.
+    /// The text doesn't follow the grammar.
     Syntax {
         /// The byte at which the first token starts that can't follow the text before it. If there
         /// is no such token, the place is the length of the text.

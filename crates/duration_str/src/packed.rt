@@ -93,8 +93,8 @@ pub(crate) fn first_number(c: char, o: Options) -> u64
     wide_number(c, o.cn_unit)
 }
 
-/// Under `lowercase` `M` has a digit of its own, since it is a name of humantime, and the other
-/// capitals have a digit that no letter of a name has.
+/// Returns the digit for an ASCII letter. Under `lowercase`, `M` has a digit of its own, since it
+/// is a name of humantime, and the other capitals have a digit that no letter of a name has.
 #[inline(always)]
 fn ascii_number(c: char, o: Options) -> u64
     requires { is_ascii_alphabetic c ≡ true }

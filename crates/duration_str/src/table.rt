@@ -26,7 +26,8 @@ impl UnitTable {
         }
     }
 
-    /// `number` is `None` if it is 2^64 or more, and `place` is the place of the fault.
+    /// Returns the nanoseconds of a term, or its fault. `number` is `None` for a number of 2^64 or
+    /// more, and `place` is the place of a fault.
     #[inline]
     pub(crate) fn times(
         self,

@@ -15,7 +15,7 @@ impl TimeUnit {
     /// # Errors
     ///
     /// It returns `NumberTooLarge` if the number is 2^64 or more, and otherwise `Overflow` if the
-    /// value is 2^64 or more. Neither has a place.
+    /// value is 2^64 nanoseconds or more. Neither has a place.
     ///
     /// ```
     /// assert_eq!(duration_str::TimeUnit::Hour.value("2"), Ok(7_200_000_000_000));

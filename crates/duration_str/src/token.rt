@@ -231,8 +231,8 @@ impl<'a> Tokens<'a> {
         fits(self.eye.bytes_since(start), low).then_some(low)
     }
 
-    /// The word's first character is known to be a unit letter, and is handled before the loop,
-    /// since that takes fewer instructions.
+    /// Takes a word's letters, and returns them packed. The first character is known to be a unit
+    /// letter, and is handled before the loop, since that takes fewer instructions.
     #[inline(always)]
     fn take_letters(&mut self) -> u64
         requires { IsAhead self.old (Some a_word) }
@@ -313,7 +313,8 @@ impl<'a> Tokens<'a> {
         }
     }
 
-    /// After a number a word is most likely, so letters are tested first.
+    /// Returns the sort of the next token, if there is one. After a number a word is most likely,
+    /// so letters are tested first.
     #[inline(always)]
     pub(crate) fn sort_after_number(&mut self) -> Option<TokenStart>
         ensures { LooksAhead self.old self.new result }
@@ -363,9 +364,10 @@ pub(crate) fn is_blank(c: char) -> bool
     c <= ' ' && BLANKS[c as usize]
 }
 
-/// `low` is the number modulo 2^64. Before its last 19 digits, a number below 2^64 has only zeros,
-/// or zeros and then a `1`. With the `1` the number is from 10^19 to below 2 * 10^19, so it is
-/// below 2^64 exactly if `low` is 10^19 or more.
+/// Whether the number that the digits write is below 2^64. `low` is the number modulo 2^64. Before
+/// its last 19 digits, a number below 2^64 has only zeros, or zeros and then a `1`. With the `1`
+/// the number is from 10^19 to below 2 * 10^19, so it is below 2^64 exactly if `low` is 10^19 or
+/// more.
 #[cold]
 #[inline(never)]
 fn fits(digits: &[u8], low: u64) -> bool

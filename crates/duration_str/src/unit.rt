@@ -169,7 +169,7 @@ const QUARTER: u64 = 91 * DAY;
 
 const YEAR: u64 = 365 * DAY;
 
-/// A unit's printed name and its length.
+/// A unit with its printed name, and its length in nanoseconds.
 #[derive(Clone, Copy)]
 pub(crate) struct Printed {
     pub(crate) unit: TimeUnit,
@@ -184,8 +184,8 @@ pub(crate) struct Printed {
 }
 
 impl Printed {
-    /// It multiplies by the reciprocal, which is faster than a division and gives the quotient or
-    /// one less.
+    /// Returns the quotient and the remainder. Multiplying by the reciprocal is faster than a
+    /// division, and gives the quotient or one less.
     #[inline(always)]
     pub(crate) fn division(&self, nanos: u64) -> (u64, u64)
         requires right { self.now ≡ printed_row self.now.unit }
@@ -216,8 +216,8 @@ impl Printed {
     }
 }
 
-/// The short names and the lengths that printing uses, the longest unit first. The names that are
-/// read are in another table, so that a program that only prints does not contain them.
+/// The units with their printed names, the longest unit first. The names that are read are in
+/// another table, so that a program that only prints does not contain them.
 pub(crate) static PRINTED: [Printed; 11] = [
     Printed {
         unit: TimeUnit::Year,

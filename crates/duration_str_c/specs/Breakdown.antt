@@ -13,8 +13,8 @@ count_of ((v, n) ∷ parts) u = if nanos_of v == nanos_of u then n else count_of
 abbrev pub counts_of : List (TimeUnit × ℕ) → List ℕ
 counts_of parts = map (count_of parts) units
 
--- A duration of `nanos` nanoseconds has parts in this format. These are the counts of all units
--- among the parts, and the parts and the rest are together the whole duration.
+-- The counts are those of all units among the parts of a duration of `nanos` nanoseconds in this
+-- format. The parts and the rest are together the whole duration.
 pub record IsBrokenDown (format : Format) (nanos : ℕ) (counts : List ℕ) (rest : ℕ) : Type 0 where
   pub parts : List (TimeUnit × ℕ)
   pub greatest : AreParts format nanos parts

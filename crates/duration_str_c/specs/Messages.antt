@@ -12,15 +12,15 @@ IsShown bytes old len new =
     × (length bytes < length old → new ≡ bytes ++ (0 ∷ drop (length bytes + 1) old))
     × (length old ≤ length bytes → new ≡ old)
 
--- The buffer shows the text for the case that applies, which for a cause is the one that `shown`
--- gives, and the empty text if the bytes are read.
+-- The buffer shows the text for the case that applies. If the bytes are refused for a cause, it is
+-- the text that `shown` gives. If they are read, it is the empty text.
 abbrev pub ShowsRefusal : (Cause → List ℕ) → ℕ → List ℕ → List ℕ → ℕ → List ℕ → Type 0
 ShowsRefusal shown bits bytes old len new =
     IsTold (IsShown (codes "unknown option") old len new) (IsShown (codes "not UTF-8") old len new)
     (λ nanos. IsShown [] old len new) (λ cause. IsShown (shown cause) old len new) bits bytes
 
--- The bytes are not a text that is refused for a cause. The line says that an option is unknown or
--- that the bytes are not UTF-8, or it is empty if they are read.
+-- Of the four cases, that of a refused text does not apply. The line says that an option is unknown
+-- or that the bytes are not UTF-8, or it is empty if the bytes are read.
 abbrev pub IsSaidOf : ℕ → List ℕ → List ℕ → Type 0
 IsSaidOf bits bytes line =
     IsTold (line ≡ codes "unknown option") (line ≡ codes "not UTF-8") (λ nanos. line ≡ []) (λ cause. ⊥) bits bytes

@@ -42,7 +42,7 @@ pub struct Answer {
     /// text.
     pub found_length: usize,
     /// 0 if the text is read. Otherwise it is the number of the cause, from 1 for `Empty` to 7 for
-    /// `NotText`, or 8 if the bits are not options.
+    /// `NotText`, or 8 for an unknown option.
     pub cause: u32,
     /// What could stand at the place of a syntax fault, as bits: 1 is a number, 2 a unit, 4 an
     /// operator, and 8 the end.

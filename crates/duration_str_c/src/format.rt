@@ -10,8 +10,8 @@ use duration_str::{FORMAT_BUFFER_SIZE, Format, Style, Units, write_format};
 use std::time::Duration;
 
 /// Prints a duration in the units of a set, in at most `parts` parts and in a style, to the start
-/// of the buffer, with a zero byte after it. Returns the length of the text without the zero. The
-/// rest of the buffer is unchanged.
+/// of the buffer, with a zero byte after it. Returns the length of the text in bytes, without the
+/// zero. The rest of the buffer is unchanged.
 ///
 /// In the set the bit 2^n stands for the unit at index n of `UNITS`: 1 is the year, 1,024 is the
 /// nanosecond, and 2,047 is all units. The styles are 0 for short, 1 for compact and 2 for long. If

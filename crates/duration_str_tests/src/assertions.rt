@@ -1,4 +1,4 @@
-// These are functions so that they are proved once, and not again in each test.
+// Each check is a function, so that it is proved once, and not again in each test.
 use duration_str::{Fault, HumanFormat, Options};
 use std::alloc::{AllocError, Allocator};
 use std::fmt::Display;

@@ -49,9 +49,9 @@ fn prints_all_short_durations_alike(rt: HostRuntime) {
     }
 }
 
-/// How many requests for memory it takes to print the value as this text if this request is
-/// refused. The result is `None` if the value prints another text, or if the call goes on after the
-/// refusal.
+/// How many requests for memory are made to print the value, while the request with the number
+/// `refused` is refused. The result is `None` if the value prints another text than this, or if the
+/// call goes on after the refusal.
 fn requests_until<T: HumanFormat>(
     alloc: Global,
     value: &T,

@@ -237,9 +237,9 @@ fn run_into(heap: &Refusing<Global>, mut room: &mut [u8]) -> Result<bool, RunFau
 
 static WRITTEN: [u8; 49] = *b"211000000000 3min 31s\nEmpty input\noverflow error\n";
 
-/// How many requests for memory `run_into` makes if this request is refused. The result is `None`
-/// if it writes something else, if it goes on after the refusal, or if it has written something
-/// before it.
+/// How many requests for memory `run_into` makes, while the request with the number `refused` is
+/// refused. The result is `None` if it writes something other than `WRITTEN`, or if it goes on or
+/// has written something when the request is refused.
 fn requests(alloc: Global, refused: u64) -> Option<u64> {
     let heap = Refusing::nth(alloc, refused);
     let mut held = [0; 49];

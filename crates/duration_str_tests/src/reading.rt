@@ -32,7 +32,7 @@ fn is_read(text: &str, o: Options, default_unit: Option<TimeUnit>, nanos: u64) -
         && (default_unit != Some(TimeUnit::Second) || is_read_in_seconds(text, o, nanos))
 }
 
-/// A row begins with its seconds and its nanoseconds.
+/// The value of a row in nanoseconds. The row begins with the seconds and the nanoseconds.
 fn nanos_of(row: &Value) -> Option<u64> {
     number_at(row, 0)?
         .checked_mul(1_000_000_000)?
@@ -172,7 +172,8 @@ fn leaves_rest(row: &Value, length: Duration, format: Format) -> bool {
         && number_at(row, 5).is_some_and(|nanos| u128::from(nanos) == rest % 1_000_000_000)
 }
 
-/// Returns true for a text that is refused, such as one of 2^64 nanoseconds or more.
+/// Whether the row's duration prints as the row says. It is true for a text that is refused, such
+/// as one of 2^64 nanoseconds or more.
 fn prints_in_format(row: &Value, format: Format) -> bool {
     let Ok(length) = parse(text_at(row, 0)) else {
         return true;

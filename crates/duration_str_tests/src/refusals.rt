@@ -22,7 +22,7 @@ fn is_refused(text: &str, fault: Fault<'_>) -> bool {
         && is_fault(parse_time(text), fault)
 }
 
-/// Returns `None` if a call reads the text, or refuses it with another fault.
+/// The fault of the text, or `None` if a call reads the text or refuses it with another fault.
 fn refusal(text: &str, o: Options, cause: Cause) -> Option<Fault<'_>> {
     let fault = parse_with(text, o).err()?;
     let is_caused = fault.text() == text && fault.cause() == cause;
@@ -44,7 +44,8 @@ fn points(alloc: Global, fault: Fault<'_>, blanks: usize, line: &str) -> Result<
     is_printed(alloc, fault, wanted.as_str())
 }
 
-/// An empty `token` means that no token stands at the place.
+/// Whether the text is refused for this cause and the fault has this token. An empty `token` means
+/// that the fault has none.
 pub fn names_token(text: &str, o: Options, cause: Cause, token: &str) -> bool {
     let Some(fault) = refusal(text, o, cause) else {
         return false;
@@ -55,8 +56,8 @@ pub fn names_token(text: &str, o: Options, cause: Cause, token: &str) -> bool {
     }
 }
 
-/// If the cause has a place, the fault must print the text, a caret after this many blanks, and the
-/// line.
+/// Whether the text is refused for this cause and the fault prints the line. If the cause has a
+/// place, the text and a caret after this many blanks are printed above the line.
 pub fn is_caused(
     alloc: Global,
     (text, o, cause): (&str, Options, Cause),
@@ -131,12 +132,12 @@ fn is_shown(alloc: Global, fault: Fault<'_>, row: &Value) -> Result<bool, AllocE
     )
 }
 
-/// The row has an empty text if there is no token.
+/// Whether the fault has the row's token. The row has an empty text if there is no token.
 fn has_token(fault: Fault<'_>, o: Options, row: &Value) -> bool {
     fault.found(o).unwrap_or("") == text_at(row, 4)
 }
 
-/// The row doesn't name the operators that are mixed.
+/// Whether the fault has the row's cause. The row doesn't name the operators that are mixed.
 fn has_cause(alloc: Global, fault: Fault<'_>, row: &Value) -> Result<bool, AllocError> {
     match cause_of(row) {
         Some(cause) => Ok(fault.cause() == cause && prints_message(alloc, fault)?),

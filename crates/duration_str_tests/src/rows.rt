@@ -5,7 +5,7 @@ use duration_str::{Cause, Expected, Options, TimeUnit};
 use serde_json::Value;
 use std::alloc::Global;
 
-/// A file that is no JSON is read as null, which has no rows.
+/// The tables of the file, or null if it is not JSON.
 pub fn vectors(alloc: Global) -> Value {
     Value::from_str(alloc, VECTORS).unwrap_or(Value::Null)
 }

@@ -13,7 +13,8 @@ use std::alloc::{AllocError, Allocator};
 use std::io::Write;
 use std::time::Duration;
 
-/// Most texts are ASCII, which takes less time to test than UTF-8.
+/// Returns the bytes as a text, or `None` if they are not UTF-8. It first tests for ASCII, since
+/// most texts are ASCII.
 fn text_of(bytes: &[u8]) -> Option<&str>
     ensures text { IfSome result (λ text. (text.now ≡ bytes.now) × IsUtf8 bytes.now) }
     ensures not_text { IfNone result (¬ (IsUtf8 bytes.now)) }

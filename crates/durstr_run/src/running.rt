@@ -16,14 +16,13 @@ use std::io::{Read, Write};
 /// refused line, it is the fault's message. For a line that is not UTF-8, it says so.
 ///
 /// The clauses are about the bytes that the reader says it has left (`R.remaining`), and the bytes
-/// that the writer says it holds (`W.contents`). If the reader is a `&[u8]` and the writer a
-/// `Vec<u8>`, the clauses say exactly which bytes were read and added. Standard input and output,
-/// files and sockets don't say which bytes they have, so the clauses say nothing about them.
+/// that the writer says it holds (`W.contents`). A `&[u8]` and a `Vec<u8>` say which bytes they
+/// have. Standard input and output, files and sockets don't, so the clauses say nothing about them.
 ///
 /// `Ok(true)` means that every line was accepted, and `Ok(false)` that some line was not. In both
 /// cases everything was written and flushed. The input may have at most 1,048,576 bytes. After the
-/// errors `Read`, `TooLong` and `Memory` nothing was written. After `Write` a beginning of the
-/// output was written.
+/// errors `Read`, `TooLong` and `Memory` nothing was written. After `Write` the output may be
+/// incomplete.
 ///
 /// ```text
 /// run(alloc, &mut "3m31".as_bytes(), &mut output, Options::off()) // Ok(true)

@@ -25,8 +25,8 @@ pub fn key<'b>(length: Duration, style: Style, buffer: &'b mut [u8; FORMAT_BUFFE
 }
 
 /// Writes the canonical text of an expression to the caller's buffer, and returns it: the key of
-/// the expression's value. The text is read back as this value, and as no other, under every choice
-/// of options and with each default unit.
+/// the expression's value. The canonical text is read back as this value, and as no other, under
+/// every choice of options and with each default unit.
 ///
 /// ```text
 /// canonical("30 + 1m", Style::Short, &mut buffer) // Ok("1min 30s")

@@ -11,12 +11,12 @@ use duration_str::{
     Cause, Expected, Options, TimeUnit, parse_humantime_specialized, parse_with_default_unit,
 };
 
-/// Where a text stops being the beginning of an expression, and what can be typed there.
+/// The place of a syntax fault, and what can be typed there.
 #[derive(Clone, Copy, Debug, PartialEq, Eq)]
 pub struct Completion {
-    /// The byte up to which the text is kept.
+    /// How many bytes of the text are kept.
     pub place: usize,
-    /// What can be typed after that byte.
+    /// What can be typed after them.
     pub expected: Expected,
 }
 

@@ -9,8 +9,8 @@ use serde_json::Value;
 use std::alloc::{AllocError, Allocator};
 use std::time::Duration;
 
-/// Returns the duration in a required field, or the error that says why there is none. The call
-/// fails only if memory is refused, and never for a duration that overflows.
+/// Returns the duration in a required field, or the error that says why there is none. The outer
+/// result is an error only if memory is refused, and never for a duration that overflows.
 pub fn configured<A: Allocator>(
     value: &Value,
     alloc: A,

@@ -31,7 +31,7 @@ pub fn time_left<'b>(left: &Duration, buffer: &'b mut [u8; FORMAT_BUFFER_SIZE]) 
     )
 }
 
-/// Returns the nanoseconds that `time_left` does not show. The parts that it shows have the others.
+/// Returns how many nanoseconds `time_left` does not show.
 ///
 /// ```text
 /// not_shown(&Duration::new(5_400, 999_999_999)) // 999_999_999
@@ -47,7 +47,7 @@ pub fn not_shown(left: &Duration) -> u128
 }
 
 /// Writes the duration to the caller's buffer, in at most `parts` parts and in a style, and returns
-/// the text. With eleven parts or more, the whole duration is printed.
+/// the text. If `parts` is eleven or more, the whole duration is printed.
 pub fn in_parts<'b>(
     length: &Duration,
     parts: usize,

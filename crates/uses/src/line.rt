@@ -25,8 +25,8 @@ pub fn without_line_feed(line: &str) -> &str
     }
 }
 
-/// Writes an expression and a line feed to the start of a buffer, and returns their length, or
-/// `None` if the buffer is too short. The line is read as the expression is.
+/// Writes an expression and a line feed to the start of a buffer, and returns their length in
+/// bytes, or `None` if the buffer is too short. The line is read as the expression is.
 ///
 /// ```text
 /// write_line("1m 30s", &mut buffer) // Some(7): "1m 30s\n"

@@ -138,7 +138,7 @@ fn put_text(buffer: &mut [u8], at: usize, text: &str) -> Option<usize> {
     put(buffer, at, text.as_bytes())
 }
 
-/// Most texts are short and need no escapes, so they are copied whole.
+/// Writes a text in quotes. A short ASCII text that needs no escapes is copied whole.
 #[inline(never)]
 fn put_quoted(buffer: &mut [u8], at: usize, text: &str) -> Option<usize> {
     let mut end = put(buffer, at, b"\"")?;
@@ -300,7 +300,8 @@ fn row_beside(word: &str) -> Option<([u8; 9], [u8; 3])> {
     NEAR_WORDS.iter().copied().find(|row| is_near(&row.0, word))
 }
 
-/// No name is advised for `Mo`, since it can mean a megabyte.
+/// Whether the word is `mo` or `mos` with a capital. No name is advised for it, since `Mo` can mean
+/// a megabyte.
 fn is_megabyte(word: &str) -> bool {
     (is_word(word, "mo") || is_word(word, "mos")) && word != "mo" && word != "mos"
 }
@@ -347,7 +348,8 @@ fn is_word(word: &str, name: &str) -> bool {
     word.eq_ignore_ascii_case(name)
 }
 
-/// The place is after a unit exactly if both a number and the end could stand there.
+/// Returns the help for the piece at the place. The place is after a unit exactly if both a number
+/// and the end could stand there.
 fn help_at(expected: Expected, text: &[u8], place: usize, piece: &str) -> &'static str {
     let before = &text[..place];
     let last = last_byte(before);

@@ -144,8 +144,8 @@ fn nanos_chosen(input: &str, o: Options, default_unit: Option<TimeUnit>) -> Resu
 }
 
 /// Returns what `parse_nanos` returns. The whole reader is compiled into each place in the source
-/// that calls this, and adds some kilobytes to the program there. It is faster if the compiler
-/// knows the options of the call.
+/// that calls this, and adds some kilobytes to the program there. The reader is faster if the
+/// compiler knows the options of the call.
 ///
 /// # Errors
 ///

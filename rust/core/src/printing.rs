@@ -105,8 +105,8 @@ pub(crate) fn put_number(buffer: &mut [u8], at: usize, n: u64) -> usize {
     put_digit(buffer, end, n % 10)
 }
 
-/// A single digit is written over a `0` that was written to its place, so that no branch on the
-/// number of digits is needed. (Such a branch is hard to predict.)
+/// Writes a number below 100. A single digit is written over a `0`, so that no branch on the number
+/// of digits is needed. (Such a branch is hard to predict.)
 #[inline(always)]
 fn put_tens(buffer: &mut [u8], at: usize, n: u64) -> usize {
     let tens = n / 10;
@@ -123,7 +123,7 @@ fn put_hundreds(buffer: &mut [u8], at: usize, n: u64) -> usize {
     put_digit(buffer, last, n - 10 * tens)
 }
 
-/// Most counts have up to three digits, for which this makes no call.
+/// Writes a count. Most counts have up to three digits, and take no call.
 #[inline(always)]
 fn put_count(buffer: &mut [u8], at: usize, n: u64) -> usize {
     if n < 100 {
@@ -160,7 +160,8 @@ fn put_wide(buffer: &mut [u8], at: usize, n: u128) -> usize {
     put_digit(buffer, end, (n % 10) as u64)
 }
 
-/// It copies four bytes, the name and the spaces after it in the row, since that takes no call.
+/// Writes the unit's name. It copies four bytes, the name and the spaces that fill it up, since
+/// that takes no call.
 #[inline(always)]
 fn put_name(buffer: &mut [u8], at: usize, row: &Printed) -> usize {
     buffer[at..at + 4].copy_from_slice(&row.letters);
@@ -228,7 +229,7 @@ fn put_spaced(buffer: &mut [u8], at: usize, count: u32, unit: TimeUnit) -> usize
     if count == 0 { at } else { at + next + 1 }
 }
 
-/// The first count is that of the unit `UNITS[first]`.
+/// Writes the counts with their units. The first count is that of the unit `UNITS[first]`.
 #[inline(always)]
 fn put_counts(buffer: &mut [u8], at: usize, first: usize, counts: &[u32]) -> usize {
     let mut end = at;
@@ -258,8 +259,9 @@ fn put_days(buffer: &mut [u8], secs: u64) -> (usize, u32) {
     (end, (secs % (24 * 3_600)) as u32)
 }
 
-/// From the hour on, each count is computed from the seconds after the days or from the nanoseconds
-/// after the seconds, so that none has to wait for the count before it.
+/// Writes the parts of a duration below 1,000 years. From the hour on, each count is computed from
+/// the seconds after the days or from the nanoseconds after the seconds, so that none has to wait
+/// for the count before it.
 #[inline(never)]
 fn put_whole(buffer: &mut [u8], d: Duration) -> usize {
     let nanos = d.subsec_nanos();
@@ -285,7 +287,8 @@ fn put_first(buffer: &mut [u8], count: u128, row: &Printed, style: Style) -> usi
     put_name_in(buffer, end, row, count == 1, style)
 }
 
-/// The first part leaves less than 2^60 nanoseconds.
+/// Writes the parts of a duration of 2^60 nanoseconds or more. After the first part, less than 2^60
+/// nanoseconds are left.
 #[inline(never)]
 fn put_long(buffer: &mut [u8], set: Units, most: usize, d: Duration, style: Style) -> usize {
     let mut parts = Breakdown::of(d.as_nanos(), set, most);

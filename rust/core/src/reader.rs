@@ -7,8 +7,8 @@ use crate::settings::Settings;
 use crate::token::{TokenStart, Tokens};
 use crate::unit::TimeUnit;
 
-/// The operator of the later terms so far, and their total. It is `None` if there are none, and
-/// their first fault if they have one. Under `no_calc` the first term is counted among them.
+/// The operator and the total of the later terms so far, or `None` if there are none, or their
+/// first fault. Under `no_calc` the first term is counted among them.
 type Later = Result<Option<(CondUnit, u64)>, Cause>;
 
 /// Reads the tokens. Returns their value in nanoseconds, or the cause of their refusal.
@@ -63,8 +63,7 @@ fn read_unit(tokens: &mut Tokens<'_>, settings: Settings) -> Result<TimeUnit, Ca
             None => Err(no_unit(place, settings)),
         },
         TokenStart::Operator(_) if !settings.options.no_calc => unit_left_out(place, settings),
-        // This is an arm of its own, since in one with two patterns the prover would not know which
-        // one matched.
+        // Operators have an arm of their own, so that the prover knows that one stands here.
         TokenStart::Operator(_) => Err(no_unit(place, settings)),
         TokenStart::Number | TokenStart::Other => Err(no_unit(place, settings)),
     }
@@ -96,7 +95,7 @@ fn read_operator(tokens: &mut Tokens<'_>, settings: Settings) -> Result<Option<C
             expect_number(tokens)?;
             Ok(Some(operator))
         }
-        // This is an arm of its own, as in `read_unit`.
+        // Operators have an arm of their own, as in `read_unit`.
         TokenStart::Operator(_) => Err(no_operator(place, settings)),
         TokenStart::Word | TokenStart::Other => Err(no_operator(place, settings)),
     }
@@ -107,7 +106,7 @@ fn no_operator(place: usize, settings: Settings) -> Cause {
     Cause::syntax(place, Expected::after_unit(settings))
 }
 
-/// `next` is the operator before the new term.
+/// Combines the later terms so far with a new term. `next` is the operator before it.
 #[inline(always)]
 fn with_term(
     later: Later,

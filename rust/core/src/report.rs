@@ -18,8 +18,8 @@ impl Fault<'_> {
     /// `write_one_line`.
     ///
     /// The report is the line alone if the cause is not `Syntax`, if the text has more than 80
-    /// characters, or if the line would escape one of its characters. The buffer's old contents do
-    /// not matter. The call allocates nothing and cannot fail.
+    /// characters, or if the line would escape a character of the text. The buffer's old contents
+    /// do not matter. The call allocates nothing and cannot fail.
     ///
     /// ```
     /// use duration_str_core::{Options, REPORT_BUFFER_SIZE, parse_with};

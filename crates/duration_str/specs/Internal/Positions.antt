@@ -21,7 +21,7 @@ pub record Between (text : Bytes) (place next : ℕ) (characters : Characters) :
   pub cut : ahead text place ≡ characters ++ ahead text next
   pub bytes : next ≡ place + byte_len characters
 
--- The text is at its end, or its first character fails the test.
+-- The text is empty, or its first character fails the test.
 abbrev pub Stops : (ℕ → Bool) → Characters → Type 0
 Stops test [] = ⊤
 Stops test (c ∷ _) = test c ≡ false

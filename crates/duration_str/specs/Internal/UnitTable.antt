@@ -45,12 +45,12 @@ all_names_in table u = (table u).names ++ (table u).chinese
 abbrev pub all_names : TimeUnit → List Characters
 all_names u = all_names_in row_of u
 
--- whether the packed number of a name is n. It is packed under `lowercase`, so that `M` differs
--- from `m`
+-- whether the packed number of a name is n. The name is packed under `lowercase`, so that `M`
+-- differs from `m`
 abbrev pub packs_to : ℕ → Characters → Bool
 packs_to n name = packed_number (record off { lowercase = true }) name == n
 
--- the unit with a name in this table whose packed number is n
+-- the first unit that has a name with the packed number n in this table
 unfoldable pub unit_of_packed : Table → ℕ → Option TimeUnit
 unit_of_packed table n = find (λ u. list_any (packs_to n) (all_names_in table u)) units
 

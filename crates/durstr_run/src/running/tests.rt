@@ -68,7 +68,7 @@ impl Read for Blanks {
     }
 }
 
-/// The bytes that a `Sink` can hold.
+/// How many bytes a `Sink` can hold.
 const ROOM: usize = 2_048;
 
 /// A writer that takes at most `step` bytes per write into a fixed buffer, and counts the flushes.
