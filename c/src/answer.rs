@@ -46,9 +46,9 @@ pub struct Answer {
     pub expected: u32,
     /// 1 if the fault has a place, otherwise 0.
     pub has_place: u8,
-    /// If operators are mixed, the character of the one that came first.
+    /// If operators are mixed, the character of the first one. One that is left out is `+`.
     pub first_operator: u8,
-    /// If operators are mixed, the character of the one that came later.
+    /// If operators are mixed, the character of the first one that differs from it.
     pub later_operator: u8,
 }
 
