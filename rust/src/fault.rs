@@ -123,8 +123,8 @@ impl<'a> Fault<'a> {
     /// Returns the report for a terminal: the text, below it a caret at the place of a syntax
     /// fault, and below that the line.
     ///
-    /// If the fault is no syntax fault, and for some texts, the report is the line alone.
-    /// `docs/GRAMMAR.md` in the repository says for which.
+    /// If the fault is no syntax fault, the report is the line alone. `docs/GRAMMAR.md` in the
+    /// repository says for which texts it is so for a syntax fault too.
     ///
     /// ```
     /// use duration_str::{Options, parse_with};

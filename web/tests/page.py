@@ -3,13 +3,12 @@ web/check calls it.
 
 texts.json has texts and what the page shows for them, worked out by hand from docs/GRAMMAR.md:
 "values", printed and in nanoseconds, milliseconds, seconds and ISO 8601; the rows of their "terms";
-"notes" on them; the mark and the sentence of "faults", if that is not the library's line; the
-answers to "lines"; and what is offered if an option is "switched". "meant" has the values in
-seconds that people mean by texts. There are several if people use a text with several meanings, and
-null if nothing may be offered. advice.test.js tries all of this except the "lines" without a
-browser, so only some of those rows are tried here. "typed" texts are typed character by character.
-"hostile" texts must be shown and do nothing else, and "hostile links" must choose nothing. page.js
-runs in the page.
+"notes" on them; the mark of "faults", and the sentence of some; the answers to "lines"; and what is
+offered if an option is "switched". "meant" has the values in seconds that people mean by texts.
+There are several if people use a text with several meanings, and null if nothing may be offered.
+advice.test.js tries most of this without a browser, so only some of those rows are tried here.
+"typed" texts are typed character by character. "hostile" texts must be shown and do nothing else,
+and "hostile links" must choose nothing.
 """
 import ast
 import base64

@@ -44,7 +44,7 @@ def _missing_in(values: Any) -> Any:
 
 
 def _flat(values: Any, name: str) -> list[Any]:
-    """`name` is that of the values' type. If the type is not read, the list has stand-ins."""
+    """`name` is the name of the items' type. If the type is not read, the list has stand-ins."""
     import numpy
 
     pandas = sys.modules.get("pandas")
@@ -200,8 +200,8 @@ def to_timedelta(
     refuses, except NaN, raises an error of the same type. Any other value in a
     column, such as bytes, raises DurationTypeError, even if a text before it
     is refused. A timedelta of 2**63 nanoseconds or more raises OverflowError.
-    With `errors="coerce"` all of these become NaT. But a timedelta64 in years
-    or months raises TypeError even then.
+    With `errors="coerce"` all of these become NaT. But a timedelta64 in any
+    other unit, such as years, raises TypeError even then.
     """
     raises = raises_errors(errors)
     reading = _native.reading(

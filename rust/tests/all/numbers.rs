@@ -179,7 +179,7 @@ fn refuses_other_numbers_in_one_line() {
         format!("invalid duration: {}", parse_duration("600y").unwrap_err())
     );
     assert!(human::deserialize::<Duration, _>(json!(60)).is_err());
-    // TOML does not turn a number into a text.
+    // This deserializer gives a number even if it is asked for a text.
     let number = || I64Deserializer::<Error>::new(60);
     assert!(human::deserialize::<Duration, _>(number()).is_err());
     assert!(humantime_serde::deserialize::<Duration, _>(number()).is_err());
