@@ -2,6 +2,7 @@
 quotes, spelling and pictures.
 """
 import filecmp
+import itertools
 import json
 import pathlib
 import re
@@ -57,7 +58,7 @@ def wrong_links(name):
 
 def named_path(name, path):
     """The path that a document names, from the top, from its folder or in the library's crate."""
-    near = (ROOT, (ROOT / name).parent, CRATE)
+    near = (ROOT, (ROOT / name).parent, CRATE, CRATE / "src", ROOT / "rust/core/src")
     return next((folder / path for folder in near if (folder / path).exists()), None)
 
 
@@ -68,13 +69,16 @@ def wrong_paths(name, folders):
 
 
 def names_elsewhere(name):
-    placed = re.findall(r"((?:`\w+`,? )+)in `([\w./-]+)`", " ".join(prose(name).split()))
-    for names, path in placed:
-        if place := named_path(name, path):
-            files = [file for file in (place, *place.glob("**/*")) if file.is_file()]
-            words = re.findall(r"\w+", " ".join(file.read_text(encoding="utf-8") for file in files))
-            for each in set(re.findall(r"\w+", names)) - set(words):
-                yield f"{name}: names {each} in {path}, which does not have it"
+    placed = r"((?:`[\w:]+`(?:,| and)? )+)(?:of `\w+` )?in `([\w./-]+)`"
+    for names, path in re.findall(placed, " ".join(prose(name).split())):
+        if not re.search("[./]", path):
+            continue
+        place = named_path(name, path)
+        files = tracked_files(str(place.relative_to(ROOT))) if place else []
+        words = "".join((ROOT / file).read_text("utf-8", errors="replace") for file in files)
+        for each in set(re.findall(r"\w+", names.replace(" and ", " "))):
+            if not re.search(rf"\b{each}\b", words):
+                yield f"{name}: names {each} in {path}, which does not have it or is not there"
 
 
 def code_in_prose(name):
@@ -219,12 +223,16 @@ def other_printed():
 def untested_examples():
     code = read("rust/tests/printers.rs")
     for row in rows_of_tables("docs/MIGRATING.md"):
-        if function := re.fullmatch("function `(.*)`", row.get("how to print it here", "")):
-            for wanted in (f"fn {function[1]}(", *re.findall("`(.*?)`", row["prints"])):
-                if f"\n{wanted}" not in code and f'"{wanted}"' not in code:
-                    yield f"docs/MIGRATING.md: rust/tests/printers.rs does not have {wanted}"
+        told = row["how to print it here"] if "printer" in row else ""
+        if not told.startswith("function"):
+            continue
+        function = told.removeprefix("function ").strip("`")
+        for wanted in (f"fn {function}(", *re.findall("`(.*?)`", row["prints"])):
+            if f"\n{wanted}" not in code and f'"{wanted}"' not in code:
+                yield f"docs/MIGRATING.md: rust/tests/printers.rs does not have {wanted}"
 
 
+KINDS = {"number": "a number", "unit": "a unit", "operator": "an operator", "end": "the end"}
 # Texts that end as the first column of GRAMMAR's table of kinds says, each with its options
 ENDS = {
     "the start": ("", []),
@@ -236,15 +244,15 @@ ENDS = {
 
 
 def other_kinds():
-    for row in rows_of_tables("docs/GRAMMAR.md"):
-        for column, names in ("can follow", []), ("can follow with `no_calc`", ["no_calc"]):
-            told = row.get(column, "(")
-            if told.startswith("("):
-                continue
-            text, given = ENDS[row["after"]]
-            kinds = reference_parser.Choice.named(given + names).answer(f"{text}-").expected
-            if {each.split()[1] for each in told.split(", ")} != set(kinds):
-                yield f"docs/GRAMMAR.md: after {row['after']} {column}: {', '.join(kinds)}"
+    rows = {row["after"]: row for row in rows_of_tables("docs/GRAMMAR.md") if "after" in row}
+    for (after, (text, names)), no_calc in itertools.product(ENDS.items(), ([], ["no_calc"])):
+        column = "can follow with `no_calc`" if no_calc else "can follow"
+        expected = reference_parser.Choice.named(names + no_calc).answer(f"{text}-").expected
+        wanted = ", ".join(told for kind, told in KINDS.items() if kind in expected)
+        if no_calc and after == "an operator":
+            wanted = "(no operators)"
+        if rows.get(after, {}).get(column) != wanted:
+            yield f"docs/GRAMMAR.md: the cell for {after}, {column}, should be: {wanted}"
 
 
 # ---- What is proved
