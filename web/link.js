@@ -72,7 +72,7 @@ function take(word) {
 
 /** Words that are unknown or badly written change nothing, and are returned. */
 export function readLink() {
-    for (const box of boxes) box.checked = false;
+    for (const box of boxes) box.checked = box.disabled = false;
     for (const [name, box] of Object.entries(printing)) box.value = WHOLE[name];
     for (const box of unitBoxes) box.checked = true;
     defaultUnit.value = SECOND;

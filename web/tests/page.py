@@ -666,6 +666,11 @@ def try_link(page):
         ["", ["cn_unit"], "short"],
         [page.text(), page.chosen(), page.find("style").get_property("value")],
     )
+    page.open("#default_unit=ms")
+    for link, wanted in ("default_unit=h", [True, False]), ("no_calc", [True, True]):
+        page.run("location.hash = arguments[0]", link)
+        time.sleep(PAUSE)
+        page.same(f"no_calc after a link with {link}", wanted, no_calc_box(page))
 
 
 def try_hostile(page):
