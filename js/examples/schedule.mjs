@@ -1,5 +1,5 @@
 // Runs a job again and again until a deadline, with settings from a configuration.
-import { DurationError, parse } from "duration-str";
+import { parse } from "duration-str";
 
 /**
  * Runs the job at intervals of `every`, until the time `until` has passed. If a text is refused,
@@ -18,7 +18,6 @@ function setting(name, read) {
     try {
         return read();
     } catch (error) {
-        if (!(error instanceof DurationError)) throw error;
         throw new Error(`${name}: ${error.message}`, { cause: error });
     }
 }

@@ -215,6 +215,7 @@ test("a schedule has a period and an end, and names a setting that is refused", 
         () => schedule({ every: "soon", until: "1d" }, () => {}),
         /^Error: every: expected a number at column 1, found "soon"$/,
     );
+    assert.throws(() => schedule({ every: "1m" }, () => {}), /^Error: until: /);
     for (const every of ["0s", "2147483647ms 1us", "30d"]) {
         assert.throws(() => schedule({ every, until: "0s" }, () => {}), RangeError);
     }
