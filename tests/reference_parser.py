@@ -425,7 +425,7 @@ def standing_fault(front, default_unit):
     return None
 
 
-# ---- The value of a text, and what is said of a refused text
+# ---- Answers, printed durations, and messages
 
 
 def answer_of(text, options, default_unit=SECOND):

@@ -40,8 +40,8 @@ _Noreturn void abort(void) {
 }
 
 #ifdef __arm__
-/* Compilers for ARM call functions of these names. `__aeabi_memset` takes its arguments in another
- * order than `memset`. */
+/* On ARM the library calls functions of these names. `__aeabi_memset` takes its arguments in
+ * another order than `memset`. */
 void __aeabi_memcpy(void *to, const void *from, size_t length) { memcpy(to, from, length); }
 void __aeabi_memcpy4(void *to, const void *from, size_t length) { memcpy(to, from, length); }
 void __aeabi_memcpy8(void *to, const void *from, size_t length) { memcpy(to, from, length); }

@@ -257,7 +257,7 @@ fn with_list(shell: Shell, script: &str) -> String {
         _ => {
             // What was typed must not become a part of the words, since compgen expands them, and
             // so would run a command that stands in them. A list with a blank is left alone, since
-            // bash would write the answer after the blank.
+            // `--units` refuses it.
             let answer = r#"COMPREPLY=($(compgen -W "LIST" -- "${cur}"))"#;
             let (words, last) = (UNITS.join(" "), r"${cur##*,}");
             let answers = format!(

@@ -61,8 +61,8 @@ static const char *const kept_names[] = {"no_calc", "lowercase", "cn_unit", "req
     "default_unit", "parts", "units", "largest", "smallest", "style", "days", "seconds",
     "microseconds"};
 
-/* timedelta64's NaT as a number, and a count of days to which timedelta64 can add any seconds and
- * microseconds of a timedelta */
+/* timedelta64's NaT as a number, and a count of days that a timedelta64 of nanoseconds can hold
+ * with any seconds and microseconds of a timedelta */
 #define MISSING ((uint64_t)INT64_MIN)
 #define MOST_DAYS 106750
 

@@ -6,7 +6,7 @@
 //! and `*` are not read. A number that is not a text must be whole, and not negative. `1500.0` is
 //! whole too.
 //!
-//! Durations are written as text, with their units. The format must store the types of its values,
+//! Durations are written as text, with their units. The format must say itself what a value is,
 //! which bincode and similar formats don't do.
 //!
 //! This module needs the feature `serde`.

@@ -5,7 +5,7 @@
 //! number must be whole, such as `30` or `30.0`, and not negative. For a fraction of a second,
 //! write a text such as `"1500ms"`.
 //!
-//! Durations are written as text. The format must store the types of its values, which bincode and
+//! Durations are written as text. The format must say itself what a value is, which bincode and
 //! similar formats don't do.
 //!
 //! This module needs the feature `serde`.
