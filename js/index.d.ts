@@ -306,7 +306,11 @@ export function tryParse(value: string | number | bigint, options: NumberOptions
 export function parseNs(text: string, options?: Options): bigint;
 export function parseNs(value: string | number | bigint, options: NumberOptions): bigint;
 
-/** Returns an object as `tryParse` does, with the value that `parseNs` returns. */
+/**
+ * Returns an object as `tryParse` does, with the value that `parseNs` returns.
+ *
+ * @throws TypeError, RangeError as `tryParse` does
+ */
 export function tryParseNs(text: string, options?: Options): Result<bigint>;
 export function tryParseNs(
     value: string | number | bigint, options: NumberOptions,
