@@ -71,9 +71,9 @@ def wrong_paths(name, folders):
 def names_elsewhere(name):
     placed = r"((?:`[\w:]+`(?:,| and)? )+)(?:of `\w+` )?in `([\w./-]+)`"
     for names, path in re.findall(placed, " ".join(prose(name).split())):
-        if not re.search("[./]", path):
-            continue
         place = named_path(name, path)
+        if not place and not re.search("[./]", path):
+            continue
         files = tracked_files(str(place.relative_to(ROOT))) if place else []
         words = "".join((ROOT / file).read_text("utf-8", errors="replace") for file in files)
         for each in set(re.findall(r"\w+", names.replace(" and ", " "))):
