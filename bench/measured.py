@@ -3,6 +3,7 @@
 A comment above each table, such as `<!-- rust at 270bdc6a -->`, names a group of files, and the
 commit with which these were measured. bench/run writes the commits.
 """
+import ast
 import pathlib
 import re
 import subprocess
@@ -24,7 +25,7 @@ GROUPS = {
     ),
     "shell": ("shell/src program/src", "bench/run --shell --write"),
 }
-COMMENT = r"^\s*(//|# |/?\*+ )"
+COMMENT = re.compile(r"\s*(//|# |/\*|\*+ |\*+/?$)")
 
 
 def git(*words):
@@ -50,6 +51,30 @@ def unmarked():
             yield f"docs/SPEED.md: has no comment on what is measured above the table {head}"
 
 
+def is_code(statement):
+    is_string = isinstance(getattr(statement, "value", None), ast.Constant)
+    return not (isinstance(statement, ast.Expr) and is_string or isinstance(statement, ast.Pass))
+
+
+def code(name, text):
+    """The code of a file, without lines of comments, and in Python without docstrings."""
+    if not name.endswith((".py", ".pyi")):
+        return [line for line in text.splitlines() if not COMMENT.match(line)]
+    tree = ast.parse(text)
+    for node in ast.walk(tree):
+        if isinstance(node, (ast.Module, ast.ClassDef, ast.FunctionDef)):
+            node.body = list(filter(is_code, node.body))
+    return ast.dump(tree)
+
+
+def has_changed(path, commit):
+    for name in git("diff", "--name-only", commit, "--", path).splitlines():
+        now = (TOP / name).read_text(encoding="utf-8") if (TOP / name).exists() else ""
+        if code(name, git("show", f"{commit}:{name}")) != code(name, now):
+            return True
+    return False
+
+
 def older():
     tables = {}
     for *mark, head in re.findall(rf"{MARK}\| (.*?) \|", SPEED.read_text(encoding="utf-8")):
@@ -57,7 +82,7 @@ def older():
     for (group, commit), heads in tables.items():
         files, command = GROUPS[group]
         paths = [CORE, *files.split()]
-        if changed := [each for each in paths if git("diff", "-I", COMMENT, commit, "--", each)]:
+        if changed := [path for path in paths if has_changed(path, commit)]:
             yield (
                 f"docs/SPEED.md: {'; '.join(heads)}: measured before {', '.join(changed)} changed,"
                 f" run {command}"
