@@ -58,7 +58,7 @@ def is_code(statement):
 
 def code(name, text):
     """The code of a file, without lines of comments, and in Python without docstrings."""
-    if not name.endswith((".py", ".pyi")):
+    if not name.endswith((".py", ".pyi")) and not text.startswith("#!/usr/bin/env python3"):
         return [line for line in text.splitlines() if not COMMENT.match(line)]
     tree = ast.parse(text)
     for node in ast.walk(tree):
