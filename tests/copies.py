@@ -1,5 +1,5 @@
-"""Lays out words of docs/GRAMMAR.md for the documentation of languages. tests/repository compares
-the result with what stands there, and writes it.
+"""Lays out words of docs/GRAMMAR.md for the packages' documentation. tests/repository compares the
+result with what stands there, and writes it.
 
 Each place is a file, the text before and after what is copied, and what must stand between them.
 """
@@ -21,7 +21,7 @@ def filled(text, width, first, further=None):
 
 
 def in_strings(text):
-    """Lines as they stand in strings of C, without the quotation marks around them all."""
+    """Lines as they stand in strings of C, without the first and the last quotation mark."""
     return text.replace("\n", '\\n"\n    "')
 
 

@@ -53,8 +53,8 @@ quoted = json.JSONEncoder(ensure_ascii=False).encode
 
 
 def number_in(nanos, unit, decimals=None, way="down"):
-    """A duration as a number of this unit, with this many decimals, or with as many of nine as it
-    needs."""
+    """A duration as a number of this unit, with this many decimals. If that is None, it has as many
+    as it needs, but at most nine."""
     digits = 9 if decimals is None else decimals
     whole, rest = divmod(
         reference.rounded(fractions.Fraction(nanos * 10**digits, LENGTHS[unit]), way),
@@ -109,11 +109,10 @@ def read(data, options):
         return Refused("not UTF-8")
     if "from" in options and reference.BARE.fullmatch(text):
         return read_number(text.strip(BLANKS), options)
-    text = (
-        text if len(text) < 10_000 else text.strip(BLANKS)
-    )  # The blanks around a long text would take long.
+    # The reference parser takes long for many blanks.
+    text = text if len(text) < 10_000 else text.strip(BLANKS)
     unit = LENGTHS[options.get("from", "s")]
-    # For any other text, naming the second is the same as naming nothing.
+    # Apart from such numbers, naming the second is the same as naming nothing.
     no_calc = unit != reference.SECOND
     answer = reference.answer_of(
         text,

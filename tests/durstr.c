@@ -1,5 +1,5 @@
-/* For each line this writes what the program durstr writes, but for a refused line it writes the
- * report of duration_str_report. It also knows the words `require_unit` and, for example,
+/* Writes what the program durstr writes, except that a refused line gets the report of
+ * duration_str_report. It also knows the words `require_unit` and, for example,
  * `default_unit=ms`. tests/processors builds it for several processors, and compares what they
  * write. */
 #define _POSIX_C_SOURCE 200809L

@@ -1,5 +1,5 @@
-"""Makes files of lists for several languages, such as the units, the styles, and the regular
-expressions. tests/repository compares them with what is there, and writes them.
+"""Makes files of lists, such as of units, styles and regular expressions, for several languages.
+tests/repository compares them with what is there, and writes them.
 """
 import json
 import pathlib
@@ -54,13 +54,13 @@ def in_javascript():
 export const UNITS = [{quoted(PRINTED)}];
 /** The styles, in the order of `enum duration_str_style`. */
 export const STYLES = [{quoted(STYLES)}];
-/** The codes of refusals, in the order of `enum duration_str_cause`. */
+/** The codes of answers, in the order of `enum duration_str_cause`. */
 export const CODES = [{quoted(CAUSES[:-1])}];
-/** The sentences: without options, with `noCalc`, with `requireUnit`, and with both. U stands for a
- * unit. */
+/** Patterns of sentences: without options, with `noCalc`, with `requireUnit`, and with both. U
+ * stands for a unit. */
 export const SENTENCES = [
 {rows(SENTENCES)}];
-/** The units: without options, with `lowercase`, with `cnUnit`, and with both. */
+/** Patterns of units: without options, with `lowercase`, with `cnUnit`, and with both. */
 export const UNIT_PATTERNS = [
 {rows(UNIT_PATTERNS)}];
 """
@@ -70,8 +70,8 @@ def on_the_page():
     lists = [(unit.names, unit.chinese, near_words(unit.printed).split()) for unit in UNITS]
     return f"""// Made by tests/repository --write.
 
-/** All units, the longest first: their names, of which the last two are the singular and the
- * plural, the names that `cn_unit` adds, and the words that the library says are near. */
+/** All units, the longest first. Each has its names, of which the last two are the singular and the
+ * plural, then the names that `cn_unit` adds, and words for which an error suggests the unit. */
 export const UNITS = [
 {rows(tuple(" ".join(words) for words in each) for each in lists)}];
 export const STYLES = [{quoted(STYLES)}];
@@ -88,11 +88,11 @@ Unit = Literal[{quoted(name for unit in UNITS for name in unit.names)}]
 PrintedUnit = Literal[{quoted(PRINTED)}]
 #: How a duration is printed: `1h 30min`, `1h30min`, `1 hour 30 minutes`
 Style = Literal[{quoted(STYLES)}]
-#: The sentences: without options, with `no_calc`, with `require_unit`, and with both. U stands for
-#: a unit.
+#: Patterns of sentences: without options, with `no_calc`, with `require_unit`, and with both. U
+#: stands for a unit.
 SENTENCES = [
 {rows(SENTENCES)}]
-#: The units: without options, with `lowercase`, with `cn_unit`, and with both
+#: Patterns of units: without options, with `lowercase`, with `cn_unit`, and with both
 UNIT_PATTERNS = [
 {rows(UNIT_PATTERNS)}]
 """
@@ -120,11 +120,11 @@ def in_rust():
 pub const UNITS: [&str; {len(UNITS)}] = [{quoted(ascii_names)}];
 /// The styles.
 pub const STYLES: [&str; {len(STYLES)}] = [{quoted(STYLES)}];
-/// The sentences: without options, without operators, with units required, and with both. U stands
-/// for a unit.
+/// Patterns of sentences: without options, without operators, with units required, and with both. U
+/// stands for a unit.
 pub const SENTENCES: [&str; 4] = [
 {rows(SENTENCES)}];
-/// The units: without options, with `--lowercase`, with `--cn-unit`, and with both.
+/// Patterns of units: without options, with `--lowercase`, with `--cn-unit`, and with both.
 pub const UNIT_PATTERNS: [&str; 4] = [
 {rows(UNIT_PATTERNS)}];
 """

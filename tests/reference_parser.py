@@ -429,8 +429,8 @@ def standing_fault(front, default_unit):
 
 
 def answer_of(text, options, default_unit=SECOND):
-    """If the text has no capitals, `lowercase` is turned off, and if it has no Chinese letters,
-    `cn_unit`, so that fewer answers are computed.
+    """Turns `lowercase` off for a text without capitals, and `cn_unit` for one without Chinese
+    letters, so that fewer answers are computed.
     """
     folds = options.lowercase and text != text.translate(FOLDED)
     knows = options.cn_unit and any(character in CHINESE for character in text)
@@ -480,16 +480,16 @@ BARE = re.compile(
 
 
 def rounded(number, way):
-    """If two whole numbers are equally near, the nearest one is the upper one."""
+    """Of two whole numbers that are equally near, `nearest` takes the upper one."""
     return {"up": -(-number // 1), "nearest": (number + fractions.Fraction(1, 2)) // 1}.get(
         way, number // 1
     )
 
 
 def bare_number(text, length, way):
-    """The nanoseconds of a number with a fraction or an exponent, of a unit with this length, or
-    None if they are too many. The command `duration` reads such numbers with `--from`. The number
-    is first rounded to 18 decimals, in the same way.
+    """The nanoseconds of this many units of this length, or None if they are too many. The text is
+    a number with a fraction or an exponent, as the command `duration` reads it with `--from`. It is
+    first rounded to 18 decimals, in the same way.
     """
     decimals = rounded(fractions.Fraction(text.strip(BLANKS)) * 10**18, way)
     nanos = rounded(fractions.Fraction(decimals * length, 10**18), way)

@@ -1,7 +1,7 @@
 // Made by tests/repository --write.
 
-/** All units, the longest first: their names, of which the last two are the singular and the
- * plural, the names that `cn_unit` adds, and the words that the library says are near. */
+/** All units, the longest first. Each has its names, of which the last two are the singular and the
+ * plural, then the names that `cn_unit` adds, and words for which an error suggests the unit. */
 export const UNITS = [
     ["y year years", "年", "yr yrs"],
     ["q quarter quarters", "", "qtr qtrs"],

@@ -7,15 +7,15 @@ Unit = Literal["y", "year", "years", "q", "quarter", "quarters", "mon", "month",
 PrintedUnit = Literal["y", "q", "mon", "w", "d", "h", "min", "s", "ms", "µs", "ns"]
 #: How a duration is printed: `1h 30min`, `1h30min`, `1 hour 30 minutes`
 Style = Literal["short", "compact", "long"]
-#: The sentences: without options, with `no_calc`, with `require_unit`, and with both. U stands for
-#: a unit.
+#: Patterns of sentences: without options, with `no_calc`, with `require_unit`, and with both. U
+#: stands for a unit.
 SENTENCES = [
     "^[ \\t\\n\\r]*[0-9]+[ \\t\\n\\r]*(?:U[ \\t\\n\\r]*(?:(?:[+*][ \\t\\n\\r]*)?[0-9]+[ \\t\\n\\r]*|$)|[+*][ \\t\\n\\r]*[0-9]+[ \\t\\n\\r]*)*$",
     "^[ \\t\\n\\r]*[0-9]+[ \\t\\n\\r]*(?:U[ \\t\\n\\r]*(?:[0-9]+[ \\t\\n\\r]*|$))*$",
     "^[ \\t\\n\\r]*[0-9]+[ \\t\\n\\r]*U[ \\t\\n\\r]*(?:(?:[+*][ \\t\\n\\r]*)?[0-9]+[ \\t\\n\\r]*U[ \\t\\n\\r]*)*$",
     "^[ \\t\\n\\r]*(?:[0-9]+[ \\t\\n\\r]*U[ \\t\\n\\r]*)+$",
 ]
-#: The units: without options, with `lowercase`, with `cn_unit`, and with both
+#: Patterns of units: without options, with `lowercase`, with `cn_unit`, and with both
 UNIT_PATTERNS = [
     "(?:[Yy](?:[Ee][Aa][Rr][Ss]?)?|[Qq](?:[Uu][Aa][Rr][Tt][Ee][Rr][Ss]?)?|[Mm](?:[Oo][Nn](?:[Tt][Hh][Ss]?)?|[Ii](?:[Nn](?:[Uu][Tt][Ee][Ss]?)?|[Ll][Ll][Ii][Ss][Ee][Cc][Oo][Nn][Dd][Ss]?|[Cc][Rr][Oo][Ss][Ee][Cc][Oo][Nn][Dd][Ss]?)|[Ss](?:[Ee][Cc])?)?|[Ww](?:[Ee][Ee][Kk][Ss]?)?|[Dd](?:[Aa][Yy][Ss]?)?|[Hh](?:[Rr]|[Oo][Uu][Rr][Ss]?)?|[Ss](?:[Ee][Cc](?:[Oo][Nn][Dd][Ss]?)?)?|[µUu][Ss](?:[Ee][Cc](?:[Oo][Nn][Dd])?)?|[Nn](?:[Ss](?:[Ee][Cc])?|[Aa][Nn][Oo][Ss][Ee][Cc][Oo][Nn][Dd][Ss]?))",
     "(?:y(?:ears?)?|q(?:uarters?)?|m(?:on(?:ths?)?|i(?:n(?:utes?)?|lliseconds?|croseconds?)|s(?:ec)?)?|w(?:eeks?)?|d(?:ays?)?|h(?:r|ours?)?|s(?:ec(?:onds?)?)?|[µu]s(?:ec(?:ond)?)?|n(?:s(?:ec)?|anoseconds?))",
