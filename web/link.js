@@ -70,20 +70,25 @@ function take(word) {
     return true;
 }
 
-/** Words that are unknown or badly written change nothing, and are returned. */
+/** Returns the words that change nothing: those that are unknown or badly written, and those about
+ * something that an earlier word has chosen. */
 export function readLink() {
     for (const box of boxes) box.checked = box.disabled = false;
     for (const [name, box] of Object.entries(printing)) box.value = WHOLE[name];
     for (const box of unitBoxes) box.checked = true;
     defaultUnit.value = SECOND;
     text.value = "";
+    const chosen = new Set();
     const unknown = location.hash.slice(1).split("&").filter(Boolean).filter((word) => {
+        const choice = word === "require_unit" ? "default_unit" : word.split("=")[0];
         try {
-            return !take(word);
+            if (chosen.has(choice) || !take(word)) return true;
         } catch (error) {
             if (!(error instanceof URIError)) throw error;
             return true;
         }
+        chosen.add(choice);
+        return false;
     });
     showNoCalc();
     return unknown;

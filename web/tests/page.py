@@ -529,6 +529,21 @@ def try_printing(page):
         page.open(f"#text=90&{word}")
         page.same(what, f"Not understood in the link: {word}", page.text_of("link-note"))
         page.same(f"printed beside {word}", "1min 30s", page.text_of("printed"))
+    checked = "#printed_units label:has(:checked)"
+    for first, second in [
+        ("text=2h", "text=3h"),
+        ("require_unit", "default_unit=ms"),
+        ("default_unit=ms", "require_unit"),
+        ("lowercase", "lowercase"),
+        ("units=h", "units=d,h"),
+    ]:
+        page.open(f"#{first}")
+        wanted = page.text(), page.chosen(), page.words(checked)
+        page.open(f"#{first}&{second}")
+        got = page.text(), page.chosen(), page.words(checked)
+        page.same(f"{second} after {first}", wanted, got)
+        told = f"Not understood in the link: {second}"
+        page.same(f"what is told of {second} after {first}", told, page.text_of("link-note"))
 
 
 def try_units_printed(page):
