@@ -16,8 +16,9 @@ use Rattle.duration_str.specs.Messages.{line_of, chars_before}
 
 -- ---- What is quoted
 
--- whether a character is plain. Not plain are control characters, white space other than the space,
--- and some others that can't be seen, such as marks of direction, tags and the soft hyphen
+-- whether a character is plain. Control characters and white space other than the space are not
+-- plain. Nor are some others that can't be seen, such as marks of direction, tags and the soft
+-- hyphen
 abbrev pub is_plain : ℕ → Bool
 is_plain c =
     not (is_control c || c == 0xA0 || c == 0xAD || c == 0x34F || c == 0x61C || is_in_range 0x115F 0x1160 c
@@ -63,8 +64,8 @@ begins_with_letter (c ∷ text) = is_letter c
 abbrev pub is_like : ℕ → ℕ → Bool
 is_like c d = (is_digit d && is_digit c) || (is_letter d && is_letter c)
 
--- the run of digits or of letters that a text begins with, or its first character. It has at most
--- 41 characters, one more than a quote shows
+-- the run of digits or of letters that a text begins with, or otherwise its first character, if
+-- any. It has at most 41 characters, one more than a quote shows
 abbrev pub first_piece : Characters → Characters
 first_piece [] = []
 first_piece (c ∷ text) = c ∷ take 40 (take_while (is_like c) text)

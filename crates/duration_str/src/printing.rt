@@ -1,7 +1,7 @@
 //! Durations printed for people, such as `3min 13s 29ms`: whole, or in a format.
 //!
-//! A function with an argument `at` writes its part after the first `at` bytes of the buffer, and
-//! returns where the part ends.
+//! A function with an argument `at` writes after the first `at` bytes of the buffer, and returns
+//! where to go on writing.
 ghost use Rattle.std.specs.Prelude.{ℕ, All, List, ◌≡◌, ◌+◌, ◌-◌, ◌*◌, ◌/◌, ◌%◌, ◌<◌, ◌≤◌, ◌++◌, ◌^◌, ◌∷◌, [], take, drop, length, decimal, encode_utf8_all, chars, IsUtf8};
 ghost use Rattle.std.specs.Duration.{as_nanos};
 ghost use Rattle.duration_str.specs.declared.format.Style.{Style};

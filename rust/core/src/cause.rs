@@ -62,7 +62,7 @@ impl Expected {
     }
 }
 
-/// Why a text is refused. A place is a byte offset in the text.
+/// Why a text or a configuration value is refused. A place is a byte offset in the text.
 ///
 /// ```
 /// use duration_str::{Cause, Options, parse_with};

@@ -1,8 +1,8 @@
 // Made by tools/erase of crates/duration_str/src/printing.rt.
 //! Durations printed for people, such as `3min 13s 29ms`: whole, or in a format.
 //!
-//! A function with an argument `at` writes its part after the first `at` bytes of the buffer, and
-//! returns where the part ends.
+//! A function with an argument `at` writes after the first `at` bytes of the buffer, and returns
+//! where to go on writing.
 
 use crate::breakdown::Breakdown;
 use crate::format::{Format, Style, Units};
