@@ -187,8 +187,8 @@ pub enum Style {
 }
 
 impl Format {
-    /// Returns the format with all units, 11 parts and the short style. It leaves nothing out: a
-    /// duration prints as `write_human` prints it.
+    /// Returns the format with all units, up to 11 parts and the short style. It leaves nothing
+    /// out: a duration prints as `write_human` prints it.
     ///
     /// ```
     /// assert_eq!(duration_str::Format::whole().parts, 11);
