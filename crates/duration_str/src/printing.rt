@@ -342,7 +342,7 @@ fn put_spaced(buffer: &mut [u8], at: usize, count: u32, unit: TimeUnit) -> usize
     if count == 0 { at } else { at + next + 1 }
 }
 
-/// Writes the counts with their units. The first count is that of the unit `UNITS[first]`.
+/// Writes the parts of these counts. The first count is that of the unit `UNITS[first]`.
 #[inline(always)]
 fn put_counts(buffer: &mut [u8], at: usize, first: usize, counts: &[u32]) -> usize
     requires short { All (λ n. n < 1000) counts.now }
