@@ -267,7 +267,7 @@ pub record KeepsWithin (format : Format) (nanos : ℕ) (counts : List ℕ) : Typ
   pub whole : weighted_sum (lengths_within format) counts ≡ nanos
 
 -- The duration `most` prints as this text too, and the text is read as `most` if that is below 2^64
--- nanoseconds. And `most` is the greatest duration, up to `nanos`, that fits into the format.
+-- nanoseconds. `most` is the greatest duration, up to `nanos`, that fits into the format.
 pub record IsMostWithin (format : Format) (nanos : ℕ) (text : Characters) (most : ℕ) : Type 0 where
   pub again : IsPrintedWithin format most text
   pub read : (default_unit : Option TimeUnit) (o : Options) → most < 2 ^ 64

@@ -44,7 +44,7 @@ quoted_end room (c ∷ text) =
     if nat_le (length (shown c)) room then encode_utf8_all (shown c) ++ quoted_end (room - length (shown c)) text
     else codes "\"..."
 
--- a text in quotes, which show at most 40 characters
+-- a text in quotes, with at most 40 characters between them
 abbrev pub quoted : Characters → Bytes
 quoted text = codes "\"" ++ quoted_end 40 text
 
@@ -166,9 +166,9 @@ help_at expected text place piece =
     else if is_digit last then digit_help piece next
     else []
 
--- the help at the end of a line that says what was expected: this help, or what to write, if this
--- help is empty and a unit could stand there, but neither an operator nor the end. For a text of
--- zeros and blanks that is `0s`, since zero is the same in each unit
+-- the help at the end of a line that says what was expected. It is `help`, unless that is empty and
+-- a unit could stand there, but neither an operator nor the end. Then it is what to write: for a
+-- text of zeros and blanks `0s`, since zero is the same in each unit
 abbrev pub missing_unit_help : Expected → Bytes → Bytes → Bytes
 missing_unit_help expected text help =
     let lacks_unit = expected.unit_word && not (expected.operator || expected.text_end) in

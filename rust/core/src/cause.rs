@@ -76,8 +76,8 @@ pub enum Cause {
     Empty,
     /// The text doesn't follow the grammar.
     Syntax {
-        /// The byte at which the first token starts that can't follow the text before it. If there
-        /// is no such token, the place is the length of the text.
+        /// The byte offset of the first token that can't follow the text before it. If there is no
+        /// such token, the place is the length of the text.
         place: usize,
         /// What could stand at `place`.
         expected: Expected,
