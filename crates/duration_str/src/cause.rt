@@ -71,7 +71,7 @@ impl Expected {
     }
 }
 
-/// Why a text or a configuration value is refused. A place is a byte offset in the text.
+/// Why a text or another value is refused. A place is a byte offset in the text.
 ///
 /// ```
 /// use duration_str::{Cause, Options, parse_with};
@@ -110,7 +110,7 @@ pub enum Cause {
     },
     /// The date is out of range.
     OutOfRange,
-    /// A configuration value is not a text.
+    /// A configuration value is not a text, or bytes are not UTF-8.
     NotText {
         /// Whether the value may be missing.
         optional: bool,
