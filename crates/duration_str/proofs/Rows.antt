@@ -68,8 +68,7 @@ pub record Answers : Type 0 where
   pub product-middle_step_rounded : answer (rules_of off) (codes "1*1ns*1ns*1000000000") ≡ Ok 0
   pub plus_then_star : answer (rules_of off) (codes "1m 2s*3") ≡ Err (Mixed Plus Star)
   pub star_then_plus : answer (rules_of off) (codes "1m*2*3+4") ≡ Err (Mixed Star Plus)
-  -- the first term is added last, so that the second term, with which the sum is 585 years, has no
-  -- fault
+  -- `580y 5y` would overflow, but the first term is added last
   pub first_added_last : answer (rules_of off) (codes "580y 5y 1s*2") ≡ Err (Mixed Plus Star)
   -- ---- The limits of numbers
   pub leading_zeros : answer (rules_of off) (codes "00000000000000000000000001") ≡ Ok 1_000_000_000

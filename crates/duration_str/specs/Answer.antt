@@ -58,7 +58,7 @@ front_after r last (terminal ∷ terminals) =
 abbrev pub front_of : Rules → List Terminal → ℕ
 front_of r terminals = front_after r None terminals
 
--- whether nothing follows the front, and the front can end there
+-- whether nothing follows the front, and the text can end after it
 abbrev pub is_whole : Rules → List Terminal → List Terminal → Bool
 is_whole r front [] = (expected_after r (last_of None front)).text_end
 is_whole r front (terminal ∷ rest) = false

@@ -1,4 +1,4 @@
--- The breakdown of a duration in a format: its counts, each with its unit.
+-- The parts of a duration in a format.
 use Rattle.std.specs.Prelude.{◌≡◌, ℕ, ◌+◌, ◌*◌, ◌<◌, IfSome, List, [], ◌∷◌, map, Option, MatchOption}
 use Rattle.std.specs.Iterator.{YieldsFirst}
 use Rattle.duration_str.specs.declared.breakdown.Breakdown.{Breakdown}
@@ -31,9 +31,9 @@ parts_left b = parts_in (units_of b.bits) b.most b.rest
 abbrev pub nanos_left : Breakdown → ℕ
 nanos_left b = b.rest
 
--- The call returns the first part that is left, and takes it from the nanoseconds that are left, so
--- that less than its unit is left. If no part is left, it returns none, and the nanoseconds stay as
--- they are.
+-- The call returns the first part that is left, and subtracts it from the nanoseconds that are
+-- left. The difference is less than the length of the part's unit. If no part is left, the call
+-- returns none, and the nanoseconds stay as they are.
 pub record YieldsPart (old : Breakdown) (result : Option (TimeUnit × ℕ)) (new : Breakdown) : Type 0 where
   pub first : YieldsFirst parts_left old result new
   pub rest : MatchOption result (nanos_left old ≡ nanos_left new)

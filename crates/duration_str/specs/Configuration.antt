@@ -31,8 +31,8 @@ abbrev pub IsRequired : {T : Type 0} → (T → ℤ) → Data → Result T Fault
 IsRequired nanos_of (string text) result = ParsesAs nanos_of text result
 IsRequired nanos_of _ result = IsNotText false result
 
--- An optional value: if it is null or the empty text, the result is `None`. Any other text is read,
--- or refused for its cause. Any other value is refused.
+-- An optional value: if it is null or the empty text, the result is `Ok None`. Any other text is
+-- read, or refused for its cause. Any other value is refused.
 abbrev pub IsOptional : {T : Type 0} → (T → ℤ) → Data → Result (Option T) Fault → Type 0
 IsOptional nanos_of null result = result ≡ Ok None
 IsOptional nanos_of (string []) result = result ≡ Ok None

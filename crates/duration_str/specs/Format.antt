@@ -100,7 +100,7 @@ IsPrintedWithin format nanos text =
     (counts : List ℕ)
     × IsGreatestWithin (lengths_within format) format.parts nanos counts × (text ≡ text_within format counts)
 
--- a number of bytes that no printed text in this style exceeds
+-- a bound on the bytes of a printed `Duration` in this style
 abbrev pub most_len : Style → ℕ
 most_len Long = MAX_LONG_LEN
 most_len style = MAX_PRINTED_LEN

@@ -1,4 +1,4 @@
--- The words of the private contracts: what each step of cutting, reading or printing does.
+-- Definitions for the private contracts: what each step of cutting, reading or printing does.
 pub mod Numbers
 pub mod UnitTable
 pub mod Positions

@@ -1,4 +1,4 @@
--- The words for the iterator `Tokens`, such as the tokens that are left.
+-- Definitions for the iterator `Tokens`, such as the tokens that are left.
 use Rattle.std.specs.Prelude.{◌≡◌, ℕ, ◌+◌, List, length, Option, IfSome, IfNone, slice_range, chars, drop}
 use Rattle.std.specs.Iterator.{YieldsFirstBy}
 use Rattle.duration_str.specs.declared.options.Options.{Options}

@@ -267,7 +267,7 @@ pub record KeepsWithin (format : Format) (nanos : ℕ) (counts : List ℕ) : Typ
   pub whole : weighted_sum (lengths_within format) counts ≡ nanos
 
 -- The duration `most` prints as this text too, and the text is read as `most` if that is below 2^64
--- nanoseconds. And `most` is the greatest duration, up to `nanos`, that fits into the format.
+-- nanoseconds. `most` is the greatest duration, up to `nanos`, that fits into the format.
 pub record IsMostWithin (format : Format) (nanos : ℕ) (text : Characters) (most : ℕ) : Type 0 where
   pub again : IsPrintedWithin format most text
   pub read : (default_unit : Option TimeUnit) (o : Options) → most < 2 ^ 64
@@ -277,7 +277,7 @@ pub record IsMostWithin (format : Format) (nanos : ℕ) (text : Characters) (mos
   pub greatest : (between : ℕ) (counts : List ℕ) → most < between → between ≤ nanos
       → KeepsWithin format between counts → ⊥
 
--- For each text that is printed in a format there is such a duration `most`.
+-- For each text that is printed in a format, there is a duration as in `IsMostWithin`.
 abbrev pub NeverMore : Type 0
 NeverMore = (format : Format) (nanos : ℕ) (text : Characters) → IsPrintedWithin format nanos text
     → (most : ℕ) × IsMostWithin format nanos text most
@@ -290,8 +290,8 @@ pub record PartsAndRest : Type 0 where
   pub rest : (old new : Breakdown) (parts : List (TimeUnit × ℕ)) → Yields YieldsPart old parts new
       → nanos_left old ≡ sum_of_parts parts + nanos_left new
 
--- Under these options the word is one of a unit's near words but names no unit, and the advised
--- name names the unit.
+-- Under these options the word names no unit. In small letters it is one of a unit's near words,
+-- and the advised name names that unit.
 pub record IsAdvised (o : Options) (word name : Characters) : Type 0 where
   pub unit : TimeUnit
   pub near : is_among (near_words unit) (map to_ascii_lowercase (encode_utf8_all word)) ≡ true

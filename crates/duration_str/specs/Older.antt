@@ -39,7 +39,7 @@ abbrev pub sentence_fault : Options → List Term → Option Cause
 sentence_fault o terms =
     if o.no_calc then running_fault [] terms else or_else (first_fault terms) (evaluation_fault terms)
 
--- A sentence spelled the text, and its evaluation was refused for this cause.
+-- A sentence spelled the text, and its terms had this fault.
 pub record WasRefused (o : Options) (text : Characters) (cause : Cause) : Type 0 where
   pub lexemes : List Characters
   pub spells : IsSentenceOf (older_rules o) lexemes text

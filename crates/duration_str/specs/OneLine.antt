@@ -16,8 +16,9 @@ use Rattle.duration_str.specs.Messages.{line_of, chars_before}
 
 -- ---- What is quoted
 
--- whether a character is plain. Not plain are control characters, white space other than the space,
--- and some others that can't be seen, such as marks of direction, tags and the soft hyphen
+-- whether a character is plain. Control characters and white space other than the space are not
+-- plain. Nor are some others that can't be seen, such as marks of direction, tags and the soft
+-- hyphen
 abbrev pub is_plain : ℕ → Bool
 is_plain c =
     not (is_control c || c == 0xA0 || c == 0xAD || c == 0x34F || c == 0x61C || is_in_range 0x115F 0x1160 c
@@ -43,7 +44,7 @@ quoted_end room (c ∷ text) =
     if nat_le (length (shown c)) room then encode_utf8_all (shown c) ++ quoted_end (room - length (shown c)) text
     else codes "\"..."
 
--- a text in quotes, which show at most 40 characters
+-- a text in quotes, with at most 40 characters between them
 abbrev pub quoted : Characters → Bytes
 quoted text = codes "\"" ++ quoted_end 40 text
 
@@ -63,8 +64,8 @@ begins_with_letter (c ∷ text) = is_letter c
 abbrev pub is_like : ℕ → ℕ → Bool
 is_like c d = (is_digit d && is_digit c) || (is_letter d && is_letter c)
 
--- the run of digits or of letters that a text begins with, or its first character. It has at most
--- 41 characters, one more than a quote shows
+-- the run of digits or of letters that a text begins with, or otherwise its first character, if
+-- any. It has at most 41 characters, one more than a quote shows
 abbrev pub first_piece : Characters → Characters
 first_piece [] = []
 first_piece (c ∷ text) = c ∷ take 40 (take_while (is_like c) text)
@@ -165,9 +166,9 @@ help_at expected text place piece =
     else if is_digit last then digit_help piece next
     else []
 
--- the help at the end of a line that says what was expected: this help, or what to write, if this
--- help is empty and a unit could stand there, but neither an operator nor the end. For a text of
--- zeros and blanks that is `0s`, since zero is the same in each unit
+-- the help at the end of a line that says what was expected. It is `help`, unless that is empty and
+-- a unit could stand there, but neither an operator nor the end. Then it is what to write: for a
+-- text of zeros and blanks `0s`, since zero is the same in each unit
 abbrev pub missing_unit_help : Expected → Bytes → Bytes → Bytes
 missing_unit_help expected text help =
     let lacks_unit = expected.unit_word && not (expected.operator || expected.text_end) in

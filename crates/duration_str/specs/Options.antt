@@ -1,4 +1,4 @@
--- The choice of no option.
+-- All options off.
 use Rattle.std.specs.Prelude.{false}
 use Rattle.duration_str.specs.declared.options.Options.{Options}
 

@@ -1,4 +1,4 @@
--- A fault for a terminal: its line, or the text, a caret and its line.
+-- The report of a fault: its line, or the text, a caret and its line.
 use Rattle.std.specs.Prelude.{ℕ, ◌+◌, Bool, ◌&&◌, if◌then◌else◌, nat_le, length, take, chars}
 use Rattle.std.specs.List.{list_all, count_by}
 use Rattle.duration_str.specs.declared.cause.Cause.{Cause}

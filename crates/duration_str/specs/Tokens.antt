@@ -18,7 +18,7 @@ abbrev pub goes_on : Options → ℕ → Characters → Bool
 goes_on o c [] = false
 goes_on o c (d ∷ _) = are_of_one_run o c d
 
--- these tokens, with the character c, at byte `at`, put in front of the first one. If there are
+-- these tokens, the first of which now begins with the character c, at byte `at`. If there are
 -- none, c is the only token
 abbrev pub with_first_character : ℕ → ℕ → List Token → List Token
 with_first_character at c [] = record { start = at; characters = c ∷ [] } ∷ []

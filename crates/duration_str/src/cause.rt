@@ -71,7 +71,7 @@ impl Expected {
     }
 }
 
-/// Why a text is refused. A place is a byte offset in the text.
+/// Why a text or another value is refused. A place is a byte offset in the text.
 ///
 /// ```
 /// use duration_str::{Cause, Options, parse_with};
@@ -84,8 +84,8 @@ pub enum Cause {
     Empty,
     /// The text doesn't follow the grammar.
     Syntax {
-        /// The byte at which the first token starts that can't follow the text before it. If there
-        /// is no such token, the place is the length of the text.
+        /// The byte offset of the first token that can't follow the text before it. If there is no
+        /// such token, the place is the length of the text.
         place: usize,
         /// What could stand at `place`.
         expected: Expected,
@@ -110,7 +110,7 @@ pub enum Cause {
     },
     /// The date is out of range.
     OutOfRange,
-    /// A configuration value is not a text.
+    /// A configuration value is not a text, or bytes are not UTF-8.
     NotText {
         /// Whether the value may be missing.
         optional: bool,

@@ -1,4 +1,4 @@
-//! Dates before and after a moment, by as much as a text says.
+//! Dates that are before or after a moment by the value of a text.
 ghost use Rattle.std.specs.Prelude.{◌≡◌, ◌↔◌, pos, ◌+ℤ◌, ◌-ℤ◌, IsSome, IfSome, IfNone, IsErrAnd, Ok};
 ghost use Rattle.std.specs.Duration.{as_nanos};
 ghost use Rattle.duration_str.specs.Dates.{IsCivil, IsCivilDay, IsDated, IsInRange};

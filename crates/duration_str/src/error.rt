@@ -7,7 +7,7 @@ use crate::fault::Fault;
 use std::alloc::{AllocError, Allocator, Global};
 use thiserror::Error;
 
-/// A fault without the text that was read. It prints as the line that says what is wrong.
+/// A fault without the text that was read. It prints as the line of its cause (`Cause::line`).
 ///
 /// ```text
 /// DError::ParseError(line) // for the empty text; its line is "Empty input"
@@ -15,7 +15,7 @@ use thiserror::Error;
 /// ```
 #[derive(Debug, PartialEq, Drop, Error)]
 pub enum DError<A: Allocator = Global> {
-    /// Any fault except an overflow, with the line that says what is wrong.
+    /// Any fault except an overflow, with the line of its cause.
     #[error("{0}")]
     ParseError(String<A>),
     /// A term, a step of the evaluation or the value is 2^64 nanoseconds or more.
@@ -28,7 +28,7 @@ pub type DResult<T> = Result<T, DError>;
 
 impl Fault<'_> {
     /// Turns this fault into an error. An overflow becomes `OverflowError`. Any other cause becomes
-    /// `ParseError` with the fault's line. The call fails only if memory for that line is refused.
+    /// `ParseError` with the cause's line. The call fails only if memory for that line is refused.
     ///
     /// ```text
     /// match parse("") {

@@ -14,11 +14,11 @@ pub fn one_sentence()
     ensures computed { AnswerIsReading }
 {}
 
-/// The last terminal of the beginning of a sentence, `no_calc` and whether there is a default unit
-/// decide what can follow. Nothing else does. The longest prefix of a text's terminals that begins
-/// a sentence ends before the first terminal that can't follow those before it. So `1m` can be
-/// followed by a number, an operator (not under `no_calc`) or the end, and the longest such prefix
-/// of `1m 3-5` is `1m 3`.
+/// Three things decide what can follow the beginning of a sentence: its last terminal, `no_calc`,
+/// and whether there is a default unit. Nothing else does. The longest prefix of a text's terminals
+/// that begins a sentence ends before the first terminal, if any, that can't follow those before
+/// it. So `1m` can be followed by a number, an operator (not under `no_calc`) or the end, and the
+/// longest such prefix of `1m 3-5` is `1m 3`.
 #[tactic(auto, using(crate::proofs::LawProofs::PlaceAndKinds::place_and_kinds_hold))]
 pub fn place_and_kinds()
     ensures { PlaceAndKinds }
@@ -95,8 +95,8 @@ pub fn reads_back()
     ensures { ReadsBack }
 {}
 
-/// Neither a cause's line nor a fault's message ends with a line feed. So `println!` ends such a
-/// line with a single line feed.
+/// Neither a cause's line nor a fault's message ends with a line feed. So `println!` ends either of
+/// them with a single line feed.
 #[tactic(auto, using(crate::proofs::Printer::MessageLemmas::last_line_holds))]
 pub fn last_line()
     ensures { LastLine }

@@ -27,9 +27,9 @@ impl Fault<'_> {
     }
 }
 
-/// Prints the line that says what is wrong. If the fault has a place, the text and a caret under
-/// the place are printed above the line. But if the text has a line feed, the place is printed
-/// before the line instead, as in `byte 5: expected number`.
+/// Prints the cause's line. If the fault has a place, the text is printed above the line, and
+/// between them a caret, after one space for each character before the place. But if the text has a
+/// line feed, the place is printed before the line instead, as in `byte 5: expected number`.
 ///
 /// ```text
 /// 3ms-2ms
@@ -61,7 +61,7 @@ impl fmt::Display for Fault<'_> {
 #[derive(Clone, Copy)]
 pub(crate) enum Layout {
     Line,
-    /// `byte N: ` with the place, and the line.
+    /// The place, such as `byte 5: `, and the line.
     Byte { place: usize },
     /// The text, below it a caret after this many spaces, and below that the line.
     Caret { spaces: usize },

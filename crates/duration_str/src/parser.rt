@@ -92,8 +92,8 @@ pub fn parse_with(input: &str, o: Options) -> Result<Duration, Fault<'_>>
     parse_with_default_unit(input, o, Some(TimeUnit::Second))
 }
 
-/// Reads a text under these options and with this default unit, which a number without a unit has,
-/// and returns the duration that it means.
+/// Reads a text under these options, and returns the duration that it means. A number without a
+/// unit has the default unit.
 ///
 /// `parse_with` is this call with the second as the default unit. If the default unit is `None`,
 /// each number must have its unit, so only a unit can follow a number.
@@ -217,7 +217,7 @@ pub fn parse_humantime_specialized(input: &str, o: Options) -> Result<u64, Fault
 
 /// Returns what `parse_with` returns, and how many times a character of the text was looked at.
 ///
-/// There are at most as many looks as characters. Reading a token again after it was cut off is not
+/// There are at most as many looks as characters. Reading the digits of a number again is not
 /// counted. If the text is accepted, there are as many looks as characters. If it has a syntax
 /// fault, there are at least as many looks as characters before the fault's place.
 ///

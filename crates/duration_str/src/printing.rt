@@ -1,7 +1,7 @@
 //! Durations printed for people, such as `3min 13s 29ms`: whole, or in a format.
 //!
-//! A function with an argument `at` writes its part after the first `at` bytes of the buffer, and
-//! returns where the part ends.
+//! A function with an argument `at` writes after the first `at` bytes of the buffer, and returns
+//! where to go on writing.
 ghost use Rattle.std.specs.Prelude.{ℕ, All, List, ◌≡◌, ◌+◌, ◌-◌, ◌*◌, ◌/◌, ◌%◌, ◌<◌, ◌≤◌, ◌++◌, ◌^◌, ◌∷◌, [], take, drop, length, decimal, encode_utf8_all, chars, IsUtf8};
 ghost use Rattle.std.specs.Duration.{as_nanos};
 ghost use Rattle.duration_str.specs.declared.format.Style.{Style};
@@ -342,7 +342,7 @@ fn put_spaced(buffer: &mut [u8], at: usize, count: u32, unit: TimeUnit) -> usize
     if count == 0 { at } else { at + next + 1 }
 }
 
-/// Writes the counts with their units. The first count is that of the unit `UNITS[first]`.
+/// Writes the parts of these counts. The first count is that of the unit `UNITS[first]`.
 #[inline(always)]
 fn put_counts(buffer: &mut [u8], at: usize, first: usize, counts: &[u32]) -> usize
     requires short { All (λ n. n < 1000) counts.now }

@@ -1,4 +1,4 @@
-//! A fault for a terminal: its line, or the text, a caret and its line.
+//! The report of a fault: its line, or the text, a caret and its line.
 ghost use Rattle.std.specs.Prelude.{◌≡◌, ◌*◌, ◌<◌, ◌≤◌, length};
 ghost use Rattle.std.specs.List.{list_all};
 ghost use Rattle.std.specs.Str.{chars};
@@ -19,9 +19,9 @@ pub const REPORT_BUFFER_SIZE: usize = 80 * 4 + 80 * 2 + 3 + ONE_LINE_BUFFER_SIZE
 const MOST_ABOVE: usize = 80;
 
 impl Fault<'_> {
-    /// Writes the fault for a terminal to the start of a buffer, and returns this report: the text,
-    /// below it a caret at the place of a syntax fault, and below that the line of
-    /// `write_one_line`.
+    /// Writes a report of the fault, for a terminal, to the start of a buffer, and returns it. The
+    /// report is the text, below it a caret at the place of the syntax fault, and below that the
+    /// line of `write_one_line`.
     ///
     /// The report is the line alone if the cause is not `Syntax`, if the text has more than 80
     /// characters, or if the line would escape a character of the text. The buffer's old contents

@@ -11,7 +11,7 @@ use jiff::SignedDuration;
 use std::alloc::{AllocError, Allocator};
 use std::time::Duration;
 
-/// A signed duration that is not negative is printed as its length.
+/// A signed duration is printed if it is not negative.
 impl HumanFormat for SignedDuration {
     ghost nanos = { signed_nanos };
 

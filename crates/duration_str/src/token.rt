@@ -1,4 +1,4 @@
-//! The tokens of a text: numbers, words, operators, and other single characters.
+//! The tokens of a text: numbers, words, operators, and other single characters except blanks.
 ghost use Rattle.std.specs.Prelude.{◌≡◌, ◌+◌, ◌%◌, ◌^◌, ◌≤◌, ◌<◌, [], ◌&&◌, ◌||◌, ◌==◌, true, length, take, is_some, Option, IsSome, IsTrue, if◌then◌else◌, false, Some, IsUtf8};
 ghost use Rattle.std.specs.List.{list_all};
 ghost use Rattle.std.specs.Option.{ForSome, ForNone};

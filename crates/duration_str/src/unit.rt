@@ -1,4 +1,4 @@
-//! The units of time and their names, with the options and operators that are used with them.
+//! The units of time and their names. The module also exports the options and the operators.
 ghost use Rattle.std.specs.Prelude.{◌≡◌, ◌/◌, ◌%◌, None, Some, encode_utf8_all};
 ghost use Rattle.std.specs.Fmt.{padded};
 ghost use Rattle.duration_str.specs.declared.unit.TimeUnit.TheVariants.{Second};
@@ -174,8 +174,8 @@ const YEAR: u64 = 365 * DAY;
 pub(crate) struct Printed {
     pub(crate) unit: TimeUnit,
     pub(crate) nanos: u64,
-    /// The greatest count of the unit that is below 2^64 nanoseconds. It also serves as the
-    /// reciprocal of the unit's length, as a fraction of 2^64.
+    /// The greatest count of the unit that is below 2^64 nanoseconds. Divided by 2^64, it is about
+    /// the reciprocal of the unit's length.
     pub(crate) most: u64,
     /// The printed name, filled up with spaces, so that every name is copied as four bytes.
     pub(crate) letters: [u8; 4],

@@ -21,8 +21,8 @@ use crate::unit::{TimeUnit, UNITS};
 #[derive(Clone, Copy, Debug, PartialEq, Eq, Hash)]
 #[non_exhaustive]
 pub struct Format {
-    /// The units that are printed. If the set is empty, every duration prints as zero seconds, such
-    /// as `0s`.
+    /// The units that the parts can have. If the set is empty, every duration prints as zero
+    /// seconds, such as `0s`.
     pub units: Units,
     /// The greatest number of parts. If it is 0, every duration prints as a duration of 0 does.
     pub parts: usize,
@@ -187,8 +187,8 @@ pub enum Style {
 }
 
 impl Format {
-    /// Returns the format with all units, 11 parts and the short style. It leaves nothing out: a
-    /// duration prints as `write_human` prints it.
+    /// Returns the format with all units, up to 11 parts and the short style. It leaves nothing
+    /// out: a duration prints as `write_human` prints it.
     ///
     /// ```
     /// assert_eq!(duration_str::Format::whole().parts, 11);

@@ -3,8 +3,8 @@
 //! there.
 //!
 //! Each private function that writes returns the index where its part ends, or `None` if there is
-//! no room. So no contract has to bound what is in the buffer before a part. One proof, for the
-//! whole line, shows that everything fits.
+//! no room. So no contract requires room for a part. One proof, for the whole line, shows that
+//! everything fits.
 
 use crate::cause::{Cause, Expected};
 use crate::fault::Fault;
@@ -30,8 +30,9 @@ const MOST_SHOWN: usize = 40;
 impl Fault<'_> {
     /// Writes the fault in one line to the start of a buffer, and returns the line. It says what is
     /// wrong, and for a syntax fault at which column, and what stands there. A quote shows at most
-    /// 40 characters. In it, characters that aren't safe in a line or can't be seen are escaped.
-    /// The buffer's old contents do not matter. The call allocates nothing and cannot fail.
+    /// 40 characters. In it, `"`, the backslash, control characters and most characters that can't
+    /// be seen are escaped. The buffer's old contents do not matter. The call allocates nothing and
+    /// cannot fail.
     ///
     /// ```
     /// use duration_str_core::{ONE_LINE_BUFFER_SIZE, Options, parse_with};

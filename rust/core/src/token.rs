@@ -1,5 +1,5 @@
 // Made by tools/erase of crates/duration_str/src/token.rt.
-//! The tokens of a text: numbers, words, operators, and other single characters.
+//! The tokens of a text: numbers, words, operators, and other single characters except blanks.
 
 use crate::eye::Eye;
 use crate::operator::CondUnit;

@@ -8,7 +8,7 @@ use Rattle.duration_str.proofs.Sentences.AnswerLemmas.{sum_read}
 
 -- ---- The duration that is printed
 
--- the duration that is printed of `nanos` in units of these lengths, in at most `most` parts
+-- how many of the nanoseconds are printed in units of these lengths, in at most `most` parts
 abbrev shown : List ℕ → ℕ → ℕ → ℕ
 shown lengths most nanos = weighted_sum lengths (counts_within lengths most nanos)
 

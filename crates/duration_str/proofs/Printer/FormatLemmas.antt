@@ -187,7 +187,7 @@ printed_within format nanos bytes utf8 same =
 
 -- ---- The table of the units for printing
 
--- the row that stands for one beyond the end of the table
+-- the row at an index beyond the end of the table
 abbrev pub beyond : Printed
 beyond = record { unit = Year; nanos = 0; most = 0; letters = []; width = 0 }
 

@@ -1,4 +1,4 @@
--- Lemmas about the units of a set, which its bits give.
+-- Lemmas about sets of units and their bits.
 use Rattle.duration_str.proofs.Common.{drop, drop_all, drop_more, last_unit, length, slice_index_or, units_of, ALL, add-zero, and_parts, ap, Bool, suc, ℕ, zero, arith, cases_Bool, div-add-mod', eqb, eqb-true, false, inl, inr, leb, Hour, leb-true, length-drop, List, map, not-true, Printed, printed_row, nanos_of, nat_tests, not, rank_of, refl, rules, sym, TimeUnit, true, Units, Year, units, [], ◌%◌, ◌&&◌, ◌||◌, ◌*◌, ◌+◌, ◌/◌, ◌<◌, ◌^◌, ◌∙◌, ◌∷◌, ◌≡◌, ◌≢◌, ◌≤◌}
 use Rattle.duration_str.proofs.Characters.UnitLemmas.{Each, each_unit}
 use Rattle.duration_str.specs.Format.{chosen, intersection, down_to, is_in, is_one_of, up_to, with_each, with_unit}

@@ -1,4 +1,4 @@
--- Numbers and values below 2^64, as the code passes them on.
+-- Numbers and values of terms, with a check that they are below 2^64.
 use Rattle.std.specs.Prelude.{ℕ, ◌*◌, Option, Some, None, Result, Ok, Err, if◌then◌else◌}
 use Rattle.duration_str.specs.declared.cause.Cause.{Cause}
 use Rattle.duration_str.specs.declared.cause.Cause.TheVariants.{NumberTooLarge, Overflow}

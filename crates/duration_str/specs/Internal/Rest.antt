@@ -1,4 +1,4 @@
--- What is left of a text while it is read: the next thing to read, and the answer.
+-- What is left of a text while it is read, and what is read from it.
 use Rattle.std.specs.Prelude.{◌≡◌, ℕ, zero, suc, ◌≤◌, List, [], ◌∷◌, length, take, drop, Option, Some, None, Result, Ok, Err, IfErr, if◌then◌else◌}
 use Rattle.std.specs.Option.{ForSome, ok_or}
 use Rattle.duration_str.specs.declared.unit.TimeUnit.{TimeUnit}
@@ -33,8 +33,8 @@ rest_from r len (p ∷ tokens) = terminal_at p.start (terminal_of r p.characters
 abbrev pub rest_of : Rules → Tokens → Rest
 rest_of r s = rest_from (rules_at r s) (length (source s)) (tokens_left s)
 
--- the byte at which terminal n of the rest starts, counted from 0, or at which the text ends if
--- there is no such terminal
+-- the byte at which the terminal after the first n terminals starts, or at which the text ends if
+-- there is none
 abbrev pub start_left : ℕ → Rest → ℕ
 start_left n (end_at at) = at
 start_left zero (terminal_at at terminal rest) = at
@@ -87,7 +87,7 @@ IsPlacedUpTo at cause = ForSome (place_of cause) (λ place. place ≤ at)
 abbrev pub IsPlaceless : Cause → Type 0
 IsPlaceless cause = place_of cause ≡ None
 
--- the answer to a text when this rest is left and must start with a number
+-- the answer to a text whose terminals are all in this rest
 abbrev pub answer_left : Rules → Rest → Result ℕ Cause
 answer_left r rest =
     let terminals = terminals_left rest in
@@ -121,7 +121,7 @@ abbrev pub ReadsItem : {A : Type 0} → Rules → (Rest → Result (ReadItem A) 
     → Type 0
 ReadsItem r f old new result = leaving (rest_of r new) result ≡ f (rest_of r old)
 
--- The source stays the same, and a fault has no place after the place reached.
+-- The source stays the same. The place of a fault, if it has one, is not after the place reached.
 pub record CutsOn {A : Type 0} (old new : Tokens) (result : Result A Cause) : Type 0 where
   pub same_source : source new ≡ source old
   pub reached : IfErr result (IsPlacedUpTo (cut_place new))

@@ -68,7 +68,7 @@ abbrev pub rules_at : Rules → Tokens → Rules
 rules_at r s = record r { options = options_of s }
 
 -- The first token that is left is taken. It starts at the place and stands for this terminal, by
--- these rules.
+-- these rules with the options of `old`.
 pub record TakesToken (r : Rules) (old new : Tokens) (terminal : Terminal) : Type 0 where
   pub characters : Characters
   pub kept : KeepsInput old new
