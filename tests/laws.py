@@ -1,10 +1,10 @@
-"""The laws of the library for fewer rules. A caller in `uses` that needs a law in general must not
-be proved with such a law. While tests/edits judges wrong bodies of `uses`, they can call the laws
-of `crate::by_own_table` and `crate::by_second`. These hold for the rules of the library's own table
-of units, and for those of them whose default unit is the second.
+"""Makes weaker laws, for tests/edits. Some wrong bodies of `uses` call a weaker law in place of the
+library's. They must be refused: otherwise no caller would need the law for all rules.
 
-Each clause of a law that begins with its rules or its default unit is weakened. `never_more` stays,
-since it speaks of a default unit only within another record.
+The laws of `crate::by_own_table` hold only for rules with the library's own table of units, and
+those of `crate::by_second` only if the default unit is the second, too. Each clause of a law that
+begins with its rules or its default unit is weakened. `never_more` stays, since it speaks of a
+default unit only within another record.
 """
 import re
 
