@@ -1,6 +1,6 @@
-/* Reads and prints two texts without a C library. On a Cortex-M4 processor it needs no operating
- * system: it has its own table of vectors, and prints by semihosting, which qemu or a debugger
- * answers. On x86-64 Linux it prints by system calls. */
+/* Reads two texts without a C library, and prints a duration and an error. On a Cortex-M4 processor
+ * it needs no operating system: it has its own table of vectors, and prints by semihosting, which
+ * qemu or a debugger answers. On x86-64 Linux it prints by system calls. */
 #include <duration_str.h>
 
 /* ---- The functions that the library needs, except for a division, which libgcc has. Without
