@@ -61,7 +61,7 @@ fn reads_whole_numbers() {
         human_or_millis::deserialize(&mut Deserializer::from_str(json)).unwrap();
     let pause = Some(Duration::from_millis(1_500));
     assert_eq!(several, [pause, pause, pause, None]);
-    // A library can hold the map in a value of its own, which doesn't lend its keys.
+    // A library can hold the map in a value of its own. Then the keys are not borrowed.
     let held = json!({ "$serde_json::private::Number": "30.0" });
     let read: Duration = human_or_seconds::deserialize(held).unwrap();
     assert_eq!(read, Duration::from_secs(30));
