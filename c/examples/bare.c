@@ -1,9 +1,9 @@
-/* Reads and prints two texts without a C library. On a Cortex-M4 processor it needs no operating
- * system: it has its own table of vectors, and prints by semihosting, which qemu or a debugger
- * answers. On x86-64 Linux it prints by system calls. */
+/* Reads two texts without a C library, and prints a duration and an error. On a Cortex-M4 processor
+ * it needs no operating system: it has its own table of vectors, and prints by semihosting, which
+ * qemu or a debugger answers. On x86-64 Linux it prints by system calls. */
 #include <duration_str.h>
 
-/* ---- The functions that the library needs, except for a division, which libgcc has. Without
+/* ---- The functions that the library can need, except for a division, which libgcc has. Without
  * `volatile` a compiler may turn a loop into a call of the function that it is in. */
 
 void *memcpy(void *to, const void *from, size_t length) {

@@ -74,8 +74,8 @@
 /* The size of the buffer that duration_str_report writes into. */
 #define DURATION_STR_REPORT_BUFFER_SIZE 867
 
-/* Attributes for GCC and Clang. They say how long an array is at least (in C),
- * which pointers may not be null, and which results must be used. */
+/* These macros tell GCC and Clang how long an array is at least (in C), which
+ * pointers may not be null, and which results must be used. */
 #if defined __GNUC__ && !defined __cplusplus && \
     !defined DURATION_STR_DECLARATIONS_ONLY
 #define DURATION_STR_AT_LEAST static
@@ -102,9 +102,6 @@
 extern "C" {
 #endif
 
-/* In an enumeration, the name of each constant begins with that of the
- * enumeration, in capitals, or for a unit with DURATION_STR_UNIT. */
-
 /* The options are bits of a `uint32_t`; 0 turns all of them off. Further bits
  * are those of DURATION_STR_OPTION_DEFAULT_UNIT. If a bit is set that belongs
  * to no option, or if two options can't stand together, every text is refused,
@@ -128,14 +125,14 @@ enum duration_str_option {
  * DURATION_STR_OPTION_NO_CALC (docs/GRAMMAR.md in the repository says why).
  * Then the option is unknown if you take the bit DURATION_STR_OPTION_NO_CALC
  * out, or if you add DURATION_STR_OPTION_REQUIRE_UNIT. It is also unknown if no
- * unit has the number `unit`. The macro computes `unit` more than once, so
+ * unit has the number `unit`. The macro can compute `unit` more than once, so
  * don't write `unit++` there.
  *
  * Bindings that can't call macros, such as those of Go and ctypes, compute it.
  * For seconds it is 0. For any other unit the bits from bit 16 on are the
  * unit's number plus 1, and DURATION_STR_OPTION_NO_CALC is on. So with
- * milliseconds the option is 0x90001. (For seconds 0x80001 is read too. It is
- * the same as DURATION_STR_OPTION_NO_CALC.) */
+ * milliseconds the option is 0x90001. (For seconds 0x80001 is allowed too, and
+ * means the same as DURATION_STR_OPTION_NO_CALC.) */
 #define DURATION_STR_OPTION_DEFAULT_UNIT(unit) \
     (DURATION_STR_CAST(uint64_t, unit) == DURATION_STR_UNIT_SECOND \
          ? UINT32_C(0) \
@@ -241,8 +238,9 @@ struct duration_str_answer {
     /* for DURATION_STR_CAUSE_SYNTAX: what could stand at `place`, as bits of
      * `enum duration_str_expected` */
     uint32_t expected;
-    /* 1 if `place` is set, and otherwise 0; it is set for
-     * DURATION_STR_CAUSE_SYNTAX, and if the first term is too large */
+    /* 1 if the fault has a place, and otherwise 0; it has one for
+     * DURATION_STR_CAUSE_SYNTAX, and if the cause is that the first term is too
+     * large */
     uint8_t has_place;
     /* for DURATION_STR_CAUSE_MIXED: the first operator, '+' or '*'; an operator
      * that is left out is '+' */
@@ -363,8 +361,8 @@ size_t duration_str_one_line(
  * or 0 if the text is read.
  *
  * For some texts the report is the line alone (docs/GRAMMAR.md in the
- * repository says for which). Before the caret stands one space for each column
- * of the text before the place. */
+ * repository says for which). Before the caret there is a space for each
+ * character before the place, and two for a Chinese letter. */
 DURATION_STR_NONNULL(5)
 size_t duration_str_report(
     const char *text, size_t length, uint32_t options,
@@ -377,7 +375,7 @@ size_t duration_str_report(
  *
  * The name is passed like a text. It is one of the names of units above, and
  * its ASCII letters may be capitals. The Chinese names give -1. So do the empty
- * name, and a name with anything before or after it, such as `5min` or ` min`.
+ * name, and texts such as `5min` and ` min`.
  *
  * The number 0 is the year, so compare the result with -1. Do so before you
  * pass it to DURATION_STR_UNITS or DURATION_STR_UNITS_BETWEEN. */

@@ -19,7 +19,8 @@ use core::fmt;
 /// ```
 #[derive(Clone, Debug, PartialEq, Eq, Hash)]
 pub enum DError {
-    /// Any fault except an overflow, with the last line of its message.
+    /// Any fault except an overflow, with the line that [`Cause::line`](crate::Cause::line)
+    /// returns.
     ParseError(String),
     /// A term, a step of the evaluation or the value is 2^64 nanoseconds or more.
     OverflowError,

@@ -35,7 +35,7 @@ impl<'a> Fault<'a> {
         Fault { fault, options }
     }
 
-    /// The cause's place must be one of the text.
+    /// If the cause has a place, it must be a character boundary in the text.
     pub(crate) fn of(text: &'a str, cause: Cause, options: Options) -> Fault<'a> {
         let fault = proved::Fault::new(text, cause).expect("the place is one of this text");
         Fault::new(fault, options)

@@ -135,7 +135,7 @@ impl FormattedDuration {
     }
 }
 
-/// No text is longer than this. The longest has 63 bytes, such as
+/// No text is longer than this. The longest texts have 63 bytes, such as
 /// `584542046089years 10months 30days 10h 33m 35s 999ms 999us 999ns`.
 const MAX_LEN: usize = 64;
 

@@ -197,8 +197,8 @@ pub use duration_str_core::{
     ONE_LINE_BUFFER_SIZE, Options, Style, TimeUnit, Units, UnknownStyle, UnknownUnit, write_format,
     write_human,
 };
-// `MAX_LONG_LEN`, `MAX_PRINTED_LEN` and `UNITS`, below, are hidden, since they are only for the
-// core's examples.
+// `MAX_LONG_LEN`, `MAX_PRINTED_LEN` and `UNITS`, below, are hidden, since only the core's
+// documentation names them.
 #[cfg(feature = "serde")]
 #[allow(deprecated)]
 pub use self::serde::original::{

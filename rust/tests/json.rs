@@ -1,5 +1,5 @@
-//! Tests durations that are numbers in JSON. `tests/precision` runs the same rows with another
-//! feature of serde_json, under which it passes some numbers on as maps.
+//! Tests durations that are numbers in JSON. `tests/precision` runs the same rows with serde_json's
+//! feature `arbitrary_precision`, under which serde_json passes some numbers on as maps.
 use duration_str::{human_or_millis, human_or_seconds, parse_duration};
 use serde::Deserialize;
 use serde_json::{Deserializer, Error, json};
@@ -32,7 +32,7 @@ fn both_ways(json: &str) -> [Result<Duration, Error>; 2] {
 
 #[test]
 fn only_the_crate_precision_has_the_feature() {
-    // Without the feature, serde_json refuses a number that no float can hold.
+    // Without the feature, serde_json refuses a number that is too large for a float.
     let has_feature = serde_json::from_str::<serde_json::Value>("1e400").is_ok();
     assert_eq!(has_feature, env!("CARGO_PKG_NAME") == "precision");
 }
@@ -61,7 +61,7 @@ fn reads_whole_numbers() {
         human_or_millis::deserialize(&mut Deserializer::from_str(json)).unwrap();
     let pause = Some(Duration::from_millis(1_500));
     assert_eq!(several, [pause, pause, pause, None]);
-    // A library can hold the map in a value of its own, which doesn't lend its keys.
+    // A library can hold the map in a value of its own. Then the keys are not borrowed.
     let held = json!({ "$serde_json::private::Number": "30.0" });
     let read: Duration = human_or_seconds::deserialize(held).unwrap();
     assert_eq!(read, Duration::from_secs(30));

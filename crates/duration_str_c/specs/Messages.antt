@@ -19,8 +19,8 @@ ShowsRefusal shown bits bytes old len new =
     IsTold (IsShown (codes "unknown option") old len new) (IsShown (codes "not UTF-8") old len new)
     (λ nanos. IsShown [] old len new) (λ cause. IsShown (shown cause) old len new) bits bytes
 
--- Of the four cases, that of a refused text does not apply. The line says that an option is unknown
--- or that the bytes are not UTF-8, or it is empty if the bytes are read.
+-- The last of the four cases does not apply. The line says that an option is unknown or that the
+-- bytes are not UTF-8, or it is empty if the bytes are read.
 abbrev pub IsSaidOf : ℕ → List ℕ → List ℕ → Type 0
 IsSaidOf bits bytes line =
     IsTold (line ≡ codes "unknown option") (line ≡ codes "not UTF-8") (λ nanos. line ≡ []) (λ cause. ⊥) bits bytes

@@ -36,8 +36,8 @@ pub fn duration_str_one_line(
     }
 }
 
-/// Does what `duration_str_one_line` does, but writes the report: the line, and for a syntax fault
-/// in a text that can stand above a caret, the text and the caret above the line.
+/// Does what `duration_str_one_line` does, but writes the report. For most syntax faults it is the
+/// text, a caret below the place, and the line. For other faults it is the line.
 pub fn duration_str_report(
     text: &[u8],
     options: u32,

@@ -1,4 +1,4 @@
-//! Tests of what public functions return, mostly of the library.
+//! Tests of what public functions return. Most of the functions are the library's.
 #![tactic(auto)]
 
 #[cfg(test)]

@@ -75,7 +75,7 @@ pub const UNITS: &str =
 /// The line where no unit could stand, but an operator could.
 pub const OPERATORS: &str = "expected ['+', '*']";
 
-/// The line where only a number could stand.
+/// The line where neither a unit nor an operator could stand.
 pub const NUMBER: &str = "expected number";
 
 pub const TOO_LARGE: &str = "number too large to fit in target type";

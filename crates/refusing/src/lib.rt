@@ -19,7 +19,7 @@ impl Requests {
 }
 
 /// Passes each request for memory on to another allocator, except the one that it refuses, if any.
-/// Growing a block is a request too.
+/// Growing or shrinking a block is a request too.
 #[derive(Drop)]
 pub struct Refusing<B: Allocator> {
     inner: B,

@@ -10,8 +10,8 @@ abbrev pub IsWithoutLineFeed : List ℕ → List ℕ → Type 0
 IsWithoutLineFeed line text =
     (line ≡ with_line_feed text) ⊎ ((text ≡ line) × ((front : List ℕ) → line ≢ with_line_feed front))
 
--- By all rules the new text is read as the same value as the old one. If the old text is an
--- expression and is refused, the new one is refused for the same cause.
+-- By all rules, if the old text is read, the new one is read as the same value. If the old text is
+-- an expression and is refused, the new one is refused for the same cause.
 pub record IsReadAsBefore (old new : List ℕ) : Type 0 where
   pub value : (r : Rules) (nanos : ℕ) → IsRead r old nanos → IsRead r new nanos
   pub cause : (r : Rules) (lexemes : List (List ℕ)) (cause : Cause) → IsSentenceOf r lexemes old

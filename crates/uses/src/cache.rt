@@ -1,4 +1,4 @@
-//! The key of a cache: one text for each value.
+//! The key of a cache: one text for each value and style.
 #![tactic(auto, using(crate::proofs::CacheLemmas::key_is_canonical))]
 
 ghost use Rattle.std.specs.Prelude.{◌≡◌, ℕ, List, Option, ◌↔◌, IsTrue, IfOk, IfErr, ◌⊎◌, chars};

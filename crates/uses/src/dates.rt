@@ -10,7 +10,7 @@ use duration_str::{Fault, after_naive_date_time, before_naive_date_time};
 use jiff::Timestamp;
 use jiff::civil::DateTime;
 
-/// Returns the date and time before which files are deleted, if files are kept this long.
+/// Returns the date and time that is this long ago. Files that are older are deleted.
 pub fn cut_off(now: Timestamp, kept: &str) -> Result<DateTime, Fault<'_>>
     ensures { MovesTo IsCivil (λ nanos. now.nanosecond -ℤ pos nanos) kept.now result }
 {

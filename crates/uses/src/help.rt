@@ -108,9 +108,8 @@ pub fn humantime_examples() -> [(&'static str, Options, Result<Duration, Cause>)
     ]
 }
 
-/// Returns words for a help page that people write for units, but that name no unit under any
-/// options, each after the name to write instead. Under all options that name stands for the unit
-/// that people mean by the word.
+/// Returns words that people write for units, but that name no unit under any options. Before each
+/// word stands the name to write instead. Under all options it names the unit that people mean.
 ///
 /// ```text
 /// refused_words()[1] // `min` for `mins`

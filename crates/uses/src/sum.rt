@@ -11,9 +11,8 @@ use duration_str::laws::{one_sentence, reorder, sum_of_texts};
 use duration_str::{Options, TimeUnit, parse_humantime_specialized, parse_with_default_unit};
 use std::time::Duration;
 
-/// Sorts the terms of a sum in place, the longest first, as a list of laps is often shown. The
-/// sorted sum is accepted exactly if the old one is, and has the same value, with whatever default
-/// unit.
+/// Sorts the terms of a sum in place, the longest first. The sorted sum is accepted exactly if the
+/// old one is, and has the same value, with whatever default unit.
 ///
 /// ```text
 /// // 29ms + 3min + 13s is written as 3min + 13s + 29ms

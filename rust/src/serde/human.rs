@@ -88,8 +88,8 @@ use serde::de::{self, Deserialize, Deserializer, IgnoredAny, MapAccess, Unexpect
 use serde::ser::{self, Serialize, Serializer};
 
 /// The types of fields that this module, [`human_require_unit`](crate::human_require_unit),
-/// [`human_or_seconds`](crate::human_or_seconds) and [`human_or_millis`](crate::human_or_millis)
-/// write and read.
+/// [`human_or_seconds`](crate::human_or_seconds), [`human_or_millis`](crate::human_or_millis) and
+/// [`humantime_serde`](crate::humantime_serde) write and read.
 ///
 /// A map with values of the type [`HumanDuration`] needs no `with`:
 ///
@@ -157,7 +157,7 @@ pub fn deserialize<'de, T: HumanText, D: Deserializer<'de>>(
     T::deserialize_human::<D, TEXT>(deserializer)
 }
 
-/// The ways in which a field is read and written. `STRICT` is that of the module `humantime`.
+/// The ways in which a field is read and written. `STRICT` is that of `humantime_serde`.
 pub(crate) const TEXT: u8 = 0;
 pub(crate) const REQUIRE_UNIT: u8 = 1;
 pub(crate) const SECONDS: u8 = 2;

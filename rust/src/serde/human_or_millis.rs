@@ -1,5 +1,5 @@
 //! This module is for `#[serde(with = "duration_str::human_or_millis")]`. It is like [`human`], but
-//! a number without a unit counts milliseconds, in a text and also by itself.
+//! also reads numbers, as milliseconds. In a text, a number without a unit counts milliseconds too.
 //!
 //! So `timeout = 1500` in TOML, `"timeout": 1500` and `"timeout": "1500"` in JSON and
 //! `timeout: 1500` in YAML are 1.5 seconds. [`parse_in`](crate::parse_in) reads the texts, so `+`
