@@ -94,9 +94,7 @@ interface Counted<Name extends Unit> {
      * these options allow are left.
      */
     units?: readonly Name[] | undefined;
-    /**
-     * The greatest number of parts. The rest is left out. `Infinity` means all parts.
-     */
+    /** The greatest number of parts. `Infinity` means all parts. */
     parts?: number | undefined;
     /** The largest unit. With `d`, 120 days are `120d`. */
     largest?: Name | undefined;
@@ -162,7 +160,7 @@ export interface Expected {
 interface Refused {
     /** The whole text. */
     readonly text: string;
-    /** If this is not a syntax fault, all fields are false. */
+    /** For a fault that is not a syntax fault, all fields are false. */
     readonly expected: Expected;
 }
 
@@ -170,8 +168,8 @@ interface Refused {
 export interface SyntaxFault extends Refused {
     readonly code: "SYNTAX";
     /**
-     * Where the fault is, in UTF-16 units, as strings count: `text.slice(index)` begins with
-     * `found`, if that is not null.
+     * Where the fault is, in UTF-16 units: `text.slice(index)` begins with `found`, if `found` is
+     * not null.
      */
     readonly index: number;
     /** The same place, in bytes of UTF-8. */
@@ -234,7 +232,7 @@ export type Fault = Refusal & Told;
 /**
  * The error for a refused text. In Node 20 a structured clone keeps the message and the `cause`.
  * `toJSON` returns the name, the message and what the `cause` has. In Node `import` and `require`
- * give the same class, and `duration-str/plain` has another one of the same name.
+ * give the same class, and `duration-str/plain` has another class.
  *
  * ```js
  * try {
@@ -276,9 +274,10 @@ export declare const version: string;
  * `7200000`. A number with a fraction is refused as its text would be.
  *
  * @throws DurationError if the text or the number is refused
- * @throws TypeError if the options are not a plain object, if one of them is unknown or of another
- * type, or if `text` is not a string. With a `defaultUnit`, a number and a bigint are read too.
- * @throws RangeError if `defaultUnit` is a string that names no unit, stands beside
+ * @throws TypeError if the options are not a plain object, if one of them is unknown or has the
+ * wrong type, or if `text` is not a string. With a `defaultUnit`, a number and a bigint are read
+ * too.
+ * @throws RangeError if `defaultUnit` is an unknown or a Chinese name, stands beside
  * `requireUnit: true`, or is not the second while `noCalc` is `false`. With a `defaultUnit`, it is
  * also thrown for NaN, and for a number of 2^53 or more, which can have lost digits.
  * @throws Error if WebAssembly is missing or refused. Other functions can throw it too. The message
@@ -330,7 +329,7 @@ export function tryParseNs(
  * console.log(strict.test("1h 30m"), strict.test("90")); // true false
  * ```
  *
- * @throws TypeError, RangeError for an option for which `parse` throws it
+ * @throws TypeError, RangeError for options for which `parse` throws it
  */
 export function pattern(options?: Options): string;
 
@@ -343,11 +342,11 @@ export function pattern(options?: Options): string;
  * than 1e-10 ns below the middle may be rounded up too.
  *
  * @throws RangeError if the number is negative, 2^64 nanoseconds or more, NaN or infinite. It is
- * also thrown if a unit or the style does not exist, if `parts` is neither a whole number from 1 on
- * nor `Infinity`, if the largest unit is shorter than the smallest, or if `units` is empty or has
- * no unit between these two.
+ * also thrown if the name of a unit or of the style is unknown, if `parts` is neither a whole
+ * number from 1 on nor `Infinity`, if the largest unit is shorter than the smallest, or if `units`
+ * is empty or has no unit from the largest to the smallest.
  * @throws TypeError if the duration is not a number, if the format is not a plain object, or if an
- * option is unknown or of another type
+ * option is unknown or has the wrong type
  */
 export function format(milliseconds: number, format?: Format): string;
 
