@@ -87,7 +87,7 @@ struct state {
 
 struct said {
     uint32_t on;      /* the flags that are on */
-    uint32_t off;     /* the flags that are off, except one whose value is UNSAID */
+    uint32_t off;     /* the flags that the caller has turned off */
     int default_unit; /* -1 if none is named */
 };
 
@@ -727,7 +727,7 @@ struct list {
     struct reading reading;
     int raises;
     Py_ssize_t first;   /* the index of the first value, or -1 for a value by itself */
-    PyObject *function; /* for timedelta64: called for values that have no text; otherwise NULL */
+    PyObject *function; /* for timedelta64: called for values not read here; otherwise NULL */
 };
 
 /* A function that is called may have made the list longer or shorter. */
@@ -885,12 +885,12 @@ PyDoc_STRVAR(parse_ns_doc,
     "If you name one, even seconds, a whole number that is not a text is read as its\n"
     "digits would be. It is an int (also NumPy's, but no bool), or a float that is\n"
     "whole and below 2**53.\n\n"
-    "Raises DurationError if the text is refused, or with a default unit the\n"
-    "number, such as -1, 1.5 or 2**64. Raises DurationTypeError for any other value,\n"
-    "also for NaN and for a float of 2**53 or more. Raises ValueError for an int\n"
-    "with more digits than Python writes, if `default_unit` is a text that names no\n"
-    "unit, if you name it and also require units, or if it is not the second and you\n"
-    "also write `no_calc=False`.\n\n"
+    "Raises DurationError if the text is refused. With a default unit it is also\n"
+    "raised for numbers such as -1, 1.5 and 2**64. Raises DurationTypeError for any\n"
+    "other value, also for NaN and for a float of 2**53 or more. Raises ValueError\n"
+    "for an int with more digits than Python writes, if `default_unit` is a text\n"
+    "that names no unit, if you name it and also require units, or if it is not the\n"
+    "second and you also write `no_calc=False`.\n\n"
     ">>> duration_str.parse_ns('1500', default_unit='ms')\n"
     "1500000000\n"
     ">>> duration_str.parse_ns(1500, default_unit='ms')\n"
