@@ -26,7 +26,8 @@ function rustReading(text, { requireUnit, defaultUnit, ...options }) {
     const isPlain = names.length === 0;
     if (requireUnit && isPlain) return `parse_require_unit(${literal})`;
     if (defaultUnit && isPlain) return `parse_in(${literal}, ${rustUnit(defaultUnit)})`;
-    // `parse_in` turns `no_calc` on, but `parse_with_default_unit` doesn't.
+    // The default unit is not the second, so `parse_in` turns `no_calc` on.
+    // `parse_with_default_unit` doesn't.
     if (defaultUnit) names.unshift("noCalc");
     const fields = names.map((name) => `${idOf(name)}: true, `).join("");
     const taken = fields ? `Options { ${fields}..Options::off() }` : "Options::off()";
