@@ -32,14 +32,14 @@ interface Switches {
     cnUnit?: boolean | undefined;
 }
 
-/** Options that can require units, and so name no default unit. */
+/** Options that name no default unit. They can require units. */
 interface RequiringOptions extends Switches {
     /** A number without a unit is refused, such as in `90` and `1h 30`. */
     requireUnit?: boolean | undefined;
     defaultUnit?: undefined;
 }
 
-/** Options that can name the default unit, and so don't require units. */
+/** Options that can name the default unit. They don't require units. */
 interface CountingOptions extends Switches {
     /**
      * A number without a unit counts this unit; with any unit except seconds, `+` and `*` are not
@@ -54,13 +54,13 @@ interface CountingOptions extends Switches {
     noCalc?: true | undefined;
 }
 
-/** Options that name seconds as the default unit, so that `noCalc` can be `false`. */
+/** Options that name seconds as the default unit. `noCalc` can be `false` here. */
 interface SecondsOptions extends Switches {
     defaultUnit: "s" | "sec" | "second" | "seconds";
     requireUnit?: false | undefined;
 }
 
-/** Options that name the default unit, under which numbers are read. */
+/** Options that name the default unit, so that numbers are read too. */
 export type NumberOptions = CountingOptions & { defaultUnit: Unit } | SecondsOptions;
 
 /**
@@ -338,8 +338,8 @@ export function pattern(options?: Options): string;
  * `1h 30min`, and with `{ parts: 1 }` it is `1h`.
  *
  * A number with a fraction, such as a difference of `performance.now()`, is rounded to the nearest
- * nanosecond: `format(1.005)` is `1ms 5µs`. The middle of two is rounded up. A number that is less
- * than 1e-10 ns below the middle may be rounded up too.
+ * nanosecond: `format(1.005)` is `1ms 5µs`. Half a nanosecond is rounded up. A fraction that is
+ * less than 1e-10 ns below it may be rounded up too.
  *
  * @throws RangeError if the number is negative, 2^64 nanoseconds or more, NaN or infinite. It is
  * also thrown if the name of a unit or of the style is unknown, if `parts` is neither a whole
