@@ -35,8 +35,8 @@ IMPOSSIBLE += (Warning,)
 
 
 def first(make, *choices):
-    """Returns what is made of the first choice for which `make` raises none of IMPOSSIBLE. If there
-    is none, returns None."""
+    """Calls `make` with one choice after another until it raises none of IMPOSSIBLE, and returns
+    its result. Returns None if there are no more choices."""
     for choice in choices:
         try:
             return make(choice)
@@ -139,7 +139,7 @@ class Column(list):
 
 class Kinds(unittest.TestCase):
     def check(self, name, column, nanos=10**6, calls=(parse_many, to_timedelta)):
-        """`nanos` are what the column's one value is read as, if its type is read."""
+        """The column has one value. If its type is read, the value is `nanos` nanoseconds."""
         for call in calls if numpy else calls[:1]:
             with self.subTest(call=call.__name__, name=name, type=type(column)):
                 if name in READ or (call is to_timedelta and name in LENGTHS):

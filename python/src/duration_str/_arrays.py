@@ -57,7 +57,7 @@ def _flat(values: Any, name: str) -> list[Any]:
         missing = _missing_in(values)
         flat: Any = numpy.full(missing.shape, refused, dtype=object)
         flat[missing] = None
-    elif not has_dtype:  # Of Arrow's integers with gaps NumPy would make floats.
+    elif not has_dtype:  # NumPy would make floats of Arrow's integers with gaps.
         return list(values.to_pylist())
     else:
         flat = numpy.asarray(values, dtype=object)

@@ -10,9 +10,9 @@
 #include <duration_str.h>
 #include <string.h>
 
-/* The headers of CPython 3.11 count references in place. From 3.12 on, interpreters share None and
- * other objects that never end, so the counts of these must not change. The functions of the
- * running interpreter know such objects. */
+/* The headers of CPython 3.11 count references inline. From 3.12 on, None and other objects are
+ * immortal, so their counts must not change. The functions of the running interpreter know such
+ * objects. */
 #if PY_VERSION_HEX < 0x030c0000
 #undef Py_NewRef
 #undef Py_INCREF
@@ -694,7 +694,7 @@ static int end_turn(void) {
 }
 
 /* format_list(values, function, texts, limits): appends the text of each value, or None if the
- * value is missing, to `texts`. The length of `texts` then says at which value an error is. */
+ * value is missing, to `texts`. After an error, the length of `texts` is the value's position. */
 static PyObject *format_list(PyObject *self, PyObject *arguments) {
     PyObject *values, *function, *texts;
     struct limits limits;
