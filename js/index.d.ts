@@ -60,7 +60,7 @@ interface SecondsOptions extends Switches {
     requireUnit?: false | undefined;
 }
 
-/** Options that name the default unit, so that numbers are read too. */
+/** Options that name the default unit, so that numbers can be read too. */
 export type NumberOptions = CountingOptions & { defaultUnit: Unit } | SecondsOptions;
 
 /**
@@ -275,8 +275,8 @@ export declare const version: string;
  *
  * @throws DurationError if the text or the number is refused
  * @throws TypeError if the options are not a plain object, if one of them is unknown or has the
- * wrong type, or if `text` is not a string. With a `defaultUnit`, a number and a bigint are read
- * too.
+ * wrong type, or if `text` is not a string. With a `defaultUnit` it can also be a number or a
+ * bigint.
  * @throws RangeError if `defaultUnit` is an unknown or a Chinese name, stands beside
  * `requireUnit: true`, or is not the second while `noCalc` is `false`. With a `defaultUnit`, it is
  * also thrown for NaN, and for a number of 2^53 or more, which can have lost digits.

@@ -155,7 +155,7 @@ function shell(text, options, format) {
     return ["duration", ...taken, ...printed, "--", `'${text}'`].join(" ");
 }
 
-/** The values are a title, how to get the package in a clone, and a function that returns the
+/** The values are a title, how to get the package from a clone, and a function that returns the
  * program, or an empty text if there is none. */
 export const LANGUAGES = {
     rust: ["Rust", 'duration-str = { path = "../duration_str/rust" }', rust],
