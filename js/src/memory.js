@@ -60,7 +60,7 @@ function reserve(length) {
 
 let decoder;
 
-/** Decodes where there is no decoder, such as in jsdom. */
+/** Decodes where there is no decoder, such as in some versions of jsdom. */
 function decodeEscaped(bytes) {
     let escaped = "";
     for (let place = 0; place < bytes.length; place++) {
