@@ -32,14 +32,14 @@ interface Switches {
     cnUnit?: boolean | undefined;
 }
 
-/** Options that can require units, and so name no default unit. */
+/** Options that name no default unit. They can require units. */
 interface RequiringOptions extends Switches {
     /** A number without a unit is refused, such as in `90` and `1h 30`. */
     requireUnit?: boolean | undefined;
     defaultUnit?: undefined;
 }
 
-/** Options that can name the default unit, and so don't require units. */
+/** Options that can name the default unit. They don't require units. */
 interface CountingOptions extends Switches {
     /**
      * A number without a unit counts this unit; with any unit except seconds, `+` and `*` are not
@@ -54,13 +54,13 @@ interface CountingOptions extends Switches {
     noCalc?: true | undefined;
 }
 
-/** Options that name seconds as the default unit, so that `noCalc` can be `false`. */
+/** Options that name seconds as the default unit. `noCalc` can be `false` here. */
 interface SecondsOptions extends Switches {
     defaultUnit: "s" | "sec" | "second" | "seconds";
     requireUnit?: false | undefined;
 }
 
-/** Options that name the default unit, under which numbers are read. */
+/** Options that name the default unit, so that numbers can be read too. */
 export type NumberOptions = CountingOptions & { defaultUnit: Unit } | SecondsOptions;
 
 /**
@@ -94,9 +94,7 @@ interface Counted<Name extends Unit> {
      * these options allow are left.
      */
     units?: readonly Name[] | undefined;
-    /**
-     * The greatest number of parts. The rest is left out. `Infinity` means all parts.
-     */
+    /** The greatest number of parts. `Infinity` means all parts. */
     parts?: number | undefined;
     /** The largest unit. With `d`, 120 days are `120d`. */
     largest?: Name | undefined;
@@ -162,7 +160,7 @@ export interface Expected {
 interface Refused {
     /** The whole text. */
     readonly text: string;
-    /** If this is not a syntax fault, all fields are false. */
+    /** For a fault that is not a syntax fault, all fields are false. */
     readonly expected: Expected;
 }
 
@@ -170,8 +168,8 @@ interface Refused {
 export interface SyntaxFault extends Refused {
     readonly code: "SYNTAX";
     /**
-     * Where the fault is, in UTF-16 units, as strings count: `text.slice(index)` begins with
-     * `found`, if that is not null.
+     * Where the fault is, in UTF-16 units: `text.slice(index)` begins with `found`, if `found` is
+     * not null.
      */
     readonly index: number;
     /** The same place, in bytes of UTF-8. */
@@ -234,7 +232,7 @@ export type Fault = Refusal & Told;
 /**
  * The error for a refused text. In Node 20 a structured clone keeps the message and the `cause`.
  * `toJSON` returns the name, the message and what the `cause` has. In Node `import` and `require`
- * give the same class, and `duration-str/plain` has another one of the same name.
+ * give the same class, and `duration-str/plain` has another class.
  *
  * ```js
  * try {
@@ -276,9 +274,10 @@ export declare const version: string;
  * `7200000`. A number with a fraction is refused as its text would be.
  *
  * @throws DurationError if the text or the number is refused
- * @throws TypeError if the options are not a plain object, if one of them is unknown or of another
- * type, or if `text` is not a string. With a `defaultUnit`, a number and a bigint are read too.
- * @throws RangeError if `defaultUnit` is a string that names no unit, stands beside
+ * @throws TypeError if the options are not a plain object, if one of them is unknown or has the
+ * wrong type, or if `text` is not a string. With a `defaultUnit` it can also be a number or a
+ * bigint.
+ * @throws RangeError if `defaultUnit` is an unknown or a Chinese name, stands beside
  * `requireUnit: true`, or is not the second while `noCalc` is `false`. With a `defaultUnit`, it is
  * also thrown for NaN, and for a number of 2^53 or more, which can have lost digits.
  * @throws Error if WebAssembly is missing or refused. Other functions can throw it too. The message
@@ -330,7 +329,7 @@ export function tryParseNs(
  * console.log(strict.test("1h 30m"), strict.test("90")); // true false
  * ```
  *
- * @throws TypeError, RangeError for an option for which `parse` throws it
+ * @throws TypeError, RangeError for options for which `parse` throws it
  */
 export function pattern(options?: Options): string;
 
@@ -339,15 +338,15 @@ export function pattern(options?: Options): string;
  * `1h 30min`, and with `{ parts: 1 }` it is `1h`.
  *
  * A number with a fraction, such as a difference of `performance.now()`, is rounded to the nearest
- * nanosecond: `format(1.005)` is `1ms 5µs`. The middle of two is rounded up. A number that is less
- * than 1e-10 ns below the middle may be rounded up too.
+ * nanosecond: `format(1.005)` is `1ms 5µs`. Half a nanosecond is rounded up. A fraction that is
+ * less than 1e-10 ns below it may be rounded up too.
  *
  * @throws RangeError if the number is negative, 2^64 nanoseconds or more, NaN or infinite. It is
- * also thrown if a unit or the style does not exist, if `parts` is neither a whole number from 1 on
- * nor `Infinity`, if the largest unit is shorter than the smallest, or if `units` is empty or has
- * no unit between these two.
+ * also thrown if the name of a unit or of the style is unknown, if `parts` is neither a whole
+ * number from 1 on nor `Infinity`, if the largest unit is shorter than the smallest, or if `units`
+ * is empty or has no unit from the largest to the smallest.
  * @throws TypeError if the duration is not a number, if the format is not a plain object, or if an
- * option is unknown or of another type
+ * option is unknown or has the wrong type
  */
 export function format(milliseconds: number, format?: Format): string;
 

@@ -1,6 +1,6 @@
 """Builds the extension module with the library for C. The library is the archive that
 DURATION_STR_LIB names, or otherwise one that cargo builds. The build runs in a temporary folder. In
-a clone, the licences are copied beside this file if it can be written there."""
+a clone, the licences are copied beside this file if that folder can be written to."""
 
 import atexit
 import contextlib
@@ -118,9 +118,9 @@ class Sources(sdist):
         shutil.copytree(INCLUDE, pathlib.Path(base_dir, "include"))
 
 
-# Debian's setuptools uses these attributes also with other interpreters than Debian's.
+# Debian's setuptools uses these attributes even if the interpreter is not Debian's.
 install.install_layout = install.prefix_option = None
-# Earlier versions of setuptools get this command from another package.
+# Earlier versions of setuptools get the command bdist_wheel from the package wheel.
 if {"bdist_wheel", "dist_info"} & set(sys.argv):
     demand(
         any(map(importlib.util.find_spec, ["wheel", "setuptools.command.bdist_wheel"])),

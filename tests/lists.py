@@ -54,7 +54,7 @@ def in_javascript():
 export const UNITS = [{quoted(PRINTED)}];
 /** The styles, in the order of `enum duration_str_style`. */
 export const STYLES = [{quoted(STYLES)}];
-/** The codes of answers, in the order of `enum duration_str_cause`. */
+/** The codes of answers, at the places of their numbers. */
 export const CODES = [{quoted(CAUSES[:-1])}];
 /** Patterns of sentences: without options, with `noCalc`, with `requireUnit`, and with both. U
  * stands for a unit. */

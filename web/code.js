@@ -26,7 +26,8 @@ function rustReading(text, { requireUnit, defaultUnit, ...options }) {
     const isPlain = names.length === 0;
     if (requireUnit && isPlain) return `parse_require_unit(${literal})`;
     if (defaultUnit && isPlain) return `parse_in(${literal}, ${rustUnit(defaultUnit)})`;
-    // `parse_in` turns `no_calc` on, but `parse_with_default_unit` doesn't.
+    // The default unit is not the second, so `parse_in` turns `no_calc` on.
+    // `parse_with_default_unit` doesn't.
     if (defaultUnit) names.unshift("noCalc");
     const fields = names.map((name) => `${idOf(name)}: true, `).join("");
     const taken = fields ? `Options { ${fields}..Options::off() }` : "Options::off()";
@@ -154,7 +155,7 @@ function shell(text, options, format) {
     return ["duration", ...taken, ...printed, "--", `'${text}'`].join(" ");
 }
 
-/** The values are a title, how to get the package in a clone, and a function that returns the
+/** The values are a title, how to get the package from a clone, and a function that returns the
  * program, or an empty text if there is none. */
 export const LANGUAGES = {
     rust: ["Rust", 'duration-str = { path = "../duration_str/rust" }', rust],

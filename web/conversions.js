@@ -1,8 +1,8 @@
 // Converts texts in other notations. These are the rules for a notation that is added:
 //
-// - People write durations like this: another program reads or prints it, a standard has it, or it
-//   is ordinary prose.
-// - The whole text is in this notation, and not only a part of it.
+// - People use the notation: another program reads or prints it, a standard has it, or it is
+//   ordinary prose.
+// - The whole text is in the notation, and not only a part of it.
 // - The text itself says what is meant. `10' 30"` is minutes and seconds; `5'` may be feet, so it
 //   is left out. No calendar is needed: `P1M` is left out, since months vary.
 // - If people use a text with two meanings, such as `1:30`, both are offered.

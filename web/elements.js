@@ -7,7 +7,7 @@ const CHINESE = /\p{Script=Han}/u;
 export const element = (id) => document.getElementById(id);
 export const text = element("text");
 
-/** Its language is Chinese if the content has a Chinese character. */
+/** The element's language is Chinese if the content has a Chinese character. */
 export function make(name, ...content) {
     const one = document.createElement(name);
     one.append(...content);

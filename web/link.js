@@ -70,8 +70,8 @@ function take(word) {
     return true;
 }
 
-/** Returns the words that change nothing: those that are unknown or badly written, and those about
- * something that an earlier word has chosen. */
+/** Returns the words that it ignores, such as unknown ones and those about something that an
+ * earlier word has chosen. */
 export function readLink() {
     for (const box of boxes) box.checked = box.disabled = false;
     for (const [name, box] of Object.entries(printing)) box.value = WHOLE[name];

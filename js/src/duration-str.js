@@ -56,7 +56,8 @@ function milliseconds() {
 const negative = (value) => new RangeError(`a duration is not negative: ${value}`);
 const tooLong = (longest) => new RangeError(`a duration is at most 584 years, ${longest}`);
 
-/** Puts nanoseconds (a bigint) or milliseconds (a number) at ANSWER. */
+/** Puts the nanoseconds of a duration at ANSWER. The value is a bigint of nanoseconds, or a number
+ * of milliseconds. */
 function put(value) {
     if (typeof value === "bigint") {
         if (value < 0n) throw negative(value);
@@ -97,7 +98,7 @@ function digitsOf(value, bits) {
     throw new RangeError(`a number must be below 2^53, or a bigint, not ${value}`);
 }
 
-/** Returns the fault, or null if the text is read. Then its value is at ANSWER. */
+/** Returns the fault. If the text is read, returns null, and the value is at ANSWER. */
 function faultIn(value, options) {
     const isText = typeof value === "string";
     if (!isText && typeof value !== "number" && typeof value !== "bigint") throw notText(value);

@@ -5,7 +5,7 @@ import { instance } from "instance";
 const PAGE = 65_536;
 const LONE_SURROGATE = /\p{Surrogate}/gu;
 
-/** The size of the buffer that the module writes to. Everything that it writes fits. */
+/** The size of the buffer that the module writes to. The longest report fits. */
 const WRITTEN_SIZE = 867;
 /** A text to read is short if it has at most this many UTF-16 units. */
 const SHORT_TEXT = 40;
@@ -60,7 +60,7 @@ function reserve(length) {
 
 let decoder;
 
-/** Decodes where there is no decoder, such as in jsdom. */
+/** Decodes where there is no decoder, such as in some versions of jsdom. */
 function decodeEscaped(bytes) {
     let escaped = "";
     for (let place = 0; place < bytes.length; place++) {

@@ -91,7 +91,7 @@ export function bitsOf(options) {
     if (bits & REQUIRE_UNIT && bits & READS_NUMBERS) {
         throw new RangeError("the options requireUnit and defaultUnit contradict each other");
     }
-    // If `noCalc` is false and yet on, the default unit has turned it on.
+    // If `noCalc` is false and its bit is on, the default unit has turned it on.
     if (wantsOperators && bits & NO_CALC) {
         const why = "a factor would count that unit too";
         throw new RangeError(

@@ -44,8 +44,8 @@ function hideLong(cause, name) {
     Object.defineProperty(cause, name, { get: () => text });
 }
 
-/** Except the message, the fault's fields are in `cause`, since a structured clone of an error can
- * keep that, but no fields of this class. */
+/** The fault's fields, except the message and the report, are in `cause`. A structured clone of an
+ * error can keep the `cause`, but no fields of this class. */
 export class DurationError extends Error {
     #report;
 

@@ -16,7 +16,7 @@ const DAY = 86_400_000_000_000n;
 
 const LENGTHS = Object.fromEntries(NAMES.map((name) => [name, parseNs(`1${name}`)]));
 
-/** A short text that begins with 0 is a zero, which has no parts. */
+/** A printed text that begins with 0 is a zero, which has no parts. */
 function checkRow([text, limits, short, long, secs, nanos]) {
     const value = parseNs(text);
     const texts = { short, compact: short.replaceAll(" ", ""), long };
@@ -115,7 +115,7 @@ test("refuses formats that there are not", () => {
         [{ style: "wide" }, new RangeError(`${style} wide`)],
         [{ style: 1 }, new TypeError("the option style must be a string, not number")],
         [{ parts: "2" }, new TypeError("the option parts must be a number, not string")],
-        // None of these is a name of a unit.
+        // None of these names a unit if all options are off.
         ...["x", "", "d 6d", "1d", " d", "d*1d", "分", "__proto__"].map(
             (name) => [{ units: ["d", name] }, noUnit(name)],
         ),

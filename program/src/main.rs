@@ -22,7 +22,7 @@ fn outcome() -> (u8, &'static str) {
 fn main() -> ExitCode {
     let (status, line) = outcome();
     if !line.is_empty() {
-        // The exit status too says that the run failed.
+        // The exit status also says that the run failed.
         let _ = writeln!(io::stderr(), "{line}");
     }
     ExitCode::from(status)

@@ -1,4 +1,4 @@
-//! Replaces the toolchain's library: a vector and a text whose memory can be refused.
+//! Replaces the toolchain's library: a vector and a text that return an error if memory is lacking.
 use std::fmt;
 use std::marker::PhantomData;
 use std::ops::Deref;

@@ -181,7 +181,7 @@ class Reading(unittest.TestCase):
         column = pandas.Series([1500, None])
         self.assertEqual(numbers(to_timedelta(column, default_unit="ms")), [1_500_000_000, None])
         for value, line in REFUSED_IN_MILLIS:
-            # Beside a gap, some versions of pandas make a float of 2**64, whose error is another.
+            # Beside a gap, some versions of pandas turn 2**64 into a float, whose error differs.
             for kind in [object] if value == 2**64 else [object, None]:
                 column = pandas.Series([None, value], dtype=kind)
                 with self.assertRaisesRegex(ValueError, f"^at index 1: {re.escape(line)}$"):

@@ -29,8 +29,7 @@ class Documentation(unittest.TestCase):
     def test_names_what_is_public(self):
         for name in duration_str.__all__:
             self.assertEqual(getattr(duration_str, name).__module__, "duration_str")
-            # The module's docstring describes public names that have no docstring, such as a name
-            # for a type.
+            # The module's docstring describes public names that have no docstring, such as `Unit`.
             self.assertTrue(
                 getattr(duration_str, name).__doc__ or f"`{name}`" in duration_str.__doc__, name
             )

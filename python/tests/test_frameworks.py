@@ -123,7 +123,7 @@ class Lines(unittest.TestCase):
 @unittest.skipUnless(has("dask") and has("pandas"), "Dask or pandas is missing")
 class Cluster(unittest.TestCase):
     def test_reads_a_million_texts_in_several_processes(self):
-        # 250,000 times 90 seconds and 7,200 seconds
+        # 250,000 times the sum of 90 and 7,200 seconds
         self.assertEqual(run("cluster.py"), (0, "21093 days 18:00:00 [1, 5, 9]\n", ""))
 
 

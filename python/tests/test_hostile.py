@@ -1,5 +1,5 @@
-"""Tests calls that must not crash, such as calls with subclasses that say something else than they
-hold, and with values that change while they are read."""
+"""Tests calls that must not crash, such as calls with subclasses whose methods lie about the value,
+and with values that change while they are read."""
 
 import concurrent.futures
 import datetime
@@ -27,7 +27,7 @@ SECOND = 10**9
 
 
 class Named(str):
-    """A str whose methods say something else than it holds."""
+    """A str whose methods lie about its text."""
 
     def __len__(self):
         return 7

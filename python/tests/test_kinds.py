@@ -1,5 +1,5 @@
-"""Tests columns of types that Python, NumPy, pandas and Arrow list against one table. A column of a
-type that is not in the table must be refused by the type's name."""
+"""Tests columns of the types that Python, NumPy, pandas and Arrow list. A table below has the types
+that are read. A column of another type must be refused by the type's name."""
 
 import array
 import ctypes
@@ -35,8 +35,8 @@ IMPOSSIBLE += (Warning,)
 
 
 def first(make, *choices):
-    """Returns what is made of the first choice for which `make` raises none of IMPOSSIBLE. If there
-    is none, returns None."""
+    """Calls `make` with one choice after another until it raises none of IMPOSSIBLE, and returns
+    its result. Returns None if there are no more choices."""
     for choice in choices:
         try:
             return make(choice)
@@ -75,7 +75,7 @@ def of_pandas():
     values += [pandas.Interval(0, 1)]
     for kind in pandas.core.dtypes.base._registry.dtypes:
         for given in words.get(kind.__name__, [()]):
-            # Not each version of pandas has each StringDtype.
+            # Not every version of pandas has every StringDtype.
             dtype = first(lambda given: kind(*given), given)
             if dtype is not None or kind is not pandas.StringDtype:
                 yield first(lambda value: pandas.array([value], dtype=dtype), *values)
@@ -124,7 +124,7 @@ def in_pandas(values):
             dtype = dtype.categories.dtype
         elif make is pandas.arrays.SparseArray:
             dtype = dtype.subtype
-        # pandas makes objects of what it has no type for.
+        # If pandas has no type for the values, it makes objects of them.
         if dtype != object:
             yield dtype.name, column
 
@@ -139,7 +139,7 @@ class Column(list):
 
 class Kinds(unittest.TestCase):
     def check(self, name, column, nanos=10**6, calls=(parse_many, to_timedelta)):
-        """`nanos` are what the column's one value is read as, if its type is read."""
+        """The column has one value. If its type is read, the value is `nanos` nanoseconds."""
         for call in calls if numpy else calls[:1]:
             with self.subTest(call=call.__name__, name=name, type=type(column)):
                 if name in READ or (call is to_timedelta and name in LENGTHS):

@@ -1,6 +1,5 @@
-"""Tests that each regular expression means the same to Python's engine as to tests/patterns, which
-shows that it matches exactly the texts that the grammar allows.
-"""
+"""Tests the regular expressions with Python's engine. tests/patterns compares them with the
+grammar."""
 
 import re
 import unittest

@@ -38,14 +38,14 @@ class Whole(enum.IntEnum):
 
 
 class Place:
-    """It can be the place of an item in a list, but is no number."""
+    """This can be the place of an item in a list, but is no number."""
 
     def __index__(self):
         return 1
 
 
-# Texts that are no names of units, such as Chinese names and letters that become a letter of a name
-# in capitals
+# Texts that can't name a default unit, such as Chinese names, and letters that become a letter of a
+# name in capitals
 NO_UNITS = ["", " ", "mins", "年", "毫秒", "1分", " ms", "ms ", "m s", "m\n", "m 0s", "1", "1ms", "0ms"]
 NO_UNITS += [
     "ms1",

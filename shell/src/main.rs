@@ -174,7 +174,7 @@ impl Run<'_> {
         }
     }
 
-    /// Nanoseconds are strings, since some programs drop digits of long numbers.
+    /// `nanoseconds` and `rest_ns` are strings, since some programs drop digits of long numbers.
     fn object(&mut self, text: &str, nanos: u64) -> io::Result<()> {
         self.output.write_all(b"{\"text\":")?;
         serde_json::to_writer(&mut self.output, text)?;

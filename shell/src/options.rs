@@ -41,8 +41,8 @@ pub struct Choices {
     #[arg(long, value_name = "WAY", default_value = "down", requires = "to",
         conflicts_with_all = SHAPES)]
     pub round: Round,
-    /// Read a number without a unit in this unit; alone it may be 12.5 or 1e-05. Unless the unit is
-    /// s, + and * are not read
+    /// Read a number without a unit in this unit; a text that is only a number may be 12.5 or
+    /// 1e-05. Unless the unit is s, + and * are not read
     #[arg(long, value_name = "UNIT", value_parser = unit)]
     pub from: Option<TimeUnit>,
     /// Print 1h 30min (short), 1h30min (compact) or 1 hour 30 minutes (long)
@@ -76,7 +76,7 @@ pub struct Choices {
     /// Print a JSON object for each text, also for a refused one
     #[arg(long, conflicts_with_all = ["field", "delimiter", "header"])]
     pub json: bool,
-    /// Print nothing; the status says whether all texts were read
+    /// Print no durations and no refusals; the status says whether all texts were read
     #[arg(short, long)]
     pub quiet: bool,
     /// End lines with NUL instead of a line feed, except JSON objects
@@ -255,9 +255,9 @@ fn with_list(shell: Shell, script: &str) -> String {
             script.replace("(LIST)", &format!("_sequence compadd - {words}"))
         }
         _ => {
-            // What was typed must not become a part of the words, since compgen expands them, and
-            // so would run a command that stands in them. A list with a blank is left alone, since
-            // `--units` refuses it.
+            // compgen expands its words, and would run a command in them. So the typed text must
+            // not become a part of them. A list with a blank is left alone, since `--units` refuses
+            // it.
             let answer = r#"COMPREPLY=($(compgen -W "LIST" -- "${cur}"))"#;
             let (words, last) = (UNITS.join(" "), r"${cur##*,}");
             let answers = format!(

@@ -138,7 +138,7 @@ fn refuses_wrong_usage() {
             "{words:?}: {errors}"
         );
     }
-    // An option can override that of an alias.
+    // An option can be repeated, such as after an alias that has it. The last one counts.
     assert_eq!(answer(&["--to", "s", "-q", "--to", "ms", "1h", "-q"]), "");
     assert_eq!(answer(&["--to", "s", "--to", "ms", "1h"]), "3600000\n");
     let word = OsStr::from_bytes(b"1h\xff");

@@ -1,14 +1,19 @@
 """page.py FILE [--pictures]: tries the page in this file in Chromium, or takes its pictures.
 web/check calls it.
 
-texts.json has texts and what the page shows for them, worked out by hand from docs/GRAMMAR.md:
-"values", printed and in nanoseconds, milliseconds, seconds and ISO 8601; the rows of their "terms";
-"notes" on them; the mark of "faults", and the sentence of some; the answers to "lines"; and what is
-offered if an option is "switched". "meant" has the values in seconds that people mean by texts.
-There are several if people use a text with several meanings, and null if nothing may be offered.
+texts.json has texts and what the page shows for them, written by hand:
+
+"values"    the printed text, and the value in nanoseconds, milliseconds, seconds and ISO 8601
+"terms"     the rows of the table of terms
+"notes"     the notes on the text
+"faults"    the part that is marked, and for some texts the sentence
+"lines"     the parts that are marked, and the rows of the table of lines
+"switched"  the text that is offered, its meaning, and the options with which it is read
+"meant"     the values in seconds that people mean by the text; null if nothing may be offered
+
 advice.test.js tries most of this without a browser, so only some of those rows are tried here.
 "typed" texts are typed character by character. "hostile" texts must be shown and do nothing else,
-and "hostile links" must choose nothing.
+and "hostile links" must not change how durations are printed.
 """
 import ast
 import base64

@@ -20,7 +20,7 @@ line feed) may be anywhere except inside a number or a unit. Each number must
 be below 2^64. Each term, each step of the evaluation and the value must be
 below 2^64 nanoseconds, which is some 584 years.
 
-If you name a default unit, whole numbers that are not texts are read too:
+If you name a default unit, numbers that are not texts can be read too:
 
 >>> duration_str.parse(1500, default_unit="ms")
 datetime.timedelta(seconds=1, microseconds=500000)
@@ -75,9 +75,9 @@ For other packages:
   duration_str.argparse.DURATION  a type of argparse's arguments
 
 In a model of pydantic a field may have the type `Duration`, or
-`DurationRequireUnit`, which refuses a number without a unit. `DurationField`
-makes such a type with other options. These types are only annotations: to make
-a value, call `parse`.
+`DurationRequireUnit`, which refuses a number without a unit. With
+`DurationField` you make such a type with other options. These types are only
+annotations: to make a value, call `parse`.
 """
 # The table of units above is made by tests/repository --write.
 

@@ -57,7 +57,7 @@ def _flat(values: Any, name: str) -> list[Any]:
         missing = _missing_in(values)
         flat: Any = numpy.full(missing.shape, refused, dtype=object)
         flat[missing] = None
-    elif not has_dtype:  # Of Arrow's integers with gaps NumPy would make floats.
+    elif not has_dtype:  # NumPy would make floats of Arrow's integers with gaps.
         return list(values.to_pylist())
     else:
         flat = numpy.asarray(values, dtype=object)
@@ -76,8 +76,8 @@ def _lengths(values: Any) -> Any:
 
 
 def _like(values: Any, result: Any) -> Any:
-    """Turns a flat array of results into a Series or an Index like the values, or otherwise into an
-    array. This has the shape of the values if they have one."""
+    """Turns a flat array of results into a Series or an Index like the values. For other values it
+    returns an array, in their shape if they have one."""
     pandas = sys.modules.get("pandas")
     if pandas is not None and isinstance(values, pandas.Series):
         return pandas.Series(result, index=values.index, name=values.name)
@@ -88,8 +88,8 @@ def _like(values: Any, result: Any) -> Any:
 
 def _nanos_of_value(value: Any, index: int, raises: bool, takes_numbers: bool) -> int:
     """Returns the nanoseconds of a value that has no text. They stand for NaT if the value is
-    missing, or if it is refused and `raises` is false. A timedelta64 in a unit that `nanos_of`
-    refuses raises TypeError even then."""
+    missing, or if it is refused and `raises` is false. A timedelta64 whose unit `nanos_of` refuses
+    raises TypeError even then, unless it is NaT."""
     import numpy
 
     if _is_missing(value):
@@ -185,9 +185,10 @@ def to_timedelta(
     and for a list one of the same length. For a single text it returns a
     Timedelta if pandas is imported, and otherwise a timedelta64.
 
-    Timedeltas are kept. (A timedelta64 must have a unit from weeks to
-    nanoseconds.) None, NaT, a float that is NaN, pandas' NA, and the masked
-    values of an array become NaT. A single None stays None, as in pandas.
+    Timedeltas are kept. (A timedelta64 that is not NaT must have a unit from
+    weeks to nanoseconds.) None, NaT, a float that is NaN, pandas' NA, and the
+    masked values of an array become NaT. A single None stays None, as in
+    pandas.
 
     If you name a default unit, even seconds, whole numbers are read too, as
     by `parse_ns`. So a column of integers is read, and a column of floats that
@@ -199,9 +200,9 @@ def to_timedelta(
     292 years, since timedelta64 can't hold it. A number that `parse_ns`
     refuses, except NaN, raises an error of the same type. Any other value in a
     column, such as bytes, raises DurationTypeError, even if a text before it
-    is refused. A timedelta of 2**63 nanoseconds or more raises OverflowError.
-    With `errors="coerce"` all of these become NaT. But a timedelta64 in any
-    other unit, such as years, raises TypeError even then.
+    is refused. A timedelta of 2**63 nanoseconds or more, in either direction,
+    raises OverflowError. With `errors="coerce"` all of these become NaT. But a
+    timedelta64 of any other unit, such as 5 years, raises TypeError even then.
     """
     raises = raises_errors(errors)
     reading = _native.reading(

@@ -68,7 +68,8 @@ def stand_in(name: str) -> Any | None:
 
 def values_of(texts: Any, name: str) -> list[Any]:
     """`name` is the name of the items' type. If the type is not read, a stand-in takes the place of
-    each value. Raises TypeError for a single text, and for an array of other than one dimension."""
+    each value. Raises TypeError for a single text, and for an array that is not one-dimensional.
+    """
     if isinstance(texts, (str, bytes, bytearray)):
         raise TypeError(f"the texts must be a sequence of str, not one {type(texts).__name__}")
     if getattr(texts, "ndim", 1) != 1:

@@ -14,7 +14,7 @@ from ._texts import DurationError, DurationTypeError
 
 
 def _read(value: Any, options: dict[str, Any]) -> Any:
-    """Returns a timedelta as it is if it is not negative."""
+    """Reads a value. A timedelta that is not negative is returned as it is."""
     core = import_module("pydantic_core")
     if isinstance(value, datetime.timedelta):
         if value < datetime.timedelta(0):
@@ -69,8 +69,8 @@ class _Shown(dict[str, Any]):
 
 class DurationField(WithOptions):
     """Makes pydantic 2 read a timedelta from a text, under these options, and
-    write it as a text in JSON. If you name a default unit, whole numbers are
-    read too, such as `1500` in JSON. Use this class in `Annotated`.
+    write it as a text in JSON. If you name a default unit, numbers can be read
+    too, such as `1500` in JSON. Use this class in `Annotated`.
 
     >>> from datetime import timedelta
     >>> from typing import Annotated

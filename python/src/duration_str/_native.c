@@ -10,9 +10,9 @@
 #include <duration_str.h>
 #include <string.h>
 
-/* The headers of CPython 3.11 count references in place. From 3.12 on, interpreters share None and
- * other objects that never end, so the counts of these must not change. The functions of the
- * running interpreter know such objects. */
+/* The headers of CPython 3.11 count references inline. From 3.12 on, None and other objects are
+ * immortal, so their counts must not change. The functions of the running interpreter know such
+ * objects. */
 #if PY_VERSION_HEX < 0x030c0000
 #undef Py_NewRef
 #undef Py_INCREF
@@ -87,7 +87,7 @@ struct state {
 
 struct said {
     uint32_t on;      /* the flags that are on */
-    uint32_t off;     /* the flags that are off, except one whose value is UNSAID */
+    uint32_t off;     /* the flags that the caller has turned off */
     int default_unit; /* -1 if none is named */
 };
 
@@ -694,7 +694,7 @@ static int end_turn(void) {
 }
 
 /* format_list(values, function, texts, limits): appends the text of each value, or None if the
- * value is missing, to `texts`. The length of `texts` then says at which value an error is. */
+ * value is missing, to `texts`. After an error, the length of `texts` is the value's position. */
 static PyObject *format_list(PyObject *self, PyObject *arguments) {
     PyObject *values, *function, *texts;
     struct limits limits;
@@ -727,7 +727,7 @@ struct list {
     struct reading reading;
     int raises;
     Py_ssize_t first;   /* the index of the first value, or -1 for a value by itself */
-    PyObject *function; /* for timedelta64: called for values that have no text; otherwise NULL */
+    PyObject *function; /* for timedelta64: called for values not read here; otherwise NULL */
 };
 
 /* A function that is called may have made the list longer or shorter. */
@@ -883,14 +883,14 @@ PyDoc_STRVAR(parse_ns_doc,
     "                seconds, `+` and `*` are not read\n\n"
     "You can give the default unit by any of its names, except for the Chinese ones.\n"
     "If you name one, even seconds, a whole number that is not a text is read as its\n"
-    "digits would be. It is an int (also NumPy's, but no bool), or a float that is\n"
-    "whole and below 2**53.\n\n"
-    "Raises DurationError if the text is refused, or with a default unit the\n"
-    "number, such as -1, 1.5 or 2**64. Raises DurationTypeError for any other value,\n"
-    "also for NaN and for a float of 2**53 or more. Raises ValueError for an int\n"
-    "with more digits than Python writes, if `default_unit` is a text that names no\n"
-    "unit, if you name it and also require units, or if it is not the second and you\n"
-    "also write `no_calc=False`.\n\n"
+    "digits would be. This can be an int (also NumPy's, but no bool), or a float\n"
+    "that is whole and below 2**53.\n\n"
+    "Raises DurationError if the text is refused. With a default unit it is also\n"
+    "raised for numbers such as -1, 1.5 and 2**64. Raises DurationTypeError for any\n"
+    "other value, also for NaN and for a float of 2**53 or more. Raises ValueError\n"
+    "for an int with more digits than Python writes, if `default_unit` is a text\n"
+    "that names no unit, if you name it and also require units, or if it is not the\n"
+    "second and you also write `no_calc=False`.\n\n"
     ">>> duration_str.parse_ns('1500', default_unit='ms')\n"
     "1500000000\n"
     ">>> duration_str.parse_ns(1500, default_unit='ms')\n"
@@ -921,10 +921,10 @@ PyDoc_STRVAR(format_doc,
     "rest is left out, and nothing is rounded up. If there are no parts, the text is\n"
     "a zero of the smallest chosen unit, such as `0 hours` or `0h`, or of seconds if\n"
     "that unit is shorter than a second.\n\n"
-    "Raises ValueError if the duration is negative, if `parts` is 0, if a name is\n"
-    "not that of a unit, or if no units are left. Raises OverflowError if the\n"
-    "duration is 2**64 seconds or more. Raises TypeError if it is neither an int nor\n"
-    "a timedelta, or if `units` is a text.\n\n"
+    "Raises ValueError if the duration is negative, if `parts` is below 1, if the\n"
+    "name of a unit or of the style is unknown, or if no units are left. Raises\n"
+    "OverflowError if the duration is 2**64 seconds or more. Raises TypeError if it\n"
+    "is neither an int nor a timedelta, or if `units` is a text.\n\n"
     ">>> duration_str.format(193_029_000_000, parts=2)\n"
     "'3min 13s'\n"
     ">>> duration_str.format(193_029_000_000, style='long')\n"

@@ -64,7 +64,7 @@ class Cause(enum.IntEnum):
     """A number is 2**64 or more."""
     OVERFLOW = 4
     """A term, a step of the evaluation or the value is 2**64 nanoseconds or more. In `to_timedelta`
-    it is also the cause if the value is 2**63 or more."""
+    it is also the cause if the value is 2**63 nanoseconds or more."""
     MIXED = 5
     """A sum and a product are mixed, as in `1m 2s*3`."""
     NOT_TEXT = 7
@@ -111,7 +111,7 @@ class DurationError(ValueError):
     cause: Cause
     """Why the text is refused."""
     place: int | None
-    """The byte at which the fault is, in UTF-8 and from 0, or None if the fault has no place."""
+    """Where the fault is: an offset in bytes of UTF-8. It is None if the fault has no place."""
     pos: int | None
     """The same place in characters. For a syntax fault `text[pos:]` begins with `found`, if that is
     not None. The column that `str(error)` names is one more, since columns count from 1."""
