@@ -25,7 +25,8 @@ GROUPS = {
     ),
     "shell": ("shell/src program/src", "bench/run --shell --write"),
 }
-COMMENT = re.compile(r"\s*(//|# |/\*|\*+ |\*+/?$)")
+# Lines of comments, and lines that are a text, such as those of a docstring in C
+NO_CODE = re.compile(r"\s*(//|# |/\*|\*+ |\*+/?$|\".*\"[,;)]*$)")
 
 
 def git(*words):
@@ -57,9 +58,10 @@ def is_code(statement):
 
 
 def code(name, text):
-    """The code of a file, without lines of comments, and in Python without docstrings."""
+    """The code of a file, without comments and docstrings."""
     if not name.endswith((".py", ".pyi")) and not text.startswith("#!/usr/bin/env python3"):
-        return [line for line in text.splitlines() if not COMMENT.match(line)]
+        lines = [re.sub(r"(?<=\S)\s+(//.*|/\*.*\*/)$", "", line) for line in text.splitlines()]
+        return [line for line in lines if not NO_CODE.match(line)]
     tree = ast.parse(text)
     for node in ast.walk(tree):
         if isinstance(node, (ast.Module, ast.ClassDef, ast.FunctionDef)):
