@@ -7,8 +7,8 @@ use Rattle.duration_str.specs.Text.{Characters}
 use Rattle.duration_str.specs.Units.{UnitRow, row_of}
 use Rattle.duration_str.specs.Rules.{Rules}
 
--- a row with further names, which stand before the others, since the last two are the long name and
--- its plural
+-- a row with further names. They stand before the others, since the last two names are the long
+-- name and its plural
 abbrev pub with_names : List Characters → UnitRow → UnitRow
 with_names names row = record row { names = names ++ row.names }
 

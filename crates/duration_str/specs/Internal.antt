@@ -1,4 +1,4 @@
--- Definitions for the private contracts: what each step of cutting, reading or printing does.
+-- Definitions for private contracts, such as what each step of cutting, reading or printing does.
 pub mod Numbers
 pub mod UnitTable
 pub mod Positions

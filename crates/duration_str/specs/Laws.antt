@@ -146,8 +146,8 @@ pub record BlanksFree : Type 0 where
   pub cause : (r : Rules) (a b : Characters) (lexemes : List Characters) (cause : Cause)
       → IsSentenceOf r lexemes a → Spells lexemes b → IsRefused r a cause → IsRefused r b cause
 
--- If `no_calc` is off, two accepted texts without `*`, joined by a plus, have the sum of their
--- values, or are refused as an overflow if that sum is 2^64 or more.
+-- If `no_calc` is off, and two accepted texts without `*` are joined by a plus, the joined text has
+-- the sum of their values, or is refused as an overflow if that sum is 2^64 or more.
 pub record SumOfTexts : Type 0 where
   pub below : (r : Rules) (a b : Characters) (m n : ℕ) → r.options.no_calc ≡ false → HasNoStar a → HasNoStar b
       → IsRead r a m → IsRead r b n → m + n < 2 ^ 64 → IsRead r (a ++ codes "+" ++ b) (m + n)
@@ -266,8 +266,9 @@ pub record KeepsWithin (format : Format) (nanos : ℕ) (counts : List ℕ) : Typ
   pub few : part_count counts ≤ format.parts
   pub whole : weighted_sum (lengths_within format) counts ≡ nanos
 
--- The duration `most` prints as this text too, and the text is read as `most` if that is below 2^64
--- nanoseconds. `most` is the greatest duration, up to `nanos`, that fits into the format.
+-- The duration `most` prints as this text too. By the library's own table, the text is read as
+-- `most` if `most` is below 2^64 nanoseconds. `most` is the greatest duration, up to `nanos`, that
+-- fits into the format.
 pub record IsMostWithin (format : Format) (nanos : ℕ) (text : Characters) (most : ℕ) : Type 0 where
   pub again : IsPrintedWithin format most text
   pub read : (default_unit : Option TimeUnit) (o : Options) → most < 2 ^ 64
@@ -290,16 +291,16 @@ pub record PartsAndRest : Type 0 where
   pub rest : (old new : Breakdown) (parts : List (TimeUnit × ℕ)) → Yields YieldsPart old parts new
       → nanos_left old ≡ sum_of_parts parts + nanos_left new
 
--- Under these options the word names no unit. In small letters it is one of a unit's near words,
--- and the advised name names that unit.
+-- By the library's own table and under these options, the word names no unit. In small letters it
+-- is one of a unit's near words, and the advised name names that unit.
 pub record IsAdvised (o : Options) (word name : Characters) : Type 0 where
   pub unit : TimeUnit
   pub near : is_among (near_words unit) (map to_ascii_lowercase (encode_utf8_all word)) ≡ true
   pub unread : unit_of_word (rules_of o) word ≡ None
   pub read : unit_of_word (rules_of o) name ≡ Some unit
 
--- Under all options, the name that is advised for a word names the unit that the word is near, and
--- the word itself names no unit.
+-- By the library's own table and under all options, the name that is advised for a word names the
+-- unit that the word is near, and the word itself names no unit.
 abbrev pub NearWords : Type 0
 NearWords = (o : Options) (word name : Characters) → near_name (encode_utf8_all word) ≡ Some name
     → IsAdvised o word name

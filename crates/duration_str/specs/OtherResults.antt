@@ -1,5 +1,4 @@
--- The results of the other calls that read a text: values of other types, nanoseconds, the number
--- of looks.
+-- Results of calls that read a text: a value of any type, nanoseconds, or the number of looks.
 use Rattle.std.specs.Prelude.{◌≡◌, ℕ, ◌≤◌, Result, Ok, Err, IfOk, IfErr, IsOk, length, take, chars}
 use Rattle.duration_str.specs.declared.cause.Cause.{Cause}
 use Rattle.duration_str.specs.declared.cause.Cause.TheVariants.{Syntax}

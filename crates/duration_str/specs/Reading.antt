@@ -24,7 +24,7 @@ without_last_number [] = []
 without_last_number (number n ∷ []) = []
 without_last_number (terminal ∷ terminals) = terminal ∷ without_last_number terminals
 
--- the terminals of the complete terms of the front. A number at the end of the front has no unit,
+-- the front, without its last number if that is no complete term. A number at the end has no unit,
 -- so it is a complete term only if there is a default unit and the front is the whole text
 abbrev pub complete_terminals : Rules → List Terminal → List Terminal → List Terminal
 complete_terminals r front [] = if is_some r.default_unit then front else without_last_number front

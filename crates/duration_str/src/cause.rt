@@ -1,5 +1,4 @@
-//! Why a text is refused: the cause, the line that says so, and what could stand at the place of a
-//! syntax fault.
+//! Why a text is refused: the cause, its line, and what could stand at the place of a syntax fault.
 ghost use Rattle.std.specs.Prelude.{◌≡◌, encode_utf8_all};
 ghost use Rattle.duration_str.specs.Answer.{expected_at_start, expected_after_number, expected_after_unit};
 ghost use Rattle.duration_str.specs.Faults.{place_of};

@@ -109,8 +109,8 @@ impl<'de> DeserializeDuration<'de> for Option<SignedDuration> {
     }
 }
 
-/// Reads a configuration value into the type `T`: a `Duration` or `SignedDuration` is required, and
-/// an `Option` of either is optional.
+/// Reads a configuration value into the type `T`. A `Duration` or `SignedDuration` is a required
+/// value, and an `Option` of either is an optional value.
 ///
 /// ```text
 /// deserialize_duration::<Duration>(&json!(in alloc; "1min+30")?)  // Ok, 90 s

@@ -1,5 +1,5 @@
 //! Laws about the definitions. Each function does nothing, and its contract states a law, which is
-//! proved.
+//! proved. In the comments, texts are read by the library's own table of units.
 ghost use Rattle.duration_str.specs.Laws.{OneSentence, OneCut, OneReading, AnswerIsReading, PlaceAndKinds, NoCalcAgrees, OptionsIdle, BlanksFree, SumOfTexts, Reorder, TwoFactors, GreatestBreakdown, EqualTexts, ReadsBack, LastLine, OlderTexts, AllParts, NeverMore, PartsAndRest, NearWords};
 
 /// At most one sentence spells a text, and the lexemes of that sentence are those of the text's

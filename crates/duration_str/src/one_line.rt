@@ -395,8 +395,8 @@ fn row_beside(word: &str) -> Option<([u8; 9], [u8; 3])>
     NEAR_WORDS.iter().copied().find(|row| is_near(&row.0, word))
 }
 
-/// Whether the word is `mo` or `mos` with a capital. No name is advised for it, since `Mo` can mean
-/// a megabyte.
+/// Whether the word is `mo` or `mos` with a capital. No name is advised for such a word, since `Mo`
+/// can mean a megabyte.
 fn is_megabyte(word: &str) -> bool
     ensures { result ≡ is_megabyte word.now }
 {

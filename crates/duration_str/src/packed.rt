@@ -1,6 +1,6 @@
 //! A word's letters packed into one number, and the unit that such a number names. The letters are
-//! its digits, to the base 40. A capital has the same digit as its small letter, unless the option
-//! `lowercase` is on.
+//! its digits, to the base 40. Without the option `lowercase`, a capital has the same digit as its
+//! small letter.
 ghost use Rattle.std.specs.Prelude.{◌≡◌, ◌+◌, ◌*◌, ◌%◌, ◌^◌, ◌&&◌, ◌||◌, ◌==◌, true, if◌then◌else◌, Some};
 ghost use Rattle.std.specs.Char.{is_ascii_alphabetic};
 ghost use Rattle.std.specs.Str.{chars};

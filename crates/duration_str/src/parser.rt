@@ -218,8 +218,8 @@ pub fn parse_humantime_specialized(input: &str, o: Options) -> Result<u64, Fault
 /// Returns what `parse_with` returns, and how many times a character of the text was looked at.
 ///
 /// There are at most as many looks as characters. Reading the digits of a number again is not
-/// counted. If the text is accepted, there are as many looks as characters. If it has a syntax
-/// fault, there are at least as many looks as characters before the fault's place.
+/// counted. If the text is accepted, there are as many looks as characters. If it is refused for a
+/// syntax fault, there are at least as many looks as characters before the fault's place.
 ///
 /// ```text
 /// parse_looked("3m 13s", Options::off()) // (Ok(Duration::from_secs(193)), 6)

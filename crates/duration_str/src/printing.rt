@@ -22,8 +22,8 @@ use crate::format::{Format, Style, Units};
 use crate::unit::{Printed, TimeUnit, UNITS};
 use std::time::Duration;
 
-/// The greatest length in bytes of a printed duration, except in the long style, such as of
-/// `100000000000y 3q 2mon 3w 6d 23h 59min 59s 999ms 999µs 999ns`.
+/// The greatest length in bytes of a printed duration, except in the long style. The text
+/// `100000000000y 3q 2mon 3w 6d 23h 59min 59s 999ms 999µs 999ns` has this length.
 ///
 /// ```
 /// use duration_str::{HUMAN_BUFFER_SIZE, MAX_PRINTED_LEN, write_human};
@@ -60,9 +60,9 @@ pub fn write_human<'b>(d: &Duration, buffer: &'b mut [u8; HUMAN_BUFFER_SIZE]) ->
     printed(buffer, end)
 }
 
-/// The greatest length in bytes of a printed duration in the long style, such as of `100000000000
+/// The greatest length in bytes of a printed duration in the long style. The text `100000000000
 /// years 3 quarters 2 months 3 weeks 6 days 23 hours 59 minutes 59 seconds 999 milliseconds 999
-/// microseconds 999 nanoseconds`.
+/// microseconds 999 nanoseconds` has this length.
 pub const MAX_LONG_LEN: usize = 134;
 
 /// The size of the buffer for `write_format`. It is the same for all styles.

@@ -91,7 +91,7 @@ impl TokenStart {
     }
 }
 
-/// An iterator over the tokens of a text, in order. Each character is looked at once, when it is
+/// An iterator over the tokens of a text, in order. `looked` counts each character once, when it is
 /// reached.
 ///
 /// ```

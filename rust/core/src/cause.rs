@@ -1,6 +1,5 @@
 // Made by tools/erase of crates/duration_str/src/cause.rt.
-//! Why a text is refused: the cause, the line that says so, and what could stand at the place of a
-//! syntax fault.
+//! Why a text is refused: the cause, its line, and what could stand at the place of a syntax fault.
 
 use crate::operator::CondUnit;
 use crate::settings::Settings;

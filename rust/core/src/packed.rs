@@ -1,7 +1,7 @@
 // Made by tools/erase of crates/duration_str/src/packed.rt.
 //! A word's letters packed into one number, and the unit that such a number names. The letters are
-//! its digits, to the base 40. A capital has the same digit as its small letter, unless the option
-//! `lowercase` is on.
+//! its digits, to the base 40. Without the option `lowercase`, a capital has the same digit as its
+//! small letter.
 
 use crate::options::Options;
 use crate::unit::TimeUnit;

@@ -1,11 +1,10 @@
 // Made by tools/erase of crates/duration_str/src/settings.rt.
-//! The settings of the reader.
+//! The settings of the reader: the rules by which it reads a text.
 
 use crate::options::Options;
 use crate::table::UnitTable;
 use crate::unit::TimeUnit;
 
-/// The settings of the reader, which name the rules by which it reads a text.
 #[derive(Clone, Copy)]
 pub(crate) struct Settings {
     pub(crate) table: UnitTable,

@@ -13,7 +13,7 @@ record AreAlike (r : Rules) (o p : Options) (text : List ℕ) : Type 0 where
   tokens : tokens_of o text ≡ tokens_of p text
   terminals : terminals_of (under r o) text ≡ terminals_of (under r p) text
 
--- the answer to a text of `len` bytes with these tokens and terminals
+-- the answer to a nonempty text of `len` bytes with these tokens and terminals
 abbrev answer_by : Rules → ℕ → Bool → List Token → List Terminal → Result ℕ Cause
 answer_by r len no_calc tokens terminals =
     let q = under r (record off { no_calc = no_calc }) in

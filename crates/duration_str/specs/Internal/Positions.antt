@@ -1,4 +1,4 @@
--- Positions in a text: the character at a byte, and the characters between two bytes.
+-- Positions in a text, the characters between two positions, and the packed numbers of letters.
 use Rattle.std.specs.Prelude.{◌≡◌, ℕ, ◌+◌, ◌*◌, ◌%◌, ◌^◌, Bool, false, ◌&&◌, [], ◌∷◌, ◌++◌, IsTrue, ⊤, ◌==◌, if◌then◌else◌, chars, drop}
 use Rattle.std.specs.List.{list_all}
 use Rattle.std.specs.Char.{is_ascii_alphabetic, is_ascii_uppercase}
@@ -46,8 +46,8 @@ wide_number c = number_in 27 (0xB5 ∷ chinese_letters) c
 abbrev pub capital_number : ℕ → ℕ
 capital_number c = if c == 77 then 39 else 26
 
--- the digit for a unit letter. A capital has the same digit as its small letter, unless `lowercase`
--- is on
+-- the digit for a unit letter. Without `lowercase`, a capital has the same digit as its small
+-- letter
 abbrev pub letter_number : Options → ℕ → ℕ
 letter_number o c =
     if o.lowercase && is_ascii_uppercase c then capital_number c

@@ -87,7 +87,7 @@ IsPlacedUpTo at cause = ForSome (place_of cause) (λ place. place ≤ at)
 abbrev pub IsPlaceless : Cause → Type 0
 IsPlaceless cause = place_of cause ≡ None
 
--- the answer to a text whose terminals are all in this rest
+-- the answer to a nonempty text whose terminals are all in this rest
 abbrev pub answer_left : Rules → Rest → Result ℕ Cause
 answer_left r rest =
     let terminals = terminals_left rest in
