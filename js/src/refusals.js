@@ -93,10 +93,13 @@ export class DurationError extends Error {
     }
 }
 
-// A plain assignment would throw if the prototype of errors is frozen.
-Object.defineProperty(DurationError.prototype, "name", {
-    value: "DurationError", writable: true, configurable: true,
-});
+// Consoles also show the name of the class, which minifiers change. A plain assignment to the
+// prototype's name would throw if the prototype of errors is frozen.
+for (const named of [DurationError, DurationError.prototype]) {
+    Object.defineProperty(named, "name", {
+        value: "DurationError", writable: true, configurable: true,
+    });
+}
 
 /** The bits are those of `enum duration_str_expected`. */
 function expectedOf(bits) {

@@ -16,6 +16,7 @@ import { tmpdir } from "node:os";
 import { join } from "node:path";
 import test, { after, before } from "node:test";
 import { fileURLToPath } from "node:url";
+import { inspect } from "node:util";
 import { schedule } from "../examples/schedule.mjs";
 
 const PACKAGE = fileURLToPath(new URL("..", import.meta.url));
@@ -187,7 +188,7 @@ test("prints in plain JavaScript as in WebAssembly", async () => {
     const { fault } = plain.tryParseNs("1µs 😀x");
     assert.deepEqual({ ...fault }, { ...compiled.tryParseNs("1µs 😀x").fault });
     assert.throws(() => new compiled.DurationError(fault), TypeError);
-    assert.throws(() => plain.parse("1x"), { name: "DurationError" });
+    assert.throws(() => plain.parse("1x"), (error) => inspect(error).startsWith("DurationError: "));
 });
 
 const DURATION = join(PACKAGE, "examples/duration.mjs");
