@@ -1,5 +1,5 @@
-//! Gives the shared library its soname. CONTRIBUTING.md says when its number is raised. The Makefile
-//! reads the soname here.
+//! Gives the shared library its soname on Linux. CONTRIBUTING.md says when the soname's number is
+//! raised. The Makefile reads the soname here.
 fn main() {
     println!("cargo:rerun-if-changed=build.rs");
     if std::env::var("CARGO_CFG_TARGET_OS").as_deref() == Ok("linux") {

@@ -1,6 +1,6 @@
-/* Durations in SQLite's SQL. `parse_duration(text)` returns an INTEGER of nanoseconds, below 2^63;
- * a refused text is an error with the library's line. `format_duration(nanos)` returns the printed
- * text. In sqlite3, `.load ./sqlite` loads this extension. */
+/* Durations in SQLite's SQL. `parse_duration(text)` returns an INTEGER of nanoseconds, below 2^63.
+ * A text that the library refuses is an error with the library's line. `format_duration(nanos)`
+ * returns the printed text. In sqlite3, `.load ./sqlite` loads this extension. */
 #include <sqlite3ext.h>
 
 #include "duration_str.h"

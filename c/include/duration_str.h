@@ -131,8 +131,7 @@ enum duration_str_option {
  * Bindings that can't call macros, such as those of Go and ctypes, compute it.
  * For seconds it is 0. For any other unit the bits from bit 16 on are the
  * unit's number plus 1, and DURATION_STR_OPTION_NO_CALC is on. So with
- * milliseconds the option is 0x90001. (For seconds 0x80001 is allowed too, and
- * means the same as DURATION_STR_OPTION_NO_CALC.) */
+ * milliseconds the option is 0x90001. (For seconds 0x80001 is allowed too.) */
 #define DURATION_STR_OPTION_DEFAULT_UNIT(unit) \
     (DURATION_STR_CAST(uint64_t, unit) == DURATION_STR_UNIT_SECOND \
          ? UINT32_C(0) \
@@ -345,8 +344,8 @@ bool duration_str_parse_with(const char *text, size_t length,
  *
  * The line quotes at most 40 characters of the text. In the quote, `"`,
  * backslashes, control characters and most characters that can't be seen are
- * escaped. For bytes that are not UTF-8 the line is `not UTF-8`, and for bits
- * that are not options it is `unknown option`. */
+ * escaped. For bits that are not options the line is `unknown option`.
+ * Otherwise, for bytes that are not UTF-8, it is `not UTF-8`. */
 DURATION_STR_NONNULL(5)
 size_t duration_str_one_line(
     const char *text, size_t length, uint32_t options,

@@ -11,7 +11,7 @@
 //! humantime 2.4. Capitals and small letters differ. The rest of this crate, except for the module
 //! `humantime_serde`, refuses these names, or reads `1M` as a minute.
 //!
-//! This module prints what humantime prints, such as `1day 2h 3m`.
+//! This module prints what humantime 2.1 prints, such as `1day 2h 3m`.
 //!
 //! Some texts that humantime reads are refused, with an error that says what is wrong:
 //!
@@ -100,13 +100,13 @@ const YEAR_SECONDS: u64 = 31_557_600;
 
 const MONTH_SECONDS: u64 = 2_630_016;
 
-/// A duration whose `Display` prints it as humantime does. [`format_duration`] returns it.
+/// A duration whose `Display` prints it as humantime 2.1 does. [`format_duration`] returns it.
 ///
 /// Width and fill pad the text, and a precision is ignored.
 #[derive(Clone, Copy, Debug, PartialEq, Eq, Hash)]
 pub struct FormattedDuration(StdDuration);
 
-/// Returns a value that prints the duration. The text is the one that humantime prints.
+/// Returns a value that prints the duration. The text is the one that humantime 2.1 prints.
 ///
 /// ```
 /// use duration_str::humantime::format_duration;

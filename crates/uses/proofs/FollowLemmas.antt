@@ -1,4 +1,4 @@
--- Lemmas from the law `place_and_kinds` about one more terminal.
+-- Lemmas about terminals that follow others, by the law `place_and_kinds`.
 use Rattle.std.proofs.Common.{append-nil, IsTrue, le_of_suc-le-suc, length, length-take, List, None, Option, refl, rules, Some, suc-le-suc, [], ℕ, ◌++◌, ◌↔◌, ◌∷◌, ◌≡◌, ◌≤◌}
 use Rattle.duration_str.proofs.Common.{allows, BeginsSentence, cases_Bool, expected_after, front_after, front_of, IsSentence, last_of, number, operator, PlaceAndKinds, Rules, Terminal, word}
 use Rattle.duration_str.specs.declared.unit.TimeUnit.{TimeUnit}

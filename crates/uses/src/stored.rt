@@ -49,9 +49,9 @@ pub fn first_unit(text: &str, o: Options) -> Option<TimeUnit>
     unit_named(tokens.next()?.what)
 }
 
-/// Returns the unit that a stored name means, such as the unit of a chart's axis, and the unit's
-/// length in nanoseconds. A name that an older version knew means the same unit as then, with the
-/// same length.
+/// Returns the unit that a stored name means, and the unit's length in nanoseconds, or `None` if no
+/// unit has this name. A name that an older version knew means the same unit as then, with the same
+/// length.
 ///
 /// ```text
 /// stored_unit("mon", Options::off()) // Some((TimeUnit::Month, 2_592_000_000_000_000))

@@ -2,8 +2,8 @@
 //!
 //! It is like the module [`human`](crate::human), but reads and prints fields as the module
 //! [`humantime`](crate::humantime) does. So capitals and small letters differ, a number without a
-//! unit is refused, a month has 30.44 days and a year 365.25, and the printed texts are
-//! humantime's.
+//! unit is refused, a month has 30.44 days and a year 365.25, and the printed texts are those of
+//! humantime 2.1.
 //!
 //! The type `Serde` of humantime-serde is not here. A field of the type
 //! [`HumanDuration`](crate::HumanDuration) needs no `with` either, but is read as in the rest of
