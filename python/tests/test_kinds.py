@@ -83,7 +83,7 @@ def of_pandas():
 
 def of_arrow():
     int8, float32, field = pyarrow.int8(), pyarrow.float32(), pyarrow.field("a", pyarrow.int8())
-    # pyarrow makes no arrays with a value of these types.
+    # `pyarrow.array` makes no arrays of these types from a value.
     types = {f"INTERVAL_{name}": [] for name in ("MONTHS", "DAY_TIME")}
     types |= {name: [] for name in ("NA", "SPARSE_UNION", "DENSE_UNION")}
 
