@@ -39,8 +39,8 @@ from selenium.webdriver.support.ui import Select  # noqa: E402
 
 TEXTS = json.loads((HERE / "texts.json").read_text(encoding="utf-8"))
 SCHEMES = ("light", "dark")
-# A little longer than the page waits after the last key before it announces the answer and writes
-# the link
+# A little longer than the page waits after a change before it announces the answer and writes the
+# link
 PAUSE = 0.8
 # The most bytes that the page may have
 LARGEST = 111_500
