@@ -1,5 +1,5 @@
-"""Tests columns of the types that Python, NumPy, pandas and Arrow list. A table below has the types
-that are read. A column of another type must be refused by the type's name."""
+"""Tests columns of the types that Python, NumPy, pandas and Arrow list. Two tables below have the
+types that are read. The error for a column of another type must name the type."""
 
 import array
 import ctypes
