@@ -9,7 +9,7 @@
 // - texts.json has texts in this notation with their values, and similar texts that mean something
 //   else.
 //
-// A notation that is left out should have a row in REFUSED if people type it.
+// If people type a notation that is left out, it should have a sentence, such as in REFUSED.
 import { tryParseNs } from "../js/dist/duration-str.js";
 import { defaultUnitOf, terms, UNITS, unitOf } from "./units.js";
 import { say } from "./sentences.js";

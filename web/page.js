@@ -10,7 +10,7 @@ import { readLink, showUnknown, writeLink } from "./link.js";
 import { STYLES } from "./lists.js";
 import { UNITS } from "./units.js";
 
-/** After this many milliseconds without a key, screen readers get the answer and the link is
+/** After this many milliseconds without a change, screen readers get the answer and the link is
  * written. */
 const PAUSE = 500;
 /** How long the page shows what was copied, in milliseconds. */

@@ -136,7 +136,7 @@ class Reading(unittest.TestCase):
         told = subprocess.run(
             [sys.executable, "-c", program], capture_output=True, text=True, check=True
         )
-        # NumPy writes its types in another way since version 2.
+        # From version 2 on, NumPy shows its values in another way.
         second, missing = numpy.timedelta64(SECOND, "ns"), numpy.timedelta64("NaT", "ns")
         one = f"{second!r} {missing!r} None {missing!r}"
         self.assertEqual(told.stdout, f"{[SECOND, *[-(2**63)] * 5]} False\n{one}\n")

@@ -1,5 +1,5 @@
-"""Tests columns of the types that Python, NumPy, pandas and Arrow list. A table below has the types
-that are read. A column of another type must be refused by the type's name."""
+"""Tests columns of the types that Python, NumPy, pandas and Arrow list. Two tables below have the
+types that are read. The error for a column of another type must name the type."""
 
 import array
 import ctypes
@@ -83,7 +83,7 @@ def of_pandas():
 
 def of_arrow():
     int8, float32, field = pyarrow.int8(), pyarrow.float32(), pyarrow.field("a", pyarrow.int8())
-    # pyarrow makes no arrays with a value of these types.
+    # `pyarrow.array` makes no arrays of these types from a value.
     types = {f"INTERVAL_{name}": [] for name in ("MONTHS", "DAY_TIME")}
     types |= {name: [] for name in ("NA", "SPARSE_UNION", "DENSE_UNION")}
 

@@ -44,8 +44,8 @@ class Place:
         return 1
 
 
-# Texts that can't name a default unit, such as Chinese names, and letters that become a letter of a
-# name in capitals
+# Texts that can't name a default unit, such as Chinese names, and letters that equal those of a
+# name if the case is ignored
 NO_UNITS = ["", " ", "mins", "年", "毫秒", "1分", " ms", "ms ", "m s", "m\n", "m 0s", "1", "1ms", "0ms"]
 NO_UNITS += [
     "ms1",

@@ -54,13 +54,13 @@ pub struct Choices {
     #[arg(long, value_name = "N", default_value = "11",
         value_parser = value_parser!(u8).range(1..))]
     parts: u8,
-    /// Use only these units, such as y,mon,d, in any order [default: all]
+    /// Count only these units, such as y,mon,d, in any order [default: all]
     #[arg(long, value_name = "UNITS", value_parser = list_of_units)]
     units: Option<UnitList>,
-    /// Use no unit longer than this one
+    /// Count no unit longer than this one
     #[arg(long, value_name = "UNIT", default_value = "y", value_parser = unit)]
     largest: TimeUnit,
-    /// Use no unit shorter than this one
+    /// Count no unit shorter than this one
     #[arg(long, value_name = "UNIT", default_value = "ns", value_parser = unit)]
     smallest: TimeUnit,
     /// Convert the Nth field of each line, and print the whole line; a refused field stays as it is

@@ -73,7 +73,7 @@ pub fn read<'a>(bytes: &'a [u8], choices: &Choices) -> Result<(&'a str, u64), Re
 
 /// If a text is only a number with a fraction or an exponent, such as `12.5`, `.5` or `1.2e-05`,
 /// returns it without the blanks around it, and its value in nanoseconds. The library reads a number
-/// that has neither.
+/// that has neither. The exponent must fit an `isize`.
 fn bare_number(text: &str, unit: TimeUnit, round: Round) -> Option<(&str, u128)> {
     let number = text.trim_matches([' ', '\t', '\r', '\n']);
     if !number.contains(['.', 'e', 'E']) {

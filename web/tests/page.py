@@ -12,7 +12,7 @@ texts.json has texts and what the page shows for them, written by hand:
 "meant"     the values in seconds that people mean by the text; null if nothing may be offered
 
 advice.test.js tries most of this without a browser, so only some of those rows are tried here.
-"typed" texts are typed character by character. "hostile" texts must be shown and do nothing else,
+"typed" texts are put in character by character. "hostile" texts must be shown and do nothing else,
 and "hostile links" must not change how durations are printed.
 """
 import ast
@@ -39,8 +39,8 @@ from selenium.webdriver.support.ui import Select  # noqa: E402
 
 TEXTS = json.loads((HERE / "texts.json").read_text(encoding="utf-8"))
 SCHEMES = ("light", "dark")
-# A little longer than the page waits after the last key before it announces the answer and writes
-# the link
+# A little longer than the page waits after a change before it announces the answer and writes the
+# link
 PAUSE = 0.8
 # The most bytes that the page may have
 LARGEST = 111_500

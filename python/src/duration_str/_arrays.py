@@ -185,10 +185,10 @@ def to_timedelta(
     and for a list one of the same length. For a single text it returns a
     Timedelta if pandas is imported, and otherwise a timedelta64.
 
-    Timedeltas are kept. (A timedelta64 that is not NaT must have a unit from
-    weeks to nanoseconds.) None, NaT, a float that is NaN, pandas' NA, and the
-    masked values of an array become NaT. A single None stays None, as in
-    pandas.
+    Timedeltas are kept. (A timedelta64 that is not NaT, and a column of the
+    type timedelta64, must have a unit from weeks to nanoseconds.) None, NaT, a
+    float that is NaN, pandas' NA, and the masked values of an array become
+    NaT. A single None stays None, as in pandas.
 
     If you name a default unit, even seconds, whole numbers are read too, as
     by `parse_ns`. So a column of integers is read, and a column of floats that
@@ -199,10 +199,11 @@ def to_timedelta(
     text or a number whose value is 2**63 nanoseconds or more, which is some
     292 years, since timedelta64 can't hold it. A number that `parse_ns`
     refuses, except NaN, raises an error of the same type. Any other value in a
-    column, such as bytes, raises DurationTypeError, even if a text before it
-    is refused. A timedelta of 2**63 nanoseconds or more, in either direction,
-    raises OverflowError. With `errors="coerce"` all of these become NaT. But a
-    timedelta64 of any other unit, such as 5 years, raises TypeError even then.
+    column, such as bytes, raises DurationTypeError. A timedelta of 2**63
+    nanoseconds or more, in either direction, raises OverflowError. Both errors
+    are raised even if a text before the value is refused. With
+    `errors="coerce"` all these values become NaT. But a timedelta64 of a wrong
+    unit, such as 5 years, raises TypeError even then.
     """
     raises = raises_errors(errors)
     reading = _native.reading(

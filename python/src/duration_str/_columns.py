@@ -153,7 +153,8 @@ def parse_many(
     With `errors="raise"` the first text that is refused raises a
     DurationError, whose `index` is the text's position. A number that
     `parse_ns` refuses raises an error of the same type. Any other value, such
-    as None, raises DurationTypeError, even if a text before it is refused.
+    as None, raises DurationTypeError. That error is raised even if a text
+    before the value is refused.
 
     With `errors="coerce"` it returns two arrays. The first has the values, and
     0 for each text or number that is refused and for any other value. The

@@ -246,7 +246,8 @@ static void raise_name(PyObject *name, const char *keyword, const char *listed) 
 
 /* Returns the unit of this name, or -1 with an error. A Chinese name is an error, too. */
 static int unit_of(struct state *state, PyObject *name, const char *keyword) {
-    /* Python usually keeps one object for equal names in a program, so this finds most of them. */
+    /* Python usually keeps one object for equal names in a program, so this finds most printed
+     * names. */
     for (int unit = 0; unit <= DURATION_STR_UNIT_NANOSECOND; unit++)
         if (name == state->kept[UNIT_NAMES + unit])
             return unit;
@@ -642,7 +643,7 @@ static PyObject *breakdown_of(
         /* The count of the longest unit is 2^64 or more, so each unit is shorter than a second, and
          * a second is a multiple of it. Then the seconds only add to that count, so the other
          * counts and the rest are the same with 1 second. (With 0 seconds that unit could have no
-         * part, and another unit could have one more.) */
+         * part, and a shorter unit could have one instead.) */
         first = printed_count(duration, limits->units);
         if (!first || !duration_str_breakdown(
                           1, duration->nanos, limits->units, limits->parts, counts, &rest))
@@ -694,7 +695,8 @@ static int end_turn(void) {
 }
 
 /* format_list(values, function, texts, limits): appends the text of each value, or None if the
- * value is missing, to `texts`. After an error, the length of `texts` is the value's position. */
+ * value is missing, to `texts`. After an error of a value, the length of `texts` is the value's
+ * position. */
 static PyObject *format_list(PyObject *self, PyObject *arguments) {
     PyObject *values, *function, *texts;
     struct limits limits;
@@ -888,8 +890,8 @@ PyDoc_STRVAR(parse_ns_doc,
     "Raises DurationError if the text is refused. With a default unit it is also\n"
     "raised for numbers such as -1, 1.5 and 2**64. Raises DurationTypeError for any\n"
     "other value, also for NaN and for a float of 2**53 or more. Raises ValueError\n"
-    "for an int with more digits than Python writes, if `default_unit` is a text\n"
-    "that names no unit, if you name it and also require units, or if it is not the\n"
+    "for an int with more digits than Python writes, if `default_unit` is an unknown\n"
+    "or a Chinese name, if you name it and also require units, or if it is not the\n"
     "second and you also write `no_calc=False`.\n\n"
     ">>> duration_str.parse_ns('1500', default_unit='ms')\n"
     "1500000000\n"
@@ -921,10 +923,12 @@ PyDoc_STRVAR(format_doc,
     "rest is left out, and nothing is rounded up. If there are no parts, the text is\n"
     "a zero of the smallest chosen unit, such as `0 hours` or `0h`, or of seconds if\n"
     "that unit is shorter than a second.\n\n"
-    "Raises ValueError if the duration is negative, if `parts` is below 1, if the\n"
-    "name of a unit or of the style is unknown, or if no units are left. Raises\n"
-    "OverflowError if the duration is 2**64 seconds or more. Raises TypeError if it\n"
-    "is neither an int nor a timedelta, or if `units` is a text.\n\n"
+    "Raises ValueError if the duration is negative or NumPy's NaT, if `parts` is\n"
+    "below 1, if the name of a unit or of the style is unknown, or if no units are\n"
+    "left. Raises OverflowError if the duration is 2**64 seconds or more. Raises\n"
+    "TypeError if it is neither an int nor a timedelta, if it is a timedelta64 that\n"
+    "counts a unit not from weeks to nanoseconds, or if an option has the wrong\n"
+    "type, such as a text for `units`.\n\n"
     ">>> duration_str.format(193_029_000_000, parts=2)\n"
     "'3min 13s'\n"
     ">>> duration_str.format(193_029_000_000, style='long')\n"

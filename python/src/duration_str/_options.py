@@ -28,8 +28,8 @@ class WithOptions:
             "require_unit": require_unit,
             "default_unit": default_unit,
         }
-        # This raises an error if the default unit is no name of a unit, or if the options
-        # contradict each other.
+        # This raises an error if the default unit is unknown, or if the options contradict each
+        # other.
         _, self._takes_numbers = reading(**given)
         chosen = {name: value for name, value in given.items() if value and value is not UNNAMED}
         self._options: dict[str, Any] = chosen
