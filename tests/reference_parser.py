@@ -491,7 +491,10 @@ def bare_number(text, length, way):
     a number with a fraction or an exponent, as the command `duration` reads it with `--from`. It is
     first rounded to 18 decimals, in the same way.
     """
-    decimals = rounded(fractions.Fraction(text.strip(BLANKS)) * 10**18, way)
+    # A larger exponent gives the same result, since the texts have fewer digits than that.
+    number, _, exponent = text.strip(BLANKS).upper().partition("E")
+    exponent = min(max(int(exponent or "0"), -99_999), 99_999)
+    decimals = rounded(fractions.Fraction(f"{number}e{exponent}") * 10**18, way)
     nanos = rounded(fractions.Fraction(decimals * length, 10**18), way)
     return nanos if nanos < LIMIT else None
 

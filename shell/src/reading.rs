@@ -2,6 +2,7 @@
 use crate::options::{Choices, Round};
 use duration_str::{Fault, TimeUnit, parse_with_default_unit};
 use serde_json::json;
+use std::num::IntErrorKind;
 
 /// `place` and `found` are those of a syntax fault.
 #[derive(Default)]
@@ -73,7 +74,7 @@ pub fn read<'a>(bytes: &'a [u8], choices: &Choices) -> Result<(&'a str, u64), Re
 
 /// If a text is only a number with a fraction or an exponent, such as `12.5`, `.5` or `1.2e-05`,
 /// returns it without the blanks around it, and its value in nanoseconds. The library reads a number
-/// that has neither. The exponent must fit an `isize`.
+/// that has neither.
 fn bare_number(text: &str, unit: TimeUnit, round: Round) -> Option<(&str, u128)> {
     let number = text.trim_matches([' ', '\t', '\r', '\n']);
     if !number.contains(['.', 'e', 'E']) {
@@ -85,10 +86,15 @@ fn bare_number(text: &str, unit: TimeUnit, round: Round) -> Option<(&str, u128)>
         .concat()
         .bytes()
         .all(|byte| byte.is_ascii_digit());
-    let exponent = exponent
-        .parse::<isize>()
-        .ok()
-        .filter(|_| is_number && digits.ends_with(|last| last != '.'))?;
+    if !is_number || !digits.ends_with(|last| last != '.') {
+        return None;
+    }
+    let exponent = match exponent.parse::<isize>() {
+        Ok(exponent) => exponent,
+        Err(error) if *error.kind() == IntErrorKind::PosOverflow => isize::MAX,
+        Err(error) if *error.kind() == IntErrorKind::NegOverflow => isize::MIN,
+        Err(_) => return None,
+    };
     // There are enough zeros on both sides for the point to move by the exponent, or beyond all
     // digits that count.
     let exponent = exponent.clamp(-(digits.len() as isize) - 99, digits.len() as isize + 99);
