@@ -301,7 +301,7 @@ def cases(column):
 
 def wrong_promises():
     names = tracked_files("crates/*.rt", "crates/*.antt", "tests/*", "*.edits", "*.edit")
-    known = set(re.findall(r"\w+", " ".join([*names, *map(read, names)])))
+    known = set(re.findall(r"\w+(?:-\w+)*", " ".join([*names, *map(read, names)])))
     heads = [["promise", "shown by", "hardest case", each] for each in ("answer", "printed")]
     for line in section(PROMISES, "## What is proved").splitlines():
         if re.match(r"$|### |\|-", line):
