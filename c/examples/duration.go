@@ -1,6 +1,6 @@
-// A Go type for a field such as `"timeout": "1h 30m"` in a configuration. It uses the library for C.
-// `go run duration.go TEXT` reads a text as such a field, and prints the duration as a text, as a
-// clock and in JSON. pkg-config must find the library.
+// A Go type for a field such as `"timeout": "1h 30m"` in a configuration. It uses the library for
+// C. `go run duration.go TEXT` reads a text as such a field, and prints the duration as a text, as
+// a clock and in JSON. pkg-config must find the library.
 package main
 
 // #cgo pkg-config: duration_str
