@@ -112,7 +112,7 @@ def read(data, options):
     # The reference parser takes long for many blanks.
     text = text if len(text) < 10_000 else text.strip(BLANKS)
     unit = LENGTHS[options.get("from", "s")]
-    # Apart from such numbers, naming the second is the same as naming nothing.
+    # Except for the numbers of `read_number`, `--from=s` is the same as no `--from`.
     no_calc = unit != reference.SECOND
     answer = reference.answer_of(
         text,

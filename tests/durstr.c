@@ -1,4 +1,4 @@
-/* Writes what the program durstr writes, except that a refused line gets the report of
+/* A program like durstr, which calls the library for C. For a refused line it writes the report of
  * duration_str_report. It also knows the words `require_unit` and, for example,
  * `default_unit=ms`. tests/processors builds it for several processors, and compares what they
  * write. */

@@ -206,7 +206,7 @@ static void check_breakdowns(void) {
                    millisecond = DURATION_STR_UNITS(DURATION_STR_UNIT_MILLISECOND);
     const struct breakdown rows[] = {
         {39689999, 123456789, all, 11, {1, 1, 0, 0, 3, 8, 59, 59, 123, 456, 789}, 0},
-        /* 2^64 - 1 nanoseconds, milliseconds and seconds, and what is left out of them */
+        /* A rest of 2^64 - 1 nanoseconds, and counts of 2^64 - 1 milliseconds and seconds */
         {18446744073, 709551615, all, 0, {0, 0, 0, 0, 0, 0, 0, 0, 0, 0, 0}, UINT64_MAX},
         {18446744073709551, 615999999, millisecond, 1, {0, 0, 0, 0, 0, 0, 0, 0, UINT64_MAX, 0, 0},
             999999},

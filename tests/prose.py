@@ -57,7 +57,7 @@ def wrong_links(name):
 
 
 def named_path(name, path):
-    """The path that a document names, from the top, from its folder or in the library's crate."""
+    """The path that a document names, in the first folder of `near` that has it."""
     near = (ROOT, (ROOT / name).parent, CRATE, CRATE / "src", ROOT / "rust/core/src")
     return next((folder / path for folder in near if (folder / path).exists()), None)
 

@@ -236,7 +236,7 @@ def list_of(pairs):
 
 
 def sentences(text, options, default_unit):
-    """All sentences that spell the text.
+    """All ways to split the text into a sentence.
 
     The loop goes over the rests of the text, from the shortest on. `whole` has the ways to split a
     rest into a sentence. `after_number` has the ways to split it into what may follow a number in a
