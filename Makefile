@@ -327,4 +327,5 @@ release:
 
 clean:
 	rm -rf out crates/*/out tests/fuzz/out target */target js/dist
-	rm -rf python/build python/src/{*.egg-info,duration_str/*.so}
+	rm -rf python/build python/src/{*.egg-info,duration_str/*.so} */{LICENSE,NOTICE}
+	find . -name __pycache__ -prune -exec rm -r {} +
