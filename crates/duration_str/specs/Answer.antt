@@ -28,7 +28,8 @@ abbrev pub expected_after_unit : Rules → Expected
 expected_after_unit r =
     record { number = true; unit_word = false; operator = not r.options.no_calc; text_end = true }
 
--- The table: what can follow this terminal. `None` is the start of a text.
+-- The table of what can follow the beginning of a sentence, given the last terminal of that
+-- beginning. `None` is the start of a text.
 abbrev pub expected_after : Rules → Option Terminal → Expected
 expected_after r None = expected_at_start
 expected_after r (Some (number n)) = expected_after_number r

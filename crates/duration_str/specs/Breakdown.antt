@@ -20,7 +20,8 @@ abbrev pub sum_of_parts : List (TimeUnit × ℕ) → ℕ
 sum_of_parts [] = 0
 sum_of_parts ((u, n) ∷ parts) = n * nanos_of u + sum_of_parts parts
 
--- the parts of a duration in these units, at most `most` of them, by quotients and remainders
+-- the parts of a duration in these units, by quotients and remainders. There are at most `most`
+-- parts
 abbrev pub parts_in : List TimeUnit → ℕ → ℕ → List (TimeUnit × ℕ)
 parts_in us most nanos = nonzero us (counts_within (map nanos_of us) most nanos)
 

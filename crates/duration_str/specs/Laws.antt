@@ -193,8 +193,8 @@ pub record TwoFactors : Type 0 where
       → v.number ≡ u.number → v.length ≡ u.length → w.number ≡ t.number → w.length ≡ t.length
       → IsRead r a nanos → IsRead r b nanos
 
--- the count of each length: the nanoseconds that the longer lengths leave, divided by this length
--- and rounded down
+-- the count of each length: what the lengths before it leave, divided by this length and rounded
+-- down
 abbrev pub counts_of : List ℕ → ℕ → List ℕ
 counts_of [] nanos = []
 counts_of (l ∷ lengths) nanos = nanos / l ∷ counts_of lengths (nanos % l)

@@ -72,13 +72,13 @@ first_piece (c ∷ text) = c ∷ take 40 (take_while (is_like c) text)
 
 -- ---- Help
 
--- the words near the month's names that mean a month only in small letters, since `Mo` can mean a
+-- the near words of the month that mean a month only in small letters, since `Mo` can mean a
 -- megabyte
 abbrev pub small_words : List Characters
 small_words = codes "mo" ∷ codes "mos" ∷ []
 
--- the words near the microsecond's names that don't have the micro sign. The last five have the
--- Greek letter mu (U+03BC), which looks like the micro sign
+-- the near words of the microsecond that don't have the micro sign. The last five have the Greek
+-- letter mu (U+03BC), which looks like the micro sign
 abbrev pub us_words : List Characters
 us_words =
     codes "usecs" ∷ codes "useconds" ∷ codes "micros" ∷ codes "μs" ∷ codes "μsec" ∷ codes "μsecs" ∷ codes "μsecond"

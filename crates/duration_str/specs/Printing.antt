@@ -63,7 +63,7 @@ abbrev pub nonzero : List TimeUnit → List ℕ → List (TimeUnit × ℕ)
 nonzero (u ∷ us) (n ∷ counts) = if n == 0 then nonzero us counts else (u, n) ∷ nonzero us counts
 nonzero _ _ = []
 
--- the printed parts of a breakdown, one for each count that is not 0
+-- the printed parts of these counts, one for each count that is not 0
 abbrev pub printed_parts : Style → List TimeUnit → List ℕ → List Characters
 printed_parts style us counts = map (λ part. printed_part style part.1 part.0) (nonzero us counts)
 

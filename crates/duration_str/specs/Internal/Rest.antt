@@ -116,7 +116,8 @@ abbrev pub with_term : Result (Option (CondUnit × ℕ)) Cause → CondUnit → 
 with_term (Ok later) next n length = by_operator next (total_with later next n length)
 with_term (Err cause) next n length = Err cause
 
--- The result is what `f` reads from the rest, and the rest after it is left.
+-- The result is what `f` reads from the rest, or its fault. If `f` reads an item, the rest after
+-- that item is left.
 abbrev pub ReadsItem : {A : Type 0} → Rules → (Rest → Result (ReadItem A) Cause) → Tokens → Tokens → Result A Cause
     → Type 0
 ReadsItem r f old new result = leaving (rest_of r new) result ≡ f (rest_of r old)

@@ -61,7 +61,7 @@ trimmed bytes = take (length bytes - suffix_len is_ascii_whitespace bytes) bytes
 abbrev pub is_megabyte : Bytes → Bool
 is_megabyte word = is_among small_words (map to_ascii_lowercase word) && not (is_among small_words word)
 
--- whether a word is `near` without the spaces at the end of `near`, if ASCII capitals are read as
--- small letters
+-- whether a word is `near` without the ASCII white space at the end of `near`, if ASCII capitals
+-- are read as small letters
 abbrev pub is_near : Bytes → Bytes → Bool
 is_near near word = bytes_eq (map to_ascii_lowercase word) (map to_ascii_lowercase (trimmed near))
