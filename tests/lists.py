@@ -116,7 +116,7 @@ def in_rust():
     ascii_names = [name.replace("µ", "u") for name in PRINTED]
     return f"""// Made by tests/repository --write.
 
-/// The names of the units, in ASCII.
+/// A short name of each unit, in ASCII.
 pub const UNITS: [&str; {len(UNITS)}] = [{quoted(ascii_names)}];
 /// The styles.
 pub const STYLES: [&str; {len(STYLES)}] = [{quoted(STYLES)}];

@@ -74,7 +74,7 @@ export function markedParts({ words, start, fault }, options) {
     return part(words.indexOf(term.words), term.words.length);
 }
 
-/** What the page says about a refused text, or nothing if the library's line is enough. */
+/** What the page says about a refused text, or nothing if it shows only the library's line. */
 export function sentence(text, code, options) {
     if (text.trim() === "") return say`Type a duration, such as ${"1h 30m"}.`;
     // The value of a product may be shorter than 584 years, although a step is longer.

@@ -13,7 +13,7 @@ import { UNITS } from "./units.js";
 /** After this many milliseconds without a change, screen readers get the answer and the link is
  * written. */
 const PAUSE = 500;
-/** How long the page shows what was copied, in milliseconds. */
+/** How long the page says that something was copied or selected, in milliseconds. */
 const SHOWN = 4_000;
 const EXAMPLES = ["90m + 45s", "1h 30", "1.5h", "5 mins", "PT5M", "3m-1s"];
 

@@ -202,7 +202,7 @@ class Hostile(unittest.TestCase):
 
         def serve(_):
             interpreter = interpreters.create()
-            # Before Python 3.13 the error is raised. Later versions return it.
+            # Before Python 3.13 the error is raised. From 3.13 on it is returned.
             failed = interpreters.run_string(interpreter, program)
             interpreters.destroy(interpreter)
             return failed

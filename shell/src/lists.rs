@@ -1,6 +1,6 @@
 // Made by tests/repository --write.
 
-/// The names of the units, in ASCII.
+/// A short name of each unit, in ASCII.
 pub const UNITS: [&str; 11] = ["y", "q", "mon", "w", "d", "h", "min", "s", "ms", "us", "ns"];
 /// The styles.
 pub const STYLES: [&str; 3] = ["short", "compact", "long"];
