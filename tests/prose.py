@@ -387,7 +387,7 @@ def misspelt():
         print("repository: spelling skipped, codespell is missing (make setup)")
         return []
     files = tracked_files("*.md", "program/*.in", "c/*.in", "c/include/*.h")
-    # Codespell takes a word of Rust and two requests of manual pages for mistakes.
+    # Codespell takes a word of Rust and two macros of manual pages for mistakes.
     words = ["codespell", "--ignore-words-list", "crate,nd,fo", *files]
     return subprocess.run(words, cwd=ROOT, capture_output=True, text=True).stdout.splitlines()
 

@@ -1,8 +1,8 @@
 """Makes the regular expressions of the sentences of docs/GRAMMAR.md from the table of units.
 
-They need no flags, except PCRE's flag for UTF-8. They use only what ECMA 262, RE2, PCRE, Python,
-Perl and Java have in common. At each character at most one way to go on fits, so going back
-after a mismatch takes few steps.
+They need no flags, except PCRE's flag for UTF-8. They use only syntax that ECMA 262, RE2, PCRE,
+Python, Perl and Java share. At each character at most one way to go on fits, so going back after a
+mismatch takes few steps.
 """
 import units
 

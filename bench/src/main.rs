@@ -5,8 +5,8 @@
 //! - `bench expressions`: prints the 1,000 expressions of `texts.rs`, one on each line.
 //! - `bench times`: prints a line for reading and for each way to print: its name, our nanoseconds
 //!   a call over the expressions, and humantime's. Tabs separate the columns.
-//! - `bench styles`: prints a line for each of some formats: its name, and the nanoseconds that
-//!   printing takes for values below a day and for all values, with tabs too.
+//! - `bench styles`: prints a line for each of some formats: its name, and the nanoseconds to print
+//!   the part of a value below a day, and to print the whole value. Tabs separate these, too.
 //! - `bench peer human_format` or `to_string`: prints the figures that `bench/peers` needs, for the
 //!   texts of the standard input.
 //! - `bench column FILE THREADS`: reads each line of a file, in threads that share the lines, and

@@ -3,7 +3,7 @@ use std::time::Duration;
 
 pub const EXPRESSION: &str = "3m 13s 29ms";
 
-/// Units, by names that this library and humantime read, the longest first. The number is the
+/// Units, from the year down, by names that this library and humantime read. The number is the
 /// greatest count of the unit.
 const UNITS: [(&str, u64); 10] = [
     ("y year years", 24),
