@@ -226,8 +226,8 @@ enum duration_str_style {
 struct duration_str_answer {
     /* if the text is read: its value in nanoseconds */
     uint64_t nanos;
-    /* if `has_place` is 1: the byte offset of the fault, from 0 to the
-     * text's length */
+    /* if `has_place` is 1: the place of the fault, as a byte offset from 0 to
+     * the text's length */
     size_t place;
     /* for DURATION_STR_CAUSE_SYNTAX: the length in bytes of the token at
      * `place`, or 0 at the end of the text */

@@ -67,7 +67,7 @@ impl DurationError {
         self.cause
     }
 
-    /// Returns the byte offset of the fault, as [`Fault::place`] does.
+    /// Returns the place of the fault, as [`Fault::place`] does.
     ///
     /// ```
     /// assert_eq!("1x".parse::<duration_str::HumanDuration>().unwrap_err().place(), Some(1));

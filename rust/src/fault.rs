@@ -65,7 +65,7 @@ impl<'a> Fault<'a> {
         self.fault.cause()
     }
 
-    /// Returns the byte offset of the fault in the text, or `None` if the fault has no place.
+    /// Returns the place of the fault as a byte offset in the text, or `None` if it has no place.
     ///
     /// ```
     /// use duration_str::{Options, parse_with};

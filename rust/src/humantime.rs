@@ -100,7 +100,7 @@ const YEAR_SECONDS: u64 = 31_557_600;
 
 const MONTH_SECONDS: u64 = 2_630_016;
 
-/// A duration whose `Display` prints it as humantime 2.1 does. [`format_duration`] returns it.
+/// A duration whose `Display` prints the text of humantime 2.1. [`format_duration`] returns it.
 ///
 /// Width and fill pad the text, and a precision is ignored.
 #[derive(Clone, Copy, Debug, PartialEq, Eq, Hash)]
