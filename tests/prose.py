@@ -287,7 +287,7 @@ def plain(text):
 
 
 NAMES = "`([^`]+)`(?:, `[^`]+`)*"
-# A case of a promise is a text, perhaps with options, or it names what shows it.
+# A case of a promise is a text, perhaps with options, or names tests, rows or a wrong body.
 TEXT_CASE = re.compile(rf"`([^`]+)`(?: with ({NAMES}))?")
 NAMED_CASE = re.compile(f"(?:test|rows?|wrong body) {NAMES}")
 

@@ -102,9 +102,9 @@ pub record AnswerIsReading : Type 0 where
   pub read : (r : Rules) (text : Characters) (nanos : ℕ) → (answer r text ≡ Ok nanos ↔ IsRead r text nanos)
   pub refused : (r : Rules) (text : Characters) (cause : Cause) → (answer r text ≡ Err cause ↔ IsRefused r text cause)
 
--- The table `expected_after` says, for each terminal that can end the beginning of a sentence, what
--- can follow it. The longest prefix of the terminals that begins a sentence is the one that the
--- table allows (`front_of`).
+-- The table `expected_after` says what can follow the beginning of a sentence, given the last
+-- terminal of that beginning. The longest prefix of the terminals that begins a sentence is the one
+-- that the table allows (`front_of`).
 pub record PlaceAndKinds : Type 0 where
   pub kinds : (r : Rules) (front : List Terminal) (expected : Expected) → BeginsSentence r front
       → (CanFollow r front expected ↔ (expected ≡ expected_after r (last_of None front)))
