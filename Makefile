@@ -75,7 +75,7 @@ program:
 	    [ -x "$$program" ] || echo 'durstr: cargo builds it, in seconds' >&2
 	    $(call cargo,std$(comma)panic_abort rustc) -p durstr --bin durstr -- \
 	        $(if $(static),-C target-feature=+crt-static)
-	elif type -P rt >/dev/null && [ $(origin target) = file ]; then
+	elif type -P rt >/dev/null && [ '$(origin target)' = file ]; then
 	    program=crates/durstr/out/durstr
 	    [ -x $$program ] ||
 	        echo 'durstr: there is no cargo, so rt proves and builds it, which takes minutes' >&2
