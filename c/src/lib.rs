@@ -1,5 +1,5 @@
 // Made by tools/erase of crates/duration_str_c/src/lib.rt.
-//! The calls of the library for C, with slices in place of pointers.
+//! The calls of the library for C, with slices and references in place of pointers.
 //!
 //! They allocate nothing. Those that read bytes refuse them if they are not UTF-8.
 #![no_std]

@@ -1,4 +1,4 @@
-//! The calls of the library for C, with slices in place of pointers.
+//! The calls of the library for C, with slices and references in place of pointers.
 //!
 //! They allocate nothing. Those that read bytes refuse them if they are not UTF-8.
 #![tactic(auto)]

@@ -67,8 +67,8 @@ IsSign _ = ⊤
 abbrev pub rules_at : Rules → Tokens → Rules
 rules_at r s = record r { options = options_of s }
 
--- The first token that is left is taken. It starts at the place and stands for this terminal, by
--- these rules with the options of `old`.
+-- The first token that is left is taken. It starts at the place of `old`, and stands for this
+-- terminal by these rules with the options of `old`.
 pub record TakesToken (r : Rules) (old new : Tokens) (terminal : Terminal) : Type 0 where
   pub characters : Characters
   pub kept : KeepsInput old new
