@@ -16,7 +16,7 @@
 
 /**
  * Options for reading. If you give none, all are off, and a number without a unit counts seconds.
- * The options must be a plain object, and only the object's own properties count. An unknown name
+ * The options must be a plain object, and only the object's own properties count. An unknown option
  * is a `TypeError`. `requireUnit: true` and `defaultUnit` can't stand together. Beside a
  * `defaultUnit` other than the second, `noCalc` can't be `false`. An option that is `undefined` is
  * the same as one that is left out.

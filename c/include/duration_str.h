@@ -302,9 +302,9 @@ size_t duration_str_format_with(
  * duration.
  *
  * For example, 193 seconds and 29,000,000 nanoseconds in two parts of all units
- * are 3 minutes and 13 seconds, and the rest is 29,000,000. If `parts` is 0, the
- * counts that are written are 0, and the rest is the whole duration. This prints
- * 3,723 seconds as `1:02:03`:
+ * are 3 minutes and 13 seconds, and the rest is 29,000,000. If `parts` is 0, all
+ * counts are 0, and the rest is the whole duration. This prints 3,723 seconds as
+ * `1:02:03`:
  *
  *     const uint32_t units = DURATION_STR_UNITS_BETWEEN(
  *         DURATION_STR_UNIT_HOUR, DURATION_STR_UNIT_SECOND);

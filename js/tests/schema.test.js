@@ -15,7 +15,7 @@ const OPTIONS = {
     duration_no_calc_require_unit: { noCalc: true, requireUnit: true },
 };
 const ASCII = Array.from({ length: 128 }, (_, code) => String.fromCharCode(code));
-const STRANGE = [...ASCII, ..."\x85\xa0\u2028\ufeff٣０μſK", "\ud800", "\u{1f600}"];
+const STRANGE = [...ASCII, ..."\x85\xa0\u2028\ufeff٣０μſ\u212a", "\ud800", "\u{1f600}"];
 
 /** HTML compiles a `pattern` with the flag `v` and these anchors. */
 function* expressions(source) {

@@ -8,7 +8,7 @@ import duration_str
 from tests.vectors import CHOICES, VECTORS, words_of
 
 # ASCII, and some characters that another program may take for a blank, a digit or a letter
-STRANGE = [*map(chr, range(128)), *"\x85\xa0\u2028\ufeff٣０μſK"]
+STRANGE = [*map(chr, range(128)), *"\x85\xa0\u2028\ufeff٣０μſ\u212a"]
 
 
 def is_sentence(text, words):

@@ -218,7 +218,7 @@ impl fmt::Display for FormattedDuration {
 pub struct Duration(StdDuration);
 
 impl Duration {
-    /// Wraps the duration. You can call this in a constant.
+    /// Wraps the duration.
     ///
     /// ```
     /// use duration_str::humantime::Duration;
