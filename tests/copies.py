@@ -20,8 +20,7 @@ def filled(text, width, first, further=None):
     return textwrap.fill(text, width, initial_indent=first, subsequent_indent=further)
 
 
-def in_strings(text):
-    """Lines as they stand in strings of C, without the first and the last quotation mark."""
+def in_c_strings(text):
     return text.replace("\n", '\\n"\n    "')
 
 
@@ -46,7 +45,7 @@ def paragraphs():
         yield name, before, after, filled(told, width, prefix)
     end = '\\n\\n"'
     for told, before in (printing, "(`1 hour 30 minutes`)"), (parts, "may be 2**64 or more."):
-        lines = in_strings(filled(told, 79, ""))
+        lines = in_c_strings(filled(told, 79, ""))
         yield f"{PYTHON}/_native.c", f'{before}{end}\n    "', end, lines
 
 
@@ -60,8 +59,7 @@ def options_told():
     }
 
 
-def in_manual(text):
-    """A text in the notation of mdoc."""
+def in_mdoc(text):
     return re.sub(" ?`(.*?)` ?", r"\n.Ql \1\n", text).strip()
 
 
@@ -81,11 +79,11 @@ def options(told, sentences):
         filled(sentences[name], 100, "    /// ") + f"\n    pub {name}: bool," for name in switches
     ]
     yield f"{RATTLE}/options.rt", "pub struct Options {\n", "\n}", "\n".join(fields)
-    rows = [f".It Cm {name}\n{in_manual(sentences[name])}" for name in switches]
+    rows = [f".It Cm {name}\n{in_mdoc(sentences[name])}" for name in switches]
     yield "program/durstr.1.in", "-width lowercase\n", "\n.El", "\n".join(rows)
     rows = [filled(what, 79, f"  {name:14}", " " * 16) for name, what in told.items()]
     before = 'and the default unit is the second:\\n\\n"\n    "'
-    yield f"{PYTHON}/_native.c", before, '\\n\\n"', in_strings("\n".join(rows))
+    yield f"{PYTHON}/_native.c", before, '\\n\\n"', in_c_strings("\n".join(rows))
     yield "python/README.md", "these options, by name:\n\n", "\n\n", as_list(told)
 
 

@@ -42,8 +42,7 @@ VALUES = (
         [""],
     )
 )
-# A command with `--pattern` can have these options.
-READING = {"pattern", "lowercase", "cn-unit", "require-unit", "from", "zero-terminated"}
+WITH_PATTERN = {"pattern", "lowercase", "cn-unit", "require-unit", "from", "zero-terminated"}
 WRONG_WORDS = """--to= --to=mins --to=年 --from=secs --largest=mo --smallest=5s --style=Long --round=half --decimals=10
 --units= --units=y, --units=y,mins --units=年 --parts=0 --parts=256 --parts=two --field=0
 --field=65536 --field=-1 -dab -dé --header= --header=x --none -x""".split()
@@ -107,7 +106,7 @@ def read(data, options):
         text = data.decode()
     except UnicodeDecodeError:
         return Refused("not UTF-8")
-    if "from" in options and reference.BARE.fullmatch(text):
+    if "from" in options and reference.FRACTION_OR_EXPONENT.fullmatch(text):
         return read_number(text.strip(BLANKS), options)
     # The reference parser takes long for many blanks.
     text = text if len(text) < 10_000 else text.strip(BLANKS)
@@ -227,7 +226,7 @@ def is_wrong(options, texts):
         and "field" not in names
     )
     units = {"from", "require-unit"} <= names
-    pattern = "pattern" in names and (texts or names - READING)
+    pattern = "pattern" in names and (texts or names - WITH_PATTERN)
     header = "header" in names and texts
     return bool(numbers or fields or units or pattern or header or not units_of(options))
 
@@ -317,7 +316,7 @@ class Commands(Texts):
             if self.chance(likely.get(name, 20))
         }
         if "pattern" in options and self.chance(80):
-            options = {name: value for name, value in options.items() if name in READING}
+            options = {name: value for name, value in options.items() if name in WITH_PATTERN}
         data = self.data(options)
         texts = (
             data.replace(b"\0", b"").split(b"\n") if len(data) < 99_999 and self.chance(30) else []

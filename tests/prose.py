@@ -42,8 +42,7 @@ def prose(name):
     return re.sub(r"^```.*?^```$", "", read(name), flags=re.M | re.S)
 
 
-def headings(path):
-    """The anchors of a document's headings."""
+def anchors(path):
     found = re.findall(r"^#+ (.*)$", prose(path.relative_to(ROOT)), re.M)
     return {re.sub(r"[^\w\- ]", "", heading.lower()).strip().replace(" ", "-") for heading in found}
 
@@ -52,12 +51,11 @@ def wrong_links(name):
     for target in (first or second for first, second in LINK.findall(prose(name))):
         file, _, anchor = target.partition("#")
         path = ((ROOT / name).parent / file).resolve() if file else ROOT / name
-        if "://" not in target and (not path.exists() or anchor and anchor not in headings(path)):
+        if "://" not in target and (not path.exists() or anchor and anchor not in anchors(path)):
             yield f"{name}: leads nowhere: {target}"
 
 
 def named_path(name, path):
-    """The path that a document names, in the first folder of `near` that has it."""
     near = (ROOT, (ROOT / name).parent, CRATE, CRATE / "src", ROOT / "rust/core/src")
     return next((folder / path for folder in near if (folder / path).exists()), None)
 
@@ -82,7 +80,6 @@ def names_elsewhere(name):
 
 
 def code_in_prose(name):
-    """Names code in a document's prose, which tests/documents doesn't run."""
     for code in re.findall(r"`([^`\n]+)`", prose(name)):
         if re.search(r"\w\([^)]|;|\w -[\w-]+ .*\w", code):
             yield f"{name}: has code in its prose, which nothing runs: {code}"
@@ -260,8 +257,7 @@ def other_kinds():
 PROMISES = "docs/PROMISES.md"
 LEADS_THERE = " says what is proved, what is tested, and what you trust."
 OF_PROOFS = re.compile(r"\b(dis)?(prov(e[dns]?|ing)|prover|proofs?|verif\w+|guarantee\w*)\b", re.I)
-# The files that have the sentence that leads to PROMISES
-PACKAGES = (
+LEADING_TO_PROMISES = (
     "c/README.md",
     HEADER,
     "js/README.md",
@@ -274,8 +270,7 @@ PACKAGES = (
     "shell/README.md",
     "web/page.html",
 )
-# Further files, in which that sentence must not stand.
-OTHERS = ("docs/GRAMMAR.md", "docs/MIGRATING.md", "docs/SPEED.md")
+NOT_LEADING_TO_PROMISES = ("docs/GRAMMAR.md", "docs/MIGRATING.md", "docs/SPEED.md")
 
 
 def section(name, heading):
@@ -326,13 +321,13 @@ def other_sentences_on_proofs():
     for sentence in sentences_of(section("README.md", "## What is proved")):
         if plain(sentence) not in there | {f"PROMISES{LEADS_THERE}"}:
             yield f"README.md: says what {PROMISES} doesn't: {sentence}"
-    for name in (*PACKAGES, *OTHERS):
+    for name in (*LEADING_TO_PROMISES, *NOT_LEADING_TO_PROMISES):
         # Marks of comments and of a web page are no part of a sentence.
         text = re.sub(r"(?m)^ *(//[/!]?|\*|/\*+)( |$)", "", read(name).replace("<code>", "`"))
         text = re.sub(r"</?\w+[^>]*>", "", text.replace("</code>", "`"))
         said = [plain(each) for each in sentences_of(text) if OF_PROOFS.search(each)]
         wanted = f"{PROMISES} in the repository{LEADS_THERE}"
-        if said.count(wanted) != (name in PACKAGES):
+        if said.count(wanted) != (name in LEADING_TO_PROMISES):
             yield f"{name}: has not once the sentence: {wanted}"
         for sentence in said:
             if sentence != wanted:
@@ -405,9 +400,6 @@ def other_pictures():
         for picture in pathlib.Path(room).iterdir():
             if not filecmp.cmp(picture, ROOT / "docs/images" / picture.name, shallow=False):
                 yield f"docs/images/{picture.name}: is not what tools/pictures draws"
-
-
-# ---- All together
 
 
 def problems():

@@ -201,10 +201,7 @@ KINDS = ("number", "unit", "operator")
 
 @functools.lru_cache(1 << 20)
 def begins_sentence(kinds, options, default_unit):
-    """Whether some sentence begins with these kinds of terminals.
-
-    If so, they are a sentence, or become one with one or two more terminals.
-    """
+    # If so, the kinds are a sentence, or become one with one or two more terminals.
     return is_sentence(list(kinds), options, default_unit) or any(
         is_sentence([*kinds, *more], options, default_unit)
         for more in (*((kind,) for kind in KINDS), ("number", "unit"))
@@ -473,8 +470,7 @@ def prepare(text, choices):
         choice.answer(text)
 
 
-# Matches a number with a fraction or an exponent.
-BARE = re.compile(
+FRACTION_OR_EXPONENT = re.compile(
     rf"[{BLANKS}]*([0-9]*\.[0-9]+([eE][-+]?[0-9]+)?|[0-9]+[eE][-+]?[0-9]+)[{BLANKS}]*"
 )
 

@@ -167,8 +167,6 @@ static void check_report(struct text text, uint32_t options, struct duration_str
     HOLDS(is_untouched(buffer - CANARIES, buffer) && is_untouched(buffer + length + 1, output_end));
 }
 
-/* ---- All together */
-
 static void check_value(uint64_t nanos) {
     check_printed(nanos);
     check_parts(nanos);
