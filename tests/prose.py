@@ -113,6 +113,16 @@ def other_helps():
             yield f"docs/GRAMMAR.md: no error in the vectors has the help `{told}`"
 
 
+def other_lines():
+    lines = set(texts_of_vectors())
+    for row in rows_of_tables("docs/GRAMMAR.md"):
+        # The vectors have no refusals by these causes.
+        if "line" in row and not re.match("`(OutOfRange|NotText)`", row["cause"]):
+            for told in re.findall("`(.*?)`", row["line"]):
+                if not any(told.split(' "')[0] in line for line in lines):
+                    yield f"docs/GRAMMAR.md: no error in the vectors has the line `{told}`"
+
+
 # ---- Tables of texts
 
 # The columns that say what the reference parser answers, each with its options.
@@ -415,6 +425,7 @@ def problems():
         other_quotes,
         other_requirements,
         other_helps,
+        other_lines,
         other_answers,
         other_printed,
         other_kinds,
