@@ -164,8 +164,8 @@ def said_of(line, options, where, before=None):
     answer = Refused("no such field") if begin is None else read(line[begin:end], options)
     answer = Refused("line of over 1,048,576 bytes") if too_long else answer
     if "json" in options:
-        told = json_object(line.decode(errors="replace"), answer, options, where).encode()
-        return Said(told + b"\n", b"", int(isinstance(answer, Refused)))
+        output = json_object(line.decode(errors="replace"), answer, options, where).encode()
+        return Said(output + b"\n", b"", int(isinstance(answer, Refused)))
     if not isinstance(answer, Refused):
         return Said(
             line[:begin] + printed(answer, options).encode() + line[end:] + end_of(options), b"", 0
@@ -351,8 +351,10 @@ def run(words, options, data, cuts):
 
 
 def untried(program):
-    told = subprocess.run([program, "--help"], capture_output=True, text=True, check=True).stdout
-    names = set(re.findall(r"^ +(?:-., )? *--([a-z-]+)", told, re.M))
+    help_text = subprocess.run(
+        [program, "--help"], capture_output=True, text=True, check=True
+    ).stdout
+    names = set(re.findall(r"^ +(?:-., )? *--([a-z-]+)", help_text, re.M))
     return names - {*VALUES, "units", "completions", "help", "version"}
 
 
