@@ -39,8 +39,7 @@ def uncommitted():
     return [line[3:] for line in git("status", "--porcelain", "--", CORE, *files).splitlines()]
 
 
-def with_commit(text):
-    """Puts the last commit into the comment at the end of the text."""
+def marked_with_last_commit(text):
     commit = git("rev-parse", "--short=8", "HEAD").strip()
     return re.sub(rf"{MARK}\Z", rf"<!-- \1 at {commit} -->\n", text)
 
@@ -57,8 +56,7 @@ def is_code(statement):
     return not (isinstance(statement, ast.Expr) and is_string or isinstance(statement, ast.Pass))
 
 
-def code(name, text):
-    """The code of a file, without comments and docstrings."""
+def without_comments(name, text):
     if not name.endswith((".py", ".pyi")) and not text.startswith("#!/usr/bin/env python3"):
         lines = [re.sub(r"(?<=\S)\s+(//.*|/\*.*\*/)$", "", line) for line in text.splitlines()]
         return [line for line in lines if not NO_CODE.match(line)]
@@ -72,7 +70,8 @@ def code(name, text):
 def has_changed(path, commit):
     for name in git("diff", "--name-only", commit, "--", path).splitlines():
         now = (TOP / name).read_text(encoding="utf-8") if (TOP / name).exists() else ""
-        if code(name, git("show", f"{commit}:{name}")) != code(name, now):
+        before = git("show", f"{commit}:{name}")
+        if without_comments(name, before) != without_comments(name, now):
             return True
     return False
 

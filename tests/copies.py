@@ -20,17 +20,16 @@ def filled(text, width, first, further=None):
     return textwrap.fill(text, width, initial_indent=first, subsequent_indent=further)
 
 
-def in_strings(text):
-    """Lines as they stand in strings of C, without the first and the last quotation mark."""
+def in_c_strings(text):
     return text.replace("\n", '\\n"\n    "')
 
 
 def paragraphs():
     """The places of the marked paragraphs. C's manual page takes them from the header."""
     copied = r"<!-- tests/repository --write copies this paragraph .*? -->\n(.*?)\n\n"
-    told = re.findall(copied, read("docs/GRAMMAR.md"), re.S)
-    meaning, printing, parts = (paragraph.replace("\n", " ") for paragraph in told)
-    for told, name, before, after, prefix, width in (
+    marked = re.findall(copied, read("docs/GRAMMAR.md"), re.S)
+    meaning, printing, parts = (paragraph.replace("\n", " ") for paragraph in marked)
+    for paragraph, name, before, after, prefix, width in (
         (meaning, HEADER, " * what you trust.\n *\n", "\n *\n", " * ", 79),
         (meaning, TYPES, "it also says where.\n *\n", "\n *\n", " * ", 100),
         (meaning, f"{PYTHON}/__init__.py", "'3min 13s 29ms'\n\n", "\n\n", "", 79),
@@ -43,14 +42,14 @@ def paragraphs():
         (parts, TYPES, " or a bigint\n * of nanoseconds.\n *\n", "\n *\n", " * ", 100),
         (parts, RUST, " of its magnitude.\n    ///\n", "\n    ///\n", "    /// ", 100),
     ):
-        yield name, before, after, filled(told, width, prefix)
+        yield name, before, after, filled(paragraph, width, prefix)
     end = '\\n\\n"'
-    for told, before in (printing, "(`1 hour 30 minutes`)"), (parts, "may be 2**64 or more."):
-        lines = in_strings(filled(told, 79, ""))
+    for paragraph, before in (printing, "(`1 hour 30 minutes`)"), (parts, "may be 2**64 or more."):
+        lines = in_c_strings(filled(paragraph, 79, ""))
         yield f"{PYTHON}/_native.c", f'{before}{end}\n    "', end, lines
 
 
-def options_told():
+def option_descriptions():
     """What the options of reading do: three switches, and the two choices of a default unit."""
     page = section("docs/GRAMMAR.md", "## Options")
     choices = dict(re.findall(r"^\| (no|another) unit \| (.*?) \|", page, re.M))
@@ -60,37 +59,38 @@ def options_told():
     }
 
 
-def in_manual(text):
-    """A text in the notation of mdoc."""
+def in_mdoc(text):
     return re.sub(" ?`(.*?)` ?", r"\n.Ql \1\n", text).strip()
 
 
-def as_list(told):
-    return "\n".join(filled(f"- `{name}`: {what}.", 100, "", "  ") for name, what in told.items())
+def as_list(descriptions):
+    return "\n".join(
+        filled(f"- `{name}`: {what}.", 100, "", "  ") for name, what in descriptions.items()
+    )
 
 
-def options(told, sentences):
-    *switches, _, _ = told
+def options(descriptions, sentences):
+    *switches, _, _ = descriptions
     bits = dict(found(r"^const (\w+): u32 = (\d+);$", "duration_str_c/src/lib.rt"))
     rows = []
     for name in (*switches, "require_unit"):
-        comment = filled(f"{told[name]} */", 79, "    /* ", "     * ")
+        comment = filled(f"{descriptions[name]} */", 79, "    /* ", "     * ")
         rows.append(f"{comment}\n    DURATION_STR_OPTION_{name.upper()} = {bits[name.upper()]}")
     yield HEADER, "enum duration_str_option {\n", "\n};", ",\n".join(rows)
     fields = [
         filled(sentences[name], 100, "    /// ") + f"\n    pub {name}: bool," for name in switches
     ]
     yield f"{RATTLE}/options.rt", "pub struct Options {\n", "\n}", "\n".join(fields)
-    rows = [f".It Cm {name}\n{in_manual(sentences[name])}" for name in switches]
+    rows = [f".It Cm {name}\n{in_mdoc(sentences[name])}" for name in switches]
     yield "program/durstr.1.in", "-width lowercase\n", "\n.El", "\n".join(rows)
-    rows = [filled(what, 79, f"  {name:14}", " " * 16) for name, what in told.items()]
+    rows = [filled(what, 79, f"  {name:14}", " " * 16) for name, what in descriptions.items()]
     before = 'and the default unit is the second:\\n\\n"\n    "'
-    yield f"{PYTHON}/_native.c", before, '\\n\\n"', in_strings("\n".join(rows))
-    yield "python/README.md", "these options, by name:\n\n", "\n\n", as_list(told)
+    yield f"{PYTHON}/_native.c", before, '\\n\\n"', in_c_strings("\n".join(rows))
+    yield "python/README.md", "these options, by name:\n\n", "\n\n", as_list(descriptions)
 
 
-def options_in_javascript(told, sentences):
-    names = {name: re.sub("_(.)", lambda found: found[1].upper(), name) for name in told}
+def options_in_javascript(descriptions, sentences):
+    names = {name: re.sub("_(.)", lambda found: found[1].upper(), name) for name in descriptions}
     fields = {
         name: filled(f"{what} */", 100, "    /** ", "     * ") + f"\n    {names[name]}?: boolean"
         for name, what in sentences.items()
@@ -101,13 +101,13 @@ def options_in_javascript(told, sentences):
     yield TYPES, "interface RequiringOptions extends Switches {\n", end, required
     before = "interface CountingOptions extends Switches {\n    /**\n"
     yield TYPES, before, "\n     *\n", filled(sentences["default_unit"], 100, "     * ")
-    told = {names[name]: what for name, what in told.items()}
-    yield "js/README.md", "the options for reading:\n\n", "\n\n", as_list(told)
+    descriptions = {names[name]: what for name, what in descriptions.items()}
+    yield "js/README.md", "the options for reading:\n\n", "\n\n", as_list(descriptions)
 
 
 def places():
-    told = options_told()
-    sentences = {name: f"{what[0].upper()}{what[1:]}." for name, what in told.items()}
+    descriptions = option_descriptions()
+    sentences = {name: f"{what[0].upper()}{what[1:]}." for name, what in descriptions.items()}
     yield from paragraphs()
-    yield from options(told, sentences)
-    yield from options_in_javascript(told, sentences)
+    yield from options(descriptions, sentences)
+    yield from options_in_javascript(descriptions, sentences)

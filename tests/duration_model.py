@@ -42,8 +42,7 @@ VALUES = (
         [""],
     )
 )
-# A command with `--pattern` can have these options.
-READING = {"pattern", "lowercase", "cn-unit", "require-unit", "from", "zero-terminated"}
+WITH_PATTERN = {"pattern", "lowercase", "cn-unit", "require-unit", "from", "zero-terminated"}
 WRONG_WORDS = """--to= --to=mins --to=年 --from=secs --largest=mo --smallest=5s --style=Long --round=half --decimals=10
 --units= --units=y, --units=y,mins --units=年 --parts=0 --parts=256 --parts=two --field=0
 --field=65536 --field=-1 -dab -dé --header= --header=x --none -x""".split()
@@ -107,7 +106,7 @@ def read(data, options):
         text = data.decode()
     except UnicodeDecodeError:
         return Refused("not UTF-8")
-    if "from" in options and reference.BARE.fullmatch(text):
+    if "from" in options and reference.FRACTION_OR_EXPONENT.fullmatch(text):
         return read_number(text.strip(BLANKS), options)
     # The reference parser takes long for many blanks.
     text = text if len(text) < 10_000 else text.strip(BLANKS)
@@ -165,8 +164,8 @@ def said_of(line, options, where, before=None):
     answer = Refused("no such field") if begin is None else read(line[begin:end], options)
     answer = Refused("line of over 1,048,576 bytes") if too_long else answer
     if "json" in options:
-        told = json_object(line.decode(errors="replace"), answer, options, where).encode()
-        return Said(told + b"\n", b"", int(isinstance(answer, Refused)))
+        output = json_object(line.decode(errors="replace"), answer, options, where).encode()
+        return Said(output + b"\n", b"", int(isinstance(answer, Refused)))
     if not isinstance(answer, Refused):
         return Said(
             line[:begin] + printed(answer, options).encode() + line[end:] + end_of(options), b"", 0
@@ -227,7 +226,7 @@ def is_wrong(options, texts):
         and "field" not in names
     )
     units = {"from", "require-unit"} <= names
-    pattern = "pattern" in names and (texts or names - READING)
+    pattern = "pattern" in names and (texts or names - WITH_PATTERN)
     header = "header" in names and texts
     return bool(numbers or fields or units or pattern or header or not units_of(options))
 
@@ -317,7 +316,7 @@ class Commands(Texts):
             if self.chance(likely.get(name, 20))
         }
         if "pattern" in options and self.chance(80):
-            options = {name: value for name, value in options.items() if name in READING}
+            options = {name: value for name, value in options.items() if name in WITH_PATTERN}
         data = self.data(options)
         texts = (
             data.replace(b"\0", b"").split(b"\n") if len(data) < 99_999 and self.chance(30) else []
@@ -352,8 +351,10 @@ def run(words, options, data, cuts):
 
 
 def untried(program):
-    told = subprocess.run([program, "--help"], capture_output=True, text=True, check=True).stdout
-    names = set(re.findall(r"^ +(?:-., )? *--([a-z-]+)", told, re.M))
+    help_text = subprocess.run(
+        [program, "--help"], capture_output=True, text=True, check=True
+    ).stdout
+    names = set(re.findall(r"^ +(?:-., )? *--([a-z-]+)", help_text, re.M))
     return names - {*VALUES, "units", "completions", "help", "version"}
 
 

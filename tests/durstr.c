@@ -36,13 +36,13 @@ int main(int count, char **words) {
         if (line[length - 1] == '\n')
             length--;
         struct duration_str_answer answer;
-        char told[DURATION_STR_REPORT_BUFFER_SIZE];
-        if (duration_str_report(line, (size_t)length, options, &answer, told) > 0) {
-            puts(told);
+        char output[DURATION_STR_REPORT_BUFFER_SIZE];
+        if (duration_str_report(line, (size_t)length, options, &answer, output) > 0) {
+            puts(output);
             status = 1;
         } else {
-            duration_str_format(answer.nanos, told);
-            printf("%" PRIu64 " %s\n", answer.nanos, told);
+            duration_str_format(answer.nanos, output);
+            printf("%" PRIu64 " %s\n", answer.nanos, output);
         }
     }
     free(line);

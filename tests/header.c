@@ -230,19 +230,19 @@ static void check_unit_names(void) {
 
 static void check_lines(void) {
     const char *text = "3h 2 mins",
-               *told =
+               *wanted =
                    "3h 2 mins\n     ^\nunknown unit \"mins\" at column 6 (did you mean \"min\"?)";
     char line[DURATION_STR_ONE_LINE_BUFFER_SIZE], report[DURATION_STR_REPORT_BUFFER_SIZE];
     struct duration_str_answer answer;
     memset(&answer, '#', sizeof answer);
-    expect(duration_str_one_line(text, 9, 0, &answer, line) == strlen(told) - 17 &&
-               strcmp(line, told + 17) == 0,
+    expect(duration_str_one_line(text, 9, 0, &answer, line) == strlen(wanted) - 17 &&
+               strcmp(line, wanted + 17) == 0,
         "one line");
     expect(answer.cause == DURATION_STR_CAUSE_SYNTAX && answer.place == 5,
         "the answer beside the line");
     memset(&answer, '#', sizeof answer);
-    expect(duration_str_report(text, 9, 0, &answer, report) == strlen(told) &&
-               strcmp(report, told) == 0,
+    expect(duration_str_report(text, 9, 0, &answer, report) == strlen(wanted) &&
+               strcmp(report, wanted) == 0,
         "a report");
     expect(answer.cause == DURATION_STR_CAUSE_SYNTAX && answer.place == 5,
         "the answer beside the report");

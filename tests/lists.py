@@ -135,8 +135,8 @@ def schema():
     texts = {}
     for no_calc, required in patterns.SENTENCES:
         name = "duration" + "_no_calc" * no_calc + "_require_unit" * required
-        told = patterns.pattern(no_calc=no_calc, require_unit=required)
-        texts[name] = {"type": "string", "pattern": told}
+        pattern = patterns.pattern(no_calc=no_calc, require_unit=required)
+        texts[name] = {"type": "string", "pattern": pattern}
     whole = {"$schema": "https://json-schema.org/draft/2020-12/schema", "$defs": texts}
     return json.dumps(whole, indent=4, ensure_ascii=False) + "\n"
 

@@ -24,8 +24,8 @@ def read(name):
 
 def tracked_files(*patterns):
     words = ["git", "ls-files", "--cached", "--others", "--exclude-standard", *patterns]
-    told = subprocess.run(words, cwd=ROOT, capture_output=True, text=True, check=True)
-    return [name for name in told.stdout.splitlines() if (ROOT / name).is_file()]
+    listed = subprocess.run(words, cwd=ROOT, capture_output=True, text=True, check=True)
+    return [name for name in listed.stdout.splitlines() if (ROOT / name).is_file()]
 
 
 # ---- Links, paths and names
@@ -42,8 +42,7 @@ def prose(name):
     return re.sub(r"^```.*?^```$", "", read(name), flags=re.M | re.S)
 
 
-def headings(path):
-    """The anchors of a document's headings."""
+def anchors(path):
     found = re.findall(r"^#+ (.*)$", prose(path.relative_to(ROOT)), re.M)
     return {re.sub(r"[^\w\- ]", "", heading.lower()).strip().replace(" ", "-") for heading in found}
 
@@ -52,12 +51,11 @@ def wrong_links(name):
     for target in (first or second for first, second in LINK.findall(prose(name))):
         file, _, anchor = target.partition("#")
         path = ((ROOT / name).parent / file).resolve() if file else ROOT / name
-        if "://" not in target and (not path.exists() or anchor and anchor not in headings(path)):
+        if "://" not in target and (not path.exists() or anchor and anchor not in anchors(path)):
             yield f"{name}: leads nowhere: {target}"
 
 
 def named_path(name, path):
-    """The path that a document names, in the first folder of `near` that has it."""
     near = (ROOT, (ROOT / name).parent, CRATE, CRATE / "src", ROOT / "rust/core/src")
     return next((folder / path for folder in near if (folder / path).exists()), None)
 
@@ -82,7 +80,6 @@ def names_elsewhere(name):
 
 
 def code_in_prose(name):
-    """Names code in a document's prose, which tests/documents doesn't run."""
     for code in re.findall(r"`([^`\n]+)`", prose(name)):
         if re.search(r"\w\([^)]|;|\w -[\w-]+ .*\w", code):
             yield f"{name}: has code in its prose, which nothing runs: {code}"
@@ -111,9 +108,19 @@ def texts_of_vectors():
 def other_helps():
     _, table = read("docs/GRAMMAR.md").split("| help | what stands at the place |\n|---|---|\n")
     lines = set(texts_of_vectors())
-    for told in re.findall("^\\| `(.*?)` \\|", table.split("\n\n")[0], re.M):
-        if not any(line.endswith(f" ({told})") for line in lines):
-            yield f"docs/GRAMMAR.md: no error in the vectors has the help `{told}`"
+    for help_text in re.findall("^\\| `(.*?)` \\|", table.split("\n\n")[0], re.M):
+        if not any(line.endswith(f" ({help_text})") for line in lines):
+            yield f"docs/GRAMMAR.md: no error in the vectors has the help `{help_text}`"
+
+
+def other_lines():
+    lines = set(texts_of_vectors())
+    for row in rows_of_tables("docs/GRAMMAR.md"):
+        # The vectors have no refusals by these causes.
+        if "line" in row and not re.match("`(OutOfRange|NotText)`", row["cause"]):
+            for wanted in re.findall("`(.*?)`", row["line"]):
+                if not any(wanted.split(' "')[0] in line for line in lines):
+                    yield f"docs/GRAMMAR.md: no error in the vectors has the line `{wanted}`"
 
 
 # ---- Tables of texts
@@ -139,17 +146,17 @@ def rows_of_tables(name):
         yield from (dict(zip(head, row)) for row in rows)
 
 
-def is_answered(told, text, names):
+def is_answered(claim, text, names):
     answer = reference_parser.Choice.named(names).answer(text)
-    if line := re.fullmatch(r"`(.* .*)`", told):
+    if line := re.fullmatch(r"`(.* .*)`", claim):
         return answer.cause != "read" and reference_parser.one_line(text, answer) == line[1]
-    if told in ("refused", "read"):
-        return (answer.cause == "read") == (told == "read")
-    if place := re.fullmatch(r"a syntax fault at the (?:`(.*)`|end)", told):
+    if claim in ("refused", "read"):
+        return (answer.cause == "read") == (claim == "read")
+    if place := re.fullmatch(r"a syntax fault at the (?:`(.*)`|end)", claim):
         return answer.cause == "syntax" and answer.found == (place[1] or "")
-    if cause := re.fullmatch(r"`(\w+)`", told):
+    if cause := re.fullmatch(r"`(\w+)`", claim):
         return answer.cause == re.sub(r"(?<=.)([A-Z])", r" \1", cause[1]).lower()
-    meant = reference_parser.Choice().answer(re.sub(r"^an? ", "1 ", told).replace(",", ""))
+    meant = reference_parser.Choice().answer(re.sub(r"^an? ", "1 ", claim).replace(",", ""))
     return answer.cause == "read" and meant.cause == "read" and answer.value == meant.value
 
 
@@ -160,40 +167,40 @@ def answers_in(cell):
     return re.sub(r" \(.*|: .*|, as .*", "", cell).split(", ")
 
 
-def told_of(row, column):
+def claims_of(row, column):
     # In a cell, `\f` stands for a form feed.
     texts = re.findall(r"`([^`]+)`", row.get("text", "").replace(r"\f", "\f"))
-    told = answers_in(row[column])
-    return zip(texts, told * (len(texts) if len(told) == 1 else 1))
+    claims = answers_in(row[column])
+    return zip(texts, claims * (len(texts) if len(claims) == 1 else 1))
 
 
-def told_answers():
+def claimed_answers():
     """What the tables say of texts: the document, a text, its options, and the answer."""
     for name in ("README.md", "docs/GRAMMAR.md", "docs/MIGRATING.md"):
         for row in rows_of_tables(name):
             for column in row.keys() & ANSWERED.keys():
-                for text, each in told_of(row, column):
+                for text, each in claims_of(row, column):
                     yield name, text, ANSWERED[column], each
-    for text, names, told in cases("answer"):
-        yield PROMISES, text, names, answers_in(told)[0]
+    for text, names, claim in cases("answer"):
+        yield PROMISES, text, names, answers_in(claim)[0]
 
 
 def other_answers():
-    for name, text, names, told in told_answers():
-        if not is_answered(told, text, names):
-            yield f"{name}: the reference parser answers otherwise: `{text}`: {told}"
+    for name, text, names, claim in claimed_answers():
+        if not is_answered(claim, text, names):
+            yield f"{name}: the reference parser answers otherwise: `{text}`: {claim}"
 
 
 PRINTED_IN = "printed in these units"
 
 
-def told_printed():
+def claimed_printed():
     """What the tables say of printed durations: the document, the duration's text and nanoseconds,
     the units and the number of parts, and the printed text.
     """
     printed = [unit.printed for unit in reference_parser.UNITS]
 
-    def told(name, length, names, parts, text):
+    def claim(name, length, names, parts, text):
         units = tuple(unit for unit in reference_parser.UNITS if unit.printed in names)
         return name, length, reference_parser.Choice().answer(length).value, units, parts, text
 
@@ -206,27 +213,27 @@ def told_printed():
         elif " to " in row[PRINTED_IN]:
             names = printed[printed.index(names[0]) : printed.index(names[1]) + 1]
         parts = len(printed) if row["parts"] == "all" else int(row["parts"])
-        yield told("docs/GRAMMAR.md", length, names, parts, row["text"])
+        yield claim("docs/GRAMMAR.md", length, names, parts, row["text"])
     for length, names, text in cases("printed"):
         given = dict(name.split("=") for name in names)
         units = given.get("units", ",".join(printed)).split(",")
-        yield told(PROMISES, length, units, int(given.get("parts", len(printed))), text)
+        yield claim(PROMISES, length, units, int(given.get("parts", len(printed))), text)
 
 
 def other_printed():
-    for name, length, nanos, units, parts, told in told_printed():
+    for name, length, nanos, units, parts, claim in claimed_printed():
         text = reference_parser.print_within(nanos, units, parts)
-        if f"`{text}`" != re.match("`.*?`|$", told)[0]:
-            yield f"{name}: {length} prints as `{text}`, and not as {told}"
+        if f"`{text}`" != re.match("`.*?`|$", claim)[0]:
+            yield f"{name}: {length} prints as `{text}`, and not as {claim}"
 
 
 def untested_examples():
     code = read("rust/tests/printers.rs")
     for row in rows_of_tables("docs/MIGRATING.md"):
-        told = row["how to print it here"] if "printer" in row else ""
-        if not told.startswith("function"):
+        how = row["how to print it here"] if "printer" in row else ""
+        if not how.startswith("function"):
             continue
-        function = told.removeprefix("function ").strip("`")
+        function = how.removeprefix("function ").strip("`")
         for wanted in (f"fn {function}(", *re.findall("`(.*?)`", row["prints"])):
             if f"\n{wanted}" not in code and f'"{wanted}"' not in code:
                 yield f"docs/MIGRATING.md: rust/tests/printers.rs does not have {wanted}"
@@ -248,7 +255,7 @@ def other_kinds():
     for (after, (text, names)), no_calc in itertools.product(ENDS.items(), ([], ["no_calc"])):
         column = "can follow with `no_calc`" if no_calc else "can follow"
         expected = reference_parser.Choice.named(names + no_calc).answer(f"{text}-").expected
-        wanted = ", ".join(told for kind, told in KINDS.items() if kind in expected)
+        wanted = ", ".join(words for kind, words in KINDS.items() if kind in expected)
         if no_calc and after == "an operator":
             wanted = "(no operators)"
         if rows.get(after, {}).get(column) != wanted:
@@ -260,8 +267,7 @@ def other_kinds():
 PROMISES = "docs/PROMISES.md"
 LEADS_THERE = " says what is proved, what is tested, and what you trust."
 OF_PROOFS = re.compile(r"\b(dis)?(prov(e[dns]?|ing)|prover|proofs?|verif\w+|guarantee\w*)\b", re.I)
-# The files that have the sentence that leads to PROMISES
-PACKAGES = (
+LEADING_TO_PROMISES = (
     "c/README.md",
     HEADER,
     "js/README.md",
@@ -274,8 +280,7 @@ PACKAGES = (
     "shell/README.md",
     "web/page.html",
 )
-# Further files, in which that sentence must not stand.
-OTHERS = ("docs/GRAMMAR.md", "docs/MIGRATING.md", "docs/SPEED.md")
+NOT_LEADING_TO_PROMISES = ("docs/GRAMMAR.md", "docs/MIGRATING.md", "docs/SPEED.md")
 
 
 def section(name, heading):
@@ -326,13 +331,13 @@ def other_sentences_on_proofs():
     for sentence in sentences_of(section("README.md", "## What is proved")):
         if plain(sentence) not in there | {f"PROMISES{LEADS_THERE}"}:
             yield f"README.md: says what {PROMISES} doesn't: {sentence}"
-    for name in (*PACKAGES, *OTHERS):
+    for name in (*LEADING_TO_PROMISES, *NOT_LEADING_TO_PROMISES):
         # Marks of comments and of a web page are no part of a sentence.
         text = re.sub(r"(?m)^ *(//[/!]?|\*|/\*+)( |$)", "", read(name).replace("<code>", "`"))
         text = re.sub(r"</?\w+[^>]*>", "", text.replace("</code>", "`"))
         said = [plain(each) for each in sentences_of(text) if OF_PROOFS.search(each)]
         wanted = f"{PROMISES} in the repository{LEADS_THERE}"
-        if said.count(wanted) != (name in PACKAGES):
+        if said.count(wanted) != (name in LEADING_TO_PROMISES):
             yield f"{name}: has not once the sentence: {wanted}"
         for sentence in said:
             if sentence != wanted:
@@ -407,9 +412,6 @@ def other_pictures():
                 yield f"docs/images/{picture.name}: is not what tools/pictures draws"
 
 
-# ---- All together
-
-
 def problems():
     folders = sorted({name.split("/")[0] for name in tracked_files("*/**")})
     for name in tracked_files("*.md"):
@@ -423,6 +425,7 @@ def problems():
         other_quotes,
         other_requirements,
         other_helps,
+        other_lines,
         other_answers,
         other_printed,
         other_kinds,

@@ -201,10 +201,7 @@ KINDS = ("number", "unit", "operator")
 
 @functools.lru_cache(1 << 20)
 def begins_sentence(kinds, options, default_unit):
-    """Whether some sentence begins with these kinds of terminals.
-
-    If so, they are a sentence, or become one with one or two more terminals.
-    """
+    # If so, the kinds are a sentence, or become one with one or two more terminals.
     return is_sentence(list(kinds), options, default_unit) or any(
         is_sentence([*kinds, *more], options, default_unit)
         for more in (*((kind,) for kind in KINDS), ("number", "unit"))
@@ -473,8 +470,7 @@ def prepare(text, choices):
         choice.answer(text)
 
 
-# Matches a number with a fraction or an exponent.
-BARE = re.compile(
+FRACTION_OR_EXPONENT = re.compile(
     rf"[{BLANKS}]*([0-9]*\.[0-9]+([eE][-+]?[0-9]+)?|[0-9]+[eE][-+]?[0-9]+)[{BLANKS}]*"
 )
 
@@ -608,8 +604,8 @@ QUOTED = 40
 
 def listed(words):
     """A class of the characters that GRAMMAR lists as `U+..` in the paragraph with these words."""
-    told = GRAMMAR.read_text(encoding="utf-8").split(words)[1].split("\n\n")[0]
-    pairs = re.findall(r"U\+(\w+)(?:-(\w+))?", told)
+    paragraph = GRAMMAR.read_text(encoding="utf-8").split(words)[1].split("\n\n")[0]
+    pairs = re.findall(r"U\+(\w+)(?:-(\w+))?", paragraph)
     ends = ((chr(int(first, 16)), chr(int(last or first, 16))) for first, last in pairs)
     return "[" + "".join(f"{first}-{last}" for first, last in ends) + "]"
 
@@ -679,7 +675,12 @@ def help_at(text, place, piece, expected):
         return 'one duration is read, without "," or "and"'
     rows = HELP if text[:place].strip(BLANKS) else HELP | FIRST_HELP
     return next(
-        (told for pattern, told in rows.items() if re.compile(pattern).match(text, place)), None
+        (
+            help_text
+            for pattern, help_text in rows.items()
+            if re.compile(pattern).match(text, place)
+        ),
+        None,
     )
 
 
@@ -733,20 +734,25 @@ def one_line(text, answer):
     column = f" at column {answer.place + 1}"
     if "unit" in answer.expected and piece and kind_in_line(piece[0]) == "letter":
         name = near_name(piece)
-        told = (
+        help_text = (
             f'did you mean "{name}"?'
             if name
             else help_at(text, answer.place, piece, answer.expected) or f"write {NAMES}"
         )
-        return f"unknown unit {quote(piece)}{column} ({told})"
-    told = help_at(text, answer.place, piece, answer.expected) or missing_unit_help(
+        return f"unknown unit {quote(piece)}{column} ({help_text})"
+    help_text = help_at(text, answer.place, piece, answer.expected) or missing_unit_help(
         text, answer.expected
     )
     found = f", found {quote(piece) if piece else 'the end'}"
-    return expected_in_line(answer.expected) + column + found + (f" ({told})" if told else "")
+    return (
+        expected_in_line(answer.expected)
+        + column
+        + found
+        + (f" ({help_text})" if help_text else "")
+    )
 
 
-def output_of(line, choice, told=message):
+def output_of(line, choice, text_of_refusal=message):
     """What the program writes for a line of bytes, and whether the line is accepted."""
     try:
         text = line.decode()
@@ -754,7 +760,7 @@ def output_of(line, choice, told=message):
         return b"not UTF-8", False
     answer = choice.answer(text)
     if answer.cause != "read":
-        return told(text, answer).encode(), False
+        return text_of_refusal(text, answer).encode(), False
     human = print_whole(answer.value)
     assert len(human.encode()) <= LONGEST_PRINTED
     return f"{answer.value} {human}".encode(), True

@@ -60,17 +60,17 @@ def refusals():
         place = None if answer.place is None else len(text[: answer.place].encode())
         kinds = [kind for kind in KINDS if kind in answer.expected]
         cause = answer.cause.replace(" ", "_").upper()
-        told = [text, names, cause, place, answer.found or None, kinds]
+        wanted = [text, names, cause, place, answer.found or None, kinds]
         if cause != "READ":
-            told += [reference_parser.one_line(text, answer), spaces_of(text, answer)]
-        yield row, told, line
+            wanted += [reference_parser.one_line(text, answer), spaces_of(text, answer)]
+        yield row, wanted, line
     for row in rows["refused_numbers"]:
         unit, number, line = row
         answer = in_unit(unit).answer(str(number))
-        told = [unit, number]
+        wanted = [unit, number]
         if answer.cause != "read":
-            told.append(reference_parser.one_line(str(number), answer))
-        yield row, told, line
+            wanted.append(reference_parser.one_line(str(number), answer))
+        yield row, wanted, line
 
 
 def spaces_of(text, answer):
@@ -96,27 +96,27 @@ def durations():
 def differing():
     rows, named = tables(), set()
     for text, choice, nanos in texts():
-        if (told := choice.answer(text).value) != nanos and text not in named:
+        if (wanted := choice.answer(text).value) != nanos and text not in named:
             named.add(text)
-            yield [text, choice.words(), nanos], told
-    yield from ((row, told) for row, told, _ in refusals() if row != told)
+            yield [text, choice.words(), nanos], wanted
+    yield from ((row, wanted) for row, wanted, _ in refusals() if row != wanted)
     for row in rows["from"]:
         unit, text, *_ = row
         length = UNITS[PLACES[unit]].length
-        told = [reference_parser.bare_number(text, length, way) for way in ("down", "up")]
-        if None in told:
-            told = [f"duration of over 584 years in {reference_parser.quote(text.strip(BLANKS))}"]
-        if row != [unit, text, *told]:
-            yield row, told
+        wanted = [reference_parser.bare_number(text, length, way) for way in ("down", "up")]
+        if None in wanted:
+            wanted = [f"duration of over 584 years in {reference_parser.quote(text.strip(BLANKS))}"]
+        if row != [unit, text, *wanted]:
+            yield row, wanted
     for row, length, units, parts in durations():
         short, long = (
             reference_parser.print_within(length, units, parts, style)
             for style in ("short", "long")
         )
         _, rest = reference_parser.break_down(length, units, parts)
-        told = [short, long, *divmod(rest, SECOND)]
-        if row[2:] != told:
-            yield row, told
+        wanted = [short, long, *divmod(rest, SECOND)]
+        if row[2:] != wanted:
+            yield row, wanted
         if (row in rows["printed"]) != bool(units and parts):
             yield row, "the other table for it"
     if rows["styles"] != [*STYLES]:
@@ -125,6 +125,6 @@ def differing():
 
 def problems():
     yield from (f"{FILE}: {name} is empty" for name, rows in tables().items() if not rows)
-    for row, told in differing():
-        row, told = (json.dumps(each, ensure_ascii=False) for each in (row, told))
-        yield f"{FILE}: for {row} the reference parser has {told}"
+    for row, wanted in differing():
+        row, wanted = (json.dumps(each, ensure_ascii=False) for each in (row, wanted))
+        yield f"{FILE}: for {row} the reference parser has {wanted}"

@@ -15,10 +15,6 @@ FURTHER = re.compile(r"^humantime_row_of (\w+) = .*?with_names \((.*?)\) \(row_o
 
 
 class Unit(typing.NamedTuple):
-    """A unit: its variant, its length in nanoseconds, its printed and its long name, its names, and
-    the names that `cn_unit` adds.
-    """
-
     variant: str
     length: int
     printed: str

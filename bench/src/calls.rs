@@ -1,6 +1,6 @@
-//! Single calls of this library, for a tool that counts instructions. The program needs no crates
-//! of others, so `rustc` alone builds it. SIDE is `crate` (the Rust crate) or `archive` (the
-//! archive, called through C). The program does one of these things COUNT times:
+//! Single calls of this library, for a tool that counts instructions. SIDE is `crate` (the Rust
+//! crate) or `archive` (the archive, called through C). The program does one of these things COUNT
+//! times:
 //!
 //! - `calls SIDE nothing COUNT`: runs only the loop.
 //! - `calls SIDE read COUNT`, `calls SIDE print COUNT`: reads `3m 13s 29ms`, or prints its duration

@@ -108,7 +108,6 @@ impl Library for Crate {
     }
 }
 
-/// The archive, called through C.
 pub struct Archive;
 
 impl Archive {
@@ -221,7 +220,7 @@ fn print_all<L: Library>(count: u64, of: fn(Duration) -> Duration) {
     });
 }
 
-/// Does `count` times what the words say. The first lines of `calls.rs` describe them.
+/// The first lines of `calls.rs` describe the words.
 pub fn calls<L: Library>(words: &[&str], count: u64) {
     let length = Duration::new(193, 29_000_000);
     let of_nanos = |nanos: &str| Duration::from_nanos(nanos.parse().expect("nanoseconds"));

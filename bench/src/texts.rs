@@ -56,7 +56,6 @@ pub fn below_day(length: Duration) -> Duration {
     Duration::new(length.as_secs() % 86_400, length.subsec_nanos())
 }
 
-/// A text of `bytes` bytes: terms of one nanosecond, and blanks.
 pub fn long_text(bytes: usize) -> String {
     let mut text = "1ns ".repeat(bytes / 4);
     while text.len() < bytes {

@@ -61,7 +61,7 @@ try {
     const places: (number | null)[] = [error.index, error.place];
     const expected: Expected = error.expected;
     const any: boolean = expected.number || expected.unit || expected.operator || expected.end;
-    const told: (string | null)[] = [
+    const texts: (string | null)[] = [
         error.found, error.report, error.text, error.message, cause.text,
     ];
     // @ts-expect-error: without a place it is null
@@ -70,7 +70,7 @@ try {
     if (error.code === "READ") throw error;
     // @ts-expect-error: the field is read-only
     error.report = "";
-    void [places, any, told, index];
+    void [places, any, texts, index];
 }
 
 // @ts-expect-error: a number is read only with a default unit

@@ -133,13 +133,13 @@ class Reading(unittest.TestCase):
             "one = ['1s', float('nan'), None]\n"
             "print(*map(repr, map(duration_str.to_timedelta, one)), repr(duration_str.to_timedelta('x', errors='coerce')))\n"
         )
-        told = subprocess.run(
+        ran = subprocess.run(
             [sys.executable, "-c", program], capture_output=True, text=True, check=True
         )
         # From version 2 on, NumPy shows its values in another way.
         second, missing = numpy.timedelta64(SECOND, "ns"), numpy.timedelta64("NaT", "ns")
         one = f"{second!r} {missing!r} None {missing!r}"
-        self.assertEqual(told.stdout, f"{[SECOND, *[-(2**63)] * 5]} False\n{one}\n")
+        self.assertEqual(ran.stdout, f"{[SECOND, *[-(2**63)] * 5]} False\n{one}\n")
 
     def test_counts_the_default_unit(self):
         read = to_timedelta(pandas.Series(["1500", "1s 500", None]), default_unit="ms")
@@ -227,21 +227,23 @@ class Reading(unittest.TestCase):
                     numbers(to_timedelta(["1s", text], errors="coerce")), [SECOND, None]
                 )
                 line = r"^at index 1: duration of 2\^63 nanoseconds or more, which timedelta64 doesn't have$"
-                with self.assertRaisesRegex(DurationError, line) as told:
+                with self.assertRaisesRegex(DurationError, line) as raised:
                     to_timedelta(["1s", text, "x"])
-                self.assertEqual((told.exception.index, told.exception.cause), (1, Cause.OVERFLOW))
-                self.assertEqual((told.exception.text, told.exception.place), (text, None))
+                self.assertEqual(
+                    (raised.exception.index, raised.exception.cause), (1, Cause.OVERFLOW)
+                )
+                self.assertEqual((raised.exception.text, raised.exception.place), (text, None))
 
     def test_raises_the_first_refusal(self):
         with self.assertRaisesRegex(
             DurationError, '^at index 2: expected .* at column 5, found "-"$'
-        ) as told:
+        ) as raised:
             to_timedelta(["1s", None, "1m 3-5", "300y", "x"])
-        self.assertEqual((told.exception.index, told.exception.found), (2, "-"))
+        self.assertEqual((raised.exception.index, raised.exception.found), (2, "-"))
         labelled = pandas.Series(["1s", "x"], index=[10, 20])
-        with self.assertRaises(DurationError) as told:
+        with self.assertRaises(DurationError) as raised:
             to_timedelta(labelled)
-        self.assertEqual(told.exception.index, 1)
+        self.assertEqual(raised.exception.index, 1)
 
     def test_keeps_timedeltas(self):
         lengths = [
@@ -374,9 +376,9 @@ class Reading(unittest.TestCase):
                 self.assertEqual((type(read), read.value), (pandas.Timedelta, nanos))
         with self.assertRaisesRegex(
             DurationError, r'^unknown unit "x" at column 2 \(write y, .* or ns\)$'
-        ) as told:
+        ) as raised:
             to_timedelta("1x")
-        self.assertIsNone(told.exception.index)
+        self.assertIsNone(raised.exception.index)
         self.assertTrue(
             numpy.isnat(to_timedelta(["1h", "90"], errors="coerce", require_unit=True)[1])
         )

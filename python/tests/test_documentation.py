@@ -52,16 +52,19 @@ class Documentation(unittest.TestCase):
             )
         for name in ["parse_many", "to_timedelta", "DurationField"]:
             signature = inspect.signature(getattr(duration_str, name))
-            told = [*map(str, signature.parameters.values())]
-            self.assertEqual(told[-5], "no_calc: 'bool' = False")
-            self.assertEqual(told[-1], "default_unit: 'Unit' = 's'")
+            parameters = [*map(str, signature.parameters.values())]
+            self.assertEqual(parameters[-5], "no_calc: 'bool' = False")
+            self.assertEqual(parameters[-1], "default_unit: 'Unit' = 's'")
 
     def test_fits_a_terminal(self):
-        for told in [duration_str, *map(vars(duration_str).get, ["format", *duration_str.__all__])]:
-            for line in (told.__doc__ or "").splitlines():
+        for documented in [
+            duration_str,
+            *map(vars(duration_str).get, ["format", *duration_str.__all__]),
+        ]:
+            for line in (documented.__doc__ or "").splitlines():
                 self.assertLessEqual(len(line), 79, line)
 
     def test_has_its_version_and_its_description(self):
-        told = importlib.metadata.metadata("duration-str")
-        self.assertEqual(told["Version"], duration_str.__version__)
-        self.assertIn("# duration-str for Python", told.get_payload())
+        metadata = importlib.metadata.metadata("duration-str")
+        self.assertEqual(metadata["Version"], duration_str.__version__)
+        self.assertIn("# duration-str for Python", metadata.get_payload())

@@ -28,8 +28,8 @@ def has(name):
 
 def recipe(name):
     """The first line of a recipe is a comment with its name."""
-    told = importlib.metadata.metadata("duration-str").get_payload()
-    return re.search(rf"^```python\n(# {name}\n.*?)^```$", told, re.M | re.S)[1]
+    readme = importlib.metadata.metadata("duration-str").get_payload()
+    return re.search(rf"^```python\n(# {name}\n.*?)^```$", readme, re.M | re.S)[1]
 
 
 def run(name, *words):
@@ -64,9 +64,9 @@ class Lines(unittest.TestCase):
     def test_argparse(self):
         self.assertEqual(run("job.py", "--timeout", "1m"), (0, "0:01:00\n", ""))
         self.assertEqual(run("job.py"), (0, "0:00:30\n", ""))
-        status, output, told = run("job.py", "--timeout", "5 mins")
+        status, output, errors = run("job.py", "--timeout", "5 mins")
         self.assertEqual((status, output), (2, ""))
-        self.assertEqual(told, f"job.py: error: argument --timeout: '5 mins': {LINE}")
+        self.assertEqual(errors, f"job.py: error: argument --timeout: '5 mins': {LINE}")
 
     def test_argparse_takes_options(self):
         from duration_str.argparse import DURATION, DurationType
@@ -89,9 +89,9 @@ class Lines(unittest.TestCase):
         self.assertEqual(run("wait.py", "--timeout", "1m"), (0, "0:01:00\n", ""))
         self.assertEqual(run("wait.py"), (0, "0:00:30\n", ""))
         self.assertIn("--timeout DURATION", run("wait.py", "--help")[1])
-        status, output, told = run("wait.py", "--timeout", "5 mins")
+        status, output, errors = run("wait.py", "--timeout", "5 mins")
         self.assertEqual((status, output), (2, ""))
-        self.assertEqual(told, f"Error: Invalid value for '--timeout': '5 mins': {LINE}")
+        self.assertEqual(errors, f"Error: Invalid value for '--timeout': '5 mins': {LINE}")
 
     @unittest.skipUnless(has("click"), "Click is missing")
     def test_click_takes_options(self):
@@ -318,10 +318,11 @@ class Models(unittest.TestCase):
 
     def test_is_named_in_a_union(self):
         model = self.pydantic.create_model("Either", length=(duration_str.Duration | int, ...))
-        with self.assertRaises(self.pydantic.ValidationError) as told:
+        with self.assertRaises(self.pydantic.ValidationError) as raised:
             model(length="x")
         self.assertEqual(
-            told.exception.errors()[0]["loc"], ("length", "function-before[duration(), timedelta]")
+            raised.exception.errors()[0]["loc"],
+            ("length", "function-before[duration(), timedelta]"),
         )
 
     def test_refuses_what_is_no_text_as_pydantic_does(self):
@@ -329,38 +330,40 @@ class Models(unittest.TestCase):
             lambda: self.model(timeout=5),
             lambda: self.model.model_validate_json('{"timeout": 5}'),
         ]:
-            with self.assertRaises(self.pydantic.ValidationError) as told:
+            with self.assertRaises(self.pydantic.ValidationError) as raised:
                 read()
-            self.assertEqual([error["type"] for error in told.exception.errors()], ["string_type"])
-        with self.assertRaises(self.pydantic.ValidationError) as told:
+            self.assertEqual(
+                [error["type"] for error in raised.exception.errors()], ["string_type"]
+            )
+        with self.assertRaises(self.pydantic.ValidationError) as raised:
             self.model(timeout=-MINUTE)
-        self.assertIn("duration_negative", json.dumps(told.exception.errors()[0]["type"]))
+        self.assertIn("duration_negative", json.dumps(raised.exception.errors()[0]["type"]))
 
     def test_tells_what_is_wrong_in_one_line(self):
         for read in [
             lambda: self.model(timeout="5 mins"),
             lambda: self.model.model_validate_json('{"timeout": "5 mins"}'),
         ]:
-            with self.assertRaises(self.pydantic.ValidationError) as told:
+            with self.assertRaises(self.pydantic.ValidationError) as raised:
                 read()
-            (error,) = told.exception.errors()
+            (error,) = raised.exception.errors()
             self.assertEqual(
                 (error["type"], error["loc"], error["msg"]), ("duration", ("timeout",), LINE)
             )
             self.assertEqual(
                 error["ctx"], {"cause": "SYNTAX", "place": 2, "pos": 2, "found": "mins"}
             )
-            self.assertEqual(told.exception.json().count("did you mean"), 1)
-        with self.assertRaises(self.pydantic.ValidationError) as told:
+            self.assertEqual(raised.exception.json().count("did you mean"), 1)
+        with self.assertRaises(self.pydantic.ValidationError) as raised:
             self.model(timeout="1µs …")
         self.assertEqual(
-            told.exception.errors()[0]["ctx"],
+            raised.exception.errors()[0]["ctx"],
             {"cause": "SYNTAX", "place": 5, "pos": 4, "found": "…"},
         )
-        with self.assertRaises(self.pydantic.ValidationError) as told:
+        with self.assertRaises(self.pydantic.ValidationError) as raised:
             self.model(timeout="600y {cause}")
         self.assertEqual(
-            told.exception.errors()[0]["msg"], 'duration of over 584 years in "600y {cause}"'
+            raised.exception.errors()[0]["msg"], 'duration of over 584 years in "600y {cause}"'
         )
 
     def test_runs_the_recipe(self):
@@ -377,7 +380,7 @@ class Models(unittest.TestCase):
 
     def test_is_imported_by_who_uses_it(self):
         program = "import sys, duration_str; print(*{'pydantic', 'click', 'argparse', 'numpy'} & {*sys.modules})"
-        told = subprocess.run(
+        ran = subprocess.run(
             [sys.executable, "-c", program], capture_output=True, text=True, check=True
         )
-        self.assertEqual(told.stdout, "\n")
+        self.assertEqual(ran.stdout, "\n")

@@ -73,10 +73,10 @@ class Hostile(unittest.TestCase):
             (parse_ns, Named("1x"), None),
             (parse_many, ["1s", Named("1x")], 1),
         ]:
-            with self.assertRaises(DurationError) as told:
+            with self.assertRaises(DurationError) as raised:
                 call(given)
             self.assertEqual(
-                (told.exception.index, told.exception.text, type(told.exception.text)),
+                (raised.exception.index, raised.exception.text, type(raised.exception.text)),
                 (index, "1x", str),
             )
 

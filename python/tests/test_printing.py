@@ -183,17 +183,17 @@ class Printing(unittest.TestCase):
         for limits in ({"largest": "w"}, {"largest": "w", "smallest": "w"}):
             limits["units"] = ("y", "mon")
             rows += [(limits, ValueError, "^units must have one from largest to smallest$")]
-        for limits, error, told in rows:
+        for limits, error, line in rows:
             for call in [lambda: format(5, **limits), lambda: format_many([], **limits)]:
                 with self.subTest(**limits):
-                    self.assertRaisesRegex(error, told, call)
+                    self.assertRaisesRegex(error, line, call)
             if "style" in limits:
-                error, told = (
+                error, line = (
                     TypeError,
                     r"^breakdown\(\) got an unexpected keyword argument 'style'$",
                 )
             with self.subTest(**limits):
-                self.assertRaisesRegex(error, told, breakdown, 5, **limits)
+                self.assertRaisesRegex(error, line, breakdown, 5, **limits)
         for call in [
             lambda: format(5, 2),
             lambda: format(),
@@ -221,13 +221,14 @@ class Breakdowns(unittest.TestCase):
             breakdown(2**64 * SECOND)
 
     def test_has_named_parts(self):
-        told = breakdown(datetime.timedelta(hours=1, minutes=30), smallest="h")
-        self.assertEqual(told, Breakdown((Part(1, "h"),), 1800 * SECOND))
+        counted = breakdown(datetime.timedelta(hours=1, minutes=30), smallest="h")
+        self.assertEqual(counted, Breakdown((Part(1, "h"),), 1800 * SECOND))
         self.assertEqual(
-            (told.parts[0].count, told.parts[0].unit, told.rest_ns), (1, "h", 1800 * SECOND)
+            (counted.parts[0].count, counted.parts[0].unit, counted.rest_ns),
+            (1, "h", 1800 * SECOND),
         )
-        self.assertEqual(repr(told.parts), "(Part(count=1, unit='h'),)")
-        self.assertEqual(pickle.loads(pickle.dumps(told)), told)
+        self.assertEqual(repr(counted.parts), "(Part(count=1, unit='h'),)")
+        self.assertEqual(pickle.loads(pickle.dumps(counted)), counted)
 
     def test_breaks_random_durations_down_as_they_are_printed(self):
         seed = random.Random(19)

@@ -213,9 +213,9 @@ assert parse("90s") == datetime.timedelta(seconds=90)
             both = {"require_unit": True, "default_unit": "ms", **others}
             rows += [(both, ValueError, "^default_unit can't be named if require_unit is on$")]
         rows += [({"require_unit": True, "default_unit": "s"}, ValueError, "can't be named")]
-        for (words, error, told), call in itertools.product(rows, CALLS):
+        for (words, error, line), call in itertools.product(rows, CALLS):
             with self.subTest(call=call, **words):
-                with self.assertRaisesRegex(error, told) as raised:
+                with self.assertRaisesRegex(error, line) as raised:
                     call(**words)
                 self.assertNotIsInstance(raised.exception, DurationError)
         self.assertEqual(parse_ns("1s", require_unit=False, default_unit="ms"), 10**9)

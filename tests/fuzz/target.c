@@ -99,12 +99,12 @@ static bool is_untouched(const uint8_t *from, const uint8_t *to) {
 /* ---- The calls */
 
 static struct duration_str_answer read_with(struct text text, uint32_t options) {
-    struct duration_str_answer told, *answer = (void *)buffer_at(answers_end, sizeof told);
+    struct duration_str_answer copy, *answer = (void *)buffer_at(answers_end, sizeof copy);
     bool read = duration_str_parse_with((const char *)text.bytes, text.length, options, answer);
-    HOLDS(is_untouched(answers_end - sizeof told - CANARIES, answers_end - sizeof told));
-    told = *answer;
-    HOLDS(read == (told.cause == DURATION_STR_CAUSE_READ));
-    return told;
+    HOLDS(is_untouched(answers_end - sizeof copy - CANARIES, answers_end - sizeof copy));
+    copy = *answer;
+    HOLDS(read == (copy.cause == DURATION_STR_CAUSE_READ));
+    return copy;
 }
 
 static bool are_equal(struct duration_str_answer one, struct duration_str_answer two) {
@@ -166,8 +166,6 @@ static void check_report(struct text text, uint32_t options, struct duration_str
           buffer[length] == 0);
     HOLDS(is_untouched(buffer - CANARIES, buffer) && is_untouched(buffer + length + 1, output_end));
 }
-
-/* ---- All together */
 
 static void check_value(uint64_t nanos) {
     check_printed(nanos);

@@ -54,8 +54,8 @@ fn tells_all_of_a_refusal() {
         let Refused(text, names, cause, place, found, kinds, line, spaces) = row;
         let (options, default_unit) = (options_of(names), default_unit_of(names));
         let fault = parse_with_default_unit(text, options, default_unit).expect_err(text);
-        let told = (fault.place(), fault.found());
-        assert_eq!(told, (*place, found.as_deref()), "{text}");
+        let got = (fault.place(), fault.found());
+        assert_eq!(got, (*place, found.as_deref()), "{text}");
         assert_eq!(name_of(fault.cause()), cause, "{text}");
         assert_eq!(fault.expected().map_or(vec![], kinds_of), *kinds, "{text}");
         let error = fault.into_owned();
@@ -137,10 +137,10 @@ fn takes_as_much_memory_as_the_message_is_long() {
         "580y 580y",
         "99999999999999999999",
     ] {
-        let told = parse(text).unwrap_err();
+        let printed = parse(text).unwrap_err();
         assert_eq!(
-            (told.capacity(), &told),
-            (told.len(), &message(text, FEATURES))
+            (printed.capacity(), &printed),
+            (printed.len(), &message(text, FEATURES))
         );
     }
 }

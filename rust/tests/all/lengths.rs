@@ -45,7 +45,7 @@ fn refuses_for_the_first_cause() {
             r#"unknown unit "mons" at column 13 (did you mean "mon"?)"#,
         ),
     ] {
-        let told = refusal(text).to_string();
-        assert!(told.starts_with(line), "{text}: {told}");
+        let printed = refusal(text).to_string();
+        assert!(printed.starts_with(line), "{text}: {printed}");
     }
 }

@@ -5,7 +5,7 @@ macro_rules! handed_over {
         duration!($text)
     };
 }
-
+// bad.txt has the error of each line, with its number.
 fn main() {
     duration!("1m 3-5");
     duration!("600y");

@@ -25,11 +25,11 @@ mod tests {
         std::fs::write(&file, config).unwrap();
         let words = ["service", file.to_str().unwrap()];
         let parsed = Arguments::try_parse_from(words.iter().chain(arguments));
-        let told = parsed
+        let outcome = parsed
             .map_err(|error| error.to_string())
             .and_then(|arguments| settings(&arguments).map_err(|error| error.to_string()));
         std::fs::remove_file(&file).unwrap();
-        told
+        outcome
     }
 
     #[test]
@@ -65,14 +65,14 @@ mod tests {
                 .unwrap_err()
                 .replacen("error: Invalid", "error: invalid", 1);
             let name = option.to_uppercase();
-            let told = format!(
+            let wanted = format!(
                 "error: invalid value '{text}' for '--{option} <{name}>': {}",
                 line(text)
             );
-            assert_eq!(refusal.lines().next(), Some(&told[..]));
+            assert_eq!(refusal.lines().next(), Some(&wanted[..]));
         }
         let refusal = output(&[], r#"{ "timeout": "1H" }"#).unwrap_err();
-        let told = format!("invalid duration: {} at line 1 column 17", line("1H"));
-        assert_eq!(refusal, told);
+        let wanted = format!("invalid duration: {} at line 1 column 17", line("1H"));
+        assert_eq!(refusal, wanted);
     }
 }
