@@ -289,7 +289,9 @@ uninstall: installable
 	if [ -n "$$DESTDIR" ]; then
 	    [ -d "$$DESTDIR" ] || exit 0
 	    cd "$$DESTDIR"
-	    for folder in $(sort $(patsubst /%/,%,$(dir $(installed)))); do
+	    # A name with a slash before it would be that of a folder outside of DESTDIR. With
+	    # prefix=/ each name has two.
+	    for folder in $$(realpath -ms --relative-to=/ $(sort $(dir $(installed)))); do
 	        [ ! -d "$$folder" ] || rmdir -p --ignore-fail-on-non-empty "$$folder"
 	    done
 	    exit 0

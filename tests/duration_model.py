@@ -259,15 +259,14 @@ class Commands(Texts):
         decimals = "0" * self.choice((0, 0, 9, 18)) + str(
             self.random.randrange(10**9)
         ) * self.choice((1, 1, 2))
-        exponent = (
-            self.choice("eE") + self.choice(("", "+", "-", "-0")) + str(self.random.randrange(30))
-        )
+        size = self.choice((str(self.random.randrange(30)), "9" * 20))
+        exponent = self.choice("eE") + self.choice(("", "+", "-", "-0")) + size
         parts = (
             ("", " "),
             ("", "0", self.number()),
             ("", ".", "." + decimals),
             ("", exponent),
-            ("", "\t"),
+            ("", "\t", "s"),
         )
         return "".join(map(self.choice, parts)).encode()
 

@@ -284,8 +284,10 @@ pub const ESCAPE: &[u8] = b"\0";
 fn escape(word: OsString) -> OsString {
     match word.as_encoded_bytes() {
         [b'-', b'.' | b'0'..=b'9', ..] => [OsStr::from_bytes(ESCAPE), &word].into_iter().collect(),
-        // clap would take away the equals sign of `-d=`.
-        b"-d=" => "-d==".into(),
+        // clap would take away the equals sign of `-d=` and `-zd=`.
+        [b'-', flags @ .., b'd', b'='] if flags.iter().all(|flag| b"qz".contains(flag)) => {
+            [&word, OsStr::new("=")].into_iter().collect()
+        }
         _ => word,
     }
 }

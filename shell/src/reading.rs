@@ -82,7 +82,9 @@ fn bare_number(text: &str, unit: TimeUnit, round: Round) -> Option<(&str, u128)>
     }
     let (digits, exponent) = number.split_once(['e', 'E']).unwrap_or((number, "0"));
     let (whole, decimals) = digits.split_once('.').unwrap_or((digits, ""));
-    let is_number = [whole, decimals]
+    // `parse` doesn't look at what follows the digit at which a number becomes too large.
+    let size = exponent.strip_prefix(['+', '-']).unwrap_or(exponent);
+    let is_number = [whole, decimals, size]
         .concat()
         .bytes()
         .all(|byte| byte.is_ascii_digit());
