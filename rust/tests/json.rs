@@ -69,32 +69,30 @@ fn reads_whole_numbers() {
 
 #[test]
 fn refuses_other_numbers() {
-    // Some versions of serde write a whole float with a point.
-    for (json, found) in [
-        ("30.5", "floating point `30.5`"),
-        ("-1", "integer `-1`"),
-        ("-1.5", "floating point `-1.5`"),
-        ("18446744074", "integer `18446744074`"),
-        ("18446744074.0", "integer `18446744074`"),
-        ("18446744073709551615", "integer `18446744073709551615`"),
-        (
-            "18446744073709551616",
-            "floating point `18446744073709552000",
-        ),
-        (
-            "-9223372036854775809",
-            "floating point `-9223372036854776000",
-        ),
-        ("1e18", "floating point `1000000000000000000"),
+    for (json, kind) in [
+        ("30.5", "floating point"),
+        ("-1", "integer"),
+        ("-1.5", "floating point"),
+        ("18446744074", "integer"),
+        ("18446744074.0", "integer"),
+        ("18446744073709551615", "integer"),
+        ("18446744073709551616", "floating point"),
+        ("-9223372036854775809", "floating point"),
+        ("1e18", "floating point"),
     ] {
         for read in both_ways(json) {
             let line = read.unwrap_err().to_string();
+            let start = format!("invalid value: {kind} `");
+            assert!(line.starts_with(&start), "{json}: {line}");
+            let (found, rest) = line[start.len()..].split_once('`').unwrap();
+            if kind == "integer" {
+                assert_eq!(found, json.trim_end_matches(".0"));
+            } else {
+                // serde_json 1.0.87 writes 1e18 with all its zeros, and 1.0.139 as 1e18.
+                assert_eq!(found.parse::<f64>(), json.parse::<f64>());
+            }
             assert!(
-                line.starts_with(&format!("invalid value: {found}")),
-                "{json}: {line}"
-            );
-            assert!(
-                line.contains(&format!("`, expected {EXPECTED}")),
+                rest.starts_with(&format!(", expected {EXPECTED}")),
                 "{json}: {line}"
             );
         }

@@ -183,17 +183,17 @@ impl Run<'_> {
         let mut buffer = [0; FORMAT_BUFFER_SIZE];
         let printed = self.choices.printed(nanos, &mut buffer);
         let mut breakdown = self.choices.breakdown(nanos);
-        let parts: Vec<String> = breakdown
-            .by_ref()
-            .map(|(unit, count)| format!(r#"{{"count":{count},"unit":"{unit}"}}"#))
-            .collect();
-        let (parts, rest) = (parts.join(","), breakdown.rest());
-        let fields = [
-            format!(r#","nanoseconds":"{nanos}","seconds":{seconds}"#),
-            format!(r#","printed":{mark}{printed}{mark}"#),
-            format!(r#","parts":[{parts}],"rest_ns":"{rest}"}}"#),
-        ];
-        self.put(&fields.each_ref().map(|field| field.as_bytes()))
+        write!(
+            self.output,
+            r#","nanoseconds":"{nanos}","seconds":{seconds},"printed":{mark}{printed}{mark},"parts":["#
+        )?;
+        let mut comma = "";
+        for (unit, count) in breakdown.by_ref() {
+            write!(self.output, r#"{comma}{{"count":{count},"unit":"{unit}"}}"#)?;
+            comma = ",";
+        }
+        write!(self.output, r#"],"rest_ns":"{}"}}"#, breakdown.rest())?;
+        self.put(&[])
     }
 
     /// Cuts a line into what is before the text, the text, and what is after it.
