@@ -2,7 +2,6 @@
 use crate::options::{Choices, Round};
 use duration_str::{Fault, TimeUnit, parse_with_default_unit};
 use serde_json::json;
-use std::num::IntErrorKind;
 
 /// `place` and `found` are those of a syntax fault.
 #[derive(Default)]
@@ -81,22 +80,19 @@ fn bare_number(text: &str, unit: TimeUnit, round: Round) -> Option<(&str, u128)>
         return None;
     }
     let (digits, exponent) = number.split_once(['e', 'E']).unwrap_or((number, "0"));
-    let (whole, decimals) = digits.split_once('.').unwrap_or((digits, ""));
-    // `parse` doesn't look at what follows the digit at which a number becomes too large.
-    let size = exponent.strip_prefix(['+', '-']).unwrap_or(exponent);
-    let is_number = [whole, decimals, size]
-        .concat()
-        .bytes()
-        .all(|byte| byte.is_ascii_digit());
-    if !is_number || !digits.ends_with(|last| last != '.') {
+    // Floats of Rust are written like this. They can also have a sign or a point at the end, or be
+    // a word such as `inf`. `parse` accepts a number that is too large for a float.
+    let starts = number.starts_with(|first: char| first.is_ascii_digit() || first == '.');
+    if !starts || digits.ends_with('.') || number.parse::<f64>().is_err() {
         return None;
     }
-    let exponent = match exponent.parse::<isize>() {
-        Ok(exponent) => exponent,
-        Err(error) if *error.kind() == IntErrorKind::PosOverflow => isize::MAX,
-        Err(error) if *error.kind() == IntErrorKind::NegOverflow => isize::MIN,
-        Err(_) => return None,
+    let (whole, decimals) = digits.split_once('.').unwrap_or((digits, ""));
+    let most = if exponent.starts_with('-') {
+        isize::MIN
+    } else {
+        isize::MAX
     };
+    let exponent = exponent.parse().unwrap_or(most);
     // There are enough zeros on both sides for the point to move by the exponent, or beyond all
     // digits that count.
     let exponent = exponent.clamp(-(digits.len() as isize) - 99, digits.len() as isize + 99);
