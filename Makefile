@@ -101,7 +101,8 @@ library:
 
 # cargo hashes the absolute path of a crate outside of the workspace, and so makes other bytes in
 # each folder. So out/command is a workspace around the command and the crate for Rust. It has
-# copies of both, since the gate refuses links.
+# copies of both, since the gate refuses links. The Cargo.lock of an earlier build is removed, since
+# Debian may have other versions of the crates by now.
 command = out/cargo/$(host)/release/duration
 crates = clap clap_complete clap_derive serde_json
 commanded = shell/Cargo.toml shell/src rust/Cargo.toml rust/macros rust/src
@@ -117,7 +118,7 @@ duration:
 	[ -x $(command) ] ||
 	    echo 'duration: cargo builds it and the crates that it uses, in a minute or more' >&2
 	mkdir -p out/command
-	rm -rf out/command/{rust,shell}
+	rm -rf out/command/{Cargo.lock,rust,shell}
 	cp -a --parents rust/{Cargo.toml,core,macros,src} shell/{Cargo.toml,src} out/command
 	{
 	    printf '[workspace]\nmembers = ["shell"]\nexclude = ["rust"]\n'
@@ -331,3 +332,4 @@ clean:
 	rm -rf out crates/*/out tests/fuzz/out target */target js/dist
 	rm -rf python/build python/src/{*.egg-info,duration_str/*.so} */{LICENSE,NOTICE}
 	find . -name __pycache__ -prune -exec rm -r {} +
+	find . -mindepth 2 -name Cargo.lock -delete
