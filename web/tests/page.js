@@ -2,6 +2,33 @@
 window.violations = [];
 addEventListener("securitypolicyviolation", (event) => violations.push(event.violatedDirective));
 
+// What the page puts off runs when a test says so, however slow the machine is.
+const putOff = new Map();
+let timers = 0;
+window.setTimeout = (call) => {
+    timers += 1;
+    putOff.set(timers, call);
+    return timers;
+};
+window.clearTimeout = (timer) => putOff.delete(timer);
+
+/** Between two calls, observers see what has changed. */
+async function runPutOff(done) {
+    const calls = [...putOff.values()];
+    putOff.clear();
+    for (const call of calls) {
+        call();
+        await null;
+    }
+    done();
+}
+
+/** Calls `done` when the page has read the link. */
+function follow(fragment, done) {
+    addEventListener("hashchange", () => done(), { once: true });
+    location.hash = fragment;
+}
+
 const all = (selector) => [...document.querySelectorAll(selector)];
 const seen = (selector) => all(selector).filter((element) => element.checkVisibility());
 const excerpts = (elements) => elements.map((element) => element.outerHTML.slice(0, 80));
@@ -108,4 +135,6 @@ function brokenRules() {
     };
 }
 
-window.asked = { words, answer, pressedUnits, places, lowest, pale, brokenRules };
+window.asked = {
+    words, answer, follow, runPutOff, pressedUnits, places, lowest, pale, brokenRules,
+};

@@ -17,13 +17,13 @@ and "hostile links" must not change how durations are printed.
 """
 import ast
 import base64
+import contextlib
 import json
 import pathlib
 import re
 import subprocess
 import sys
 import tempfile
-import time
 import urllib.parse
 
 HERE = pathlib.Path(__file__).resolve().parent
@@ -32,16 +32,14 @@ sys.dont_write_bytecode = True
 sys.path.append(str(ROOT / "tests"))
 import reference_parser  # noqa: E402
 from selenium import webdriver  # noqa: E402
+from selenium.common.exceptions import TimeoutException  # noqa: E402
 from selenium.webdriver.chrome.service import Service  # noqa: E402
 from selenium.webdriver.common.by import By  # noqa: E402
 from selenium.webdriver.common.keys import Keys  # noqa: E402
-from selenium.webdriver.support.ui import Select  # noqa: E402
+from selenium.webdriver.support.ui import Select, WebDriverWait  # noqa: E402
 
 TEXTS = json.loads((HERE / "texts.json").read_text(encoding="utf-8"))
 SCHEMES = ("light", "dark")
-# A little longer than the page waits after a change before it announces the answer and writes the
-# link
-PAUSE = 0.8
 # The most bytes that the page may have
 LARGEST = 111_500
 # The height that the keyboard of a phone of 375 by 667 pixels leaves free
@@ -119,6 +117,20 @@ class Page:
         """Waits until the answer is drawn."""
         script = "asked.answer(JSON.parse(arguments[0]), arguments[1], arguments[2])"
         self.driver.execute_async_script(script, json.dumps(text), pasted)
+
+    def wait(self):
+        """As long as the page waits after a change before it announces the answer and writes the
+        link.
+        """
+        self.driver.execute_async_script("asked.runPutOff(...arguments)")
+
+    def until(self, holds):
+        """Waits for at most 10 seconds."""
+        with contextlib.suppress(TimeoutException):
+            WebDriverWait(self.driver, 10).until(lambda _: holds())
+
+    def follow(self, fragment):
+        self.driver.execute_async_script("asked.follow(...arguments)", fragment)
 
     def worked(self):
         """Seconds of the processor, since those of the clock depend on what else runs."""
@@ -515,7 +527,7 @@ def try_printing(page):
         page.same(f"printed by {chosen}", printed, page.text_of("printed"))
         shows(page, chosen, code)
         page.type("90061s 1ns")
-        time.sleep(PAUSE)
+        page.wait()
         page.same(
             f"the link of {chosen}", "#text=90061s%201ns" + words, page.run("return location.hash")
         )
@@ -572,7 +584,7 @@ def try_units_printed(page):
     same("a longer unit", "1q 89d", "q d")
     press("d", "mon")
     same("two units that follow one another", "1q 2mon", "q mon")
-    time.sleep(PAUSE)
+    page.wait()
     link = "#text=180d&largest=q&smallest=mon"
     page.same("their link", link, page.run("return location.hash"))
     page.open("#text=1h&units=d,h&largest=h")
@@ -609,7 +621,7 @@ def try_copying(page):
     page.same("copy buttons", 12, len(page.driver.find_elements(By.CSS_SELECTOR, "[data-copies]")))
     for name, expected in copied.items():
         page.click(f"[data-copies={name}]")
-        time.sleep(0.1)
+        page.until(lambda: page.text_of("copied") == f"Copied: {expected.splitlines()[0]}")
         got = page.driver.execute_async_script("navigator.clipboard.readText().then(arguments[0])")
         page.same(
             f"copied: {name}",
@@ -630,7 +642,7 @@ def try_link(page):
     page.open()
     page.choose("no_calc", "cn_unit")
     page.type("1分 30&no=5%#")
-    time.sleep(PAUSE)
+    page.wait()
     link = page.run("return location.hash")
     page.same(
         "the link",
@@ -656,7 +668,7 @@ def try_link(page):
         "what is told of #other=1", "Not understood in the link: other=1", page.text_of("link-note")
     )
     page.put("1m \ud800")
-    time.sleep(PAUSE)
+    page.wait()
     said = "This text is not UTF-8, so the address can't hold it."
     page.same(
         "what is told of a lone surrogate",
@@ -664,7 +676,7 @@ def try_link(page):
         [page.text_of("link-note"), page.text_of("share")],
     )
     page.put("1s " * 667)
-    time.sleep(PAUSE)
+    page.wait()
     page.same(
         "what is told of 2,001 characters",
         "This text is too long for the address.",
@@ -673,14 +685,13 @@ def try_link(page):
     for names in (["require_unit"], ["lowercase", "default_unit=ms"], ["no_calc"]):
         page.open("#text=1h&" + "&".join(names))
         page.type("1h")
-        time.sleep(PAUSE)
+        page.wait()
         link = page.run("return location.hash")
         page.same(
             f"the link of {names}", ["#text=1h&" + "&".join(names), names], [link, page.chosen()]
         )
     page.open("#text=1h&no_calc&style=long")
-    page.run("location.hash = 'cn_unit'")
-    time.sleep(PAUSE)
+    page.follow("cn_unit")
     page.same(
         "another link",
         ["", ["cn_unit"], "short"],
@@ -688,8 +699,7 @@ def try_link(page):
     )
     page.open("#default_unit=ms")
     for link, wanted in ("default_unit=h", [True, False]), ("no_calc", [True, True]):
-        page.run("location.hash = arguments[0]", link)
-        time.sleep(PAUSE)
+        page.follow(link)
         page.same(f"no_calc after a link with {link}", wanted, no_calc_box(page))
 
 
@@ -779,7 +789,7 @@ def try_readers(page):
     )
     for text in ("1", "1h", "1h ", "1h 3", "1h 30", "1h 30m"):
         page.put(text)
-    time.sleep(PAUSE)
+    page.wait()
     page.same("told", ["1h 30min."], page.answer_line("told"))
     told = {
         "1h\n5 mins\n2h": "2 of 3 lines are read.",
@@ -789,7 +799,7 @@ def try_readers(page):
     }
     for text, expected in told.items():
         page.put(text)
-        time.sleep(PAUSE)
+        page.wait()
         page.same(f"told of {text}", expected, page.answer_line("told.at(-1)"))
     described = "['aria-invalid', 'aria-describedby'].map((name) => document.getElementById('text').getAttribute(name))"
     page.same("the input with a fault", ["true", "sentence"], page.answer_line(described))
@@ -940,12 +950,13 @@ def try_outside(page):
 
 def try_without(page):
     def same(what, works):
+        def shown():
+            body = page.driver.find_element(By.TAG_NAME, "body").text
+            return [body.startswith("This page needs"), page.find("text").is_displayed()]
+
         page.open()
-        time.sleep(PAUSE)
-        said = page.driver.find_element(By.TAG_NAME, "body").text.startswith(
-            "This page needs JavaScript"
-        )
-        page.same(what, [not works, works], [said, page.find("text").is_displayed()])
+        page.until(lambda: shown() == [not works, works])
+        page.same(what, [not works, works], shown())
 
     disable = "Emulation.setScriptExecutionDisabled"
     page.driver.execute_cdp_cmd(disable, {"value": True})
