@@ -101,6 +101,13 @@ def read_number(text, options):
     return Refused(line) if nanos is None else nanos
 
 
+def choice_of(options):
+    """Except for the numbers of `read_number`, `--from=s` is the same as no `--from`."""
+    names = [name.replace("-", "_") for name in options]
+    names.append(f"default_unit={options.get('from', 's').lower()}")
+    return reference.as_packages_mean(reference.Choice.named(names))
+
+
 def read(data, options):
     try:
         text = data.decode()
@@ -110,14 +117,7 @@ def read(data, options):
         return read_number(text.strip(BLANKS), options)
     # The reference parser takes long for many blanks.
     text = text if len(text) < 10_000 else text.strip(BLANKS)
-    unit = LENGTHS[options.get("from", "s")]
-    # Except for the numbers of `read_number`, `--from=s` is the same as no `--from`.
-    no_calc = unit != reference.SECOND
-    answer = reference.answer_of(
-        text,
-        reference.Options(no_calc, "lowercase" in options, "cn-unit" in options),
-        None if "require-unit" in options else unit,
-    )
+    answer = choice_of(options).answer(text)
     if answer.cause == "read":
         return answer.value
     column = answer.place + 1 if answer.cause == "syntax" else None
@@ -184,9 +184,8 @@ def end_of(options):
 
 
 def pattern_of(options):
-    no_calc = LENGTHS[options.get("from", "s")] != reference.SECOND
-    names = ("lowercase", "cn-unit", "require-unit")
-    return patterns.pattern(no_calc, *(name in options for name in names))
+    choice = choice_of(options)
+    return patterns.pattern(*choice.options, choice.default_unit is None)
 
 
 def wanted(options, texts, data):

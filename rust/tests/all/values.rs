@@ -1,6 +1,7 @@
 use crate::{FEATURES, Group, by_usual_calls, choices, default_unit_of, has, options_of, vectors};
 use duration_str::{
-    Fault, Options, TimeUnit, parse, parse_in, parse_std, parse_with, parse_with_default_unit,
+    Fault, Options, TimeUnit, UNITS, parse, parse_in, parse_std, parse_with,
+    parse_with_default_unit,
 };
 use duration_str_core as proved;
 use std::time::Duration;
@@ -76,6 +77,16 @@ fn reads_the_digits_of_numbers_in_another_unit() {
     for (unit, number, line) in vectors().refused_numbers {
         let refusal = parse_in(&number.to_string(), unit.parse().unwrap()).unwrap_err();
         assert_eq!(refusal.to_string(), line);
+    }
+}
+
+#[test]
+fn reads_operators_only_if_numbers_count_seconds() {
+    for unit in UNITS {
+        for text in ["1s+1s", "90s*2"] {
+            let is_read = parse_in(text, unit).is_ok();
+            assert_eq!(is_read, unit == TimeUnit::Second, "{text} in {unit}");
+        }
     }
 }
 
