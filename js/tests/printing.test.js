@@ -194,7 +194,7 @@ test("counts the parts", () => {
     for (const [value, format, counted] of rows) assert.deepEqual(parts(value, format), counted);
     assert.throws(
         () => parts(2n ** 53n, { largest: "ns" }),
-        { name: "RangeError", message: /^no number holds 9007199254740992 / },
+        { name: "RangeError", message: /^a count must be below 2\^53, not 9007199254740992: / },
     );
     for (const format of [
         { largest: "q" }, { largest: "y", smallest: "q" }, { smallest: "w" }, { parts: 0 },
