@@ -211,6 +211,19 @@ test("counts the parts", () => {
     }
 });
 
+test("knows whole names only", () => {
+    for (const name of [...ALL_NAMES.flat(), ...VECTORS.styles]) {
+        for (const one of " \t\n\0\x1b-._05é٣\u200b\ud800") {
+            for (const wrong of [one + name, name + one]) {
+                for (const words of [{ largest: wrong }, { units: [wrong] }, { style: wrong }]) {
+                    assert.throws(() => format(5, words), RangeError, JSON.stringify(wrong));
+                }
+                assert.throws(() => parseNs("5", { defaultUnit: wrong }), RangeError);
+            }
+        }
+    }
+});
+
 test("prints milliseconds", () => {
     for (const [value, printed] of [
         [0, "0s"],
