@@ -14,7 +14,8 @@ MARK = r"<!-- (\w+) at (\w+) -->\n"
 # Each group's files, besides the core, and the command that measures them
 CORE = "rust/core/src"
 GROUPS = {
-    "rust": ("rust/src bench/src bench/peer* bench/sizes.py", "bench/run --write"),
+    "rust": ("rust/src bench/src bench/sizes.py", "bench/run --write"),
+    "peers": ("rust/src bench/src bench/peer*", "bench/run --peers --write"),
     "c": ("rust/src c/src bench/src", "bench/run --write"),
     "python": ("c/src python/src bench/c*.py", "bench/run --write"),
     "javascript": ("c/src js/src bench/*.mjs", "bench/run --write"),

@@ -254,6 +254,19 @@ class Commands(Texts):
             return ",".join(self.random.choices(list(LENGTHS), k=self.random.randint(1, 6)))
         return self.choice(VALUES[name])
 
+    def with_one_more(self, text):
+        """A text that is read only as a whole, with one character more before or after it."""
+        one = self.choice("eE+-._,05 sx\t\x1b½é٣")
+        return self.choice((f"{one}{text}", f"{text}{one}"))
+
+    def wrong_word(self):
+        """A word whose value is a valid one with one character more, or one of WRONG_WORDS."""
+        if self.chance(50):
+            return self.choice(WRONG_WORDS)
+        name = self.choice(("to", "from", "largest", "smallest", "style", "round", "units"))
+        value, one = self.value(name), self.choice("-._05 ;é٣\t\n\x1b")
+        return f"--{name}={self.choice((one + value, value + one))}"
+
     def bare_number(self):
         decimals = "0" * self.choice((0, 0, 9, 18)) + str(
             self.random.randrange(10**9)
@@ -267,7 +280,8 @@ class Commands(Texts):
             ("", exponent),
             ("", "\t", "s"),
         )
-        return "".join(map(self.choice, parts)).encode()
+        text = "".join(map(self.choice, parts))
+        return (self.with_one_more(text) if self.chance(20) else text).encode()
 
     def single(self, options):
         if self.chance(5):
@@ -397,7 +411,7 @@ def main(program, seconds="20", seed=str(time.time_ns())):
     ends = time.monotonic() + float(seconds)
     while time.monotonic() < ends:
         options, texts, data = commands.command()
-        wrong = [commands.choice(WRONG_WORDS)] if commands.chance(3) else []
+        wrong = [commands.wrong_word()] if commands.chance(5) else []
         words = [program, *commands.words(options), *wrong, *(["--"] * bool(texts) + texts)]
         is_usage = bool(wrong) or is_wrong(options, texts)
         is_whole = is_usage or texts or "pattern" in options or len(data) > 9999

@@ -158,7 +158,9 @@ function shell(text, options, format) {
 /** The values are a title, how to get the package from a clone, and a function that returns the
  * program, or an empty text if there is none. */
 export const LANGUAGES = {
-    rust: ["Rust", 'duration-str = { path = "../duration_str/rust" }', rust],
+    rust: [
+        "Rust", 'duration-str = { path = "../duration_str/rust", default-features = false }', rust,
+    ],
     python: ["Python", "pip install ./python", python],
     javascript: ["JavaScript", "npm pack ./js", javascript],
     c: ["C", "make install", c],

@@ -213,10 +213,10 @@ export function breakdown(value, options = {}) {
     return { parts: counted, restNs: nanoseconds() };
 }
 
-function exactly(count) {
+function asNumber(count) {
     const number = Number(count);
     if (Number.isSafeInteger(number)) return number;
-    throw new RangeError(`no number holds ${count} exactly: choose a larger unit`);
+    throw new RangeError(`a count must be below 2^53, not ${count}: choose a larger unit`);
 }
 
 export function parts(value, options = {}) {
@@ -225,7 +225,7 @@ export function parts(value, options = {}) {
     let isZero = true;
     for (let unit = 0; unit < UNITS.length; unit++) {
         if (!isCounted(unit)) continue;
-        counts[PARTS[unit]] = exactly(countAt(unit));
+        counts[PARTS[unit]] = asNumber(countAt(unit));
         isZero = false;
     }
     if (!isZero) return counts;

@@ -194,7 +194,7 @@ test("counts the parts", () => {
     for (const [value, format, counted] of rows) assert.deepEqual(parts(value, format), counted);
     assert.throws(
         () => parts(2n ** 53n, { largest: "ns" }),
-        { name: "RangeError", message: /^no number holds 9007199254740992 / },
+        { name: "RangeError", message: /^a count must be below 2\^53, not 9007199254740992: / },
     );
     for (const format of [
         { largest: "q" }, { largest: "y", smallest: "q" }, { smallest: "w" }, { parts: 0 },
@@ -208,6 +208,19 @@ test("counts the parts", () => {
         ["1"], [undefined], [1n, null], [1n, { style: "long" }], [1n, { unit: "d" }],
     ]) {
         assert.throws(() => parts(...words), TypeError);
+    }
+});
+
+test("knows whole names only", () => {
+    for (const name of [...ALL_NAMES.flat(), ...VECTORS.styles]) {
+        for (const one of " \t\n\0\x1b-._05é٣\u200b\ud800") {
+            for (const wrong of [one + name, name + one]) {
+                for (const words of [{ largest: wrong }, { units: [wrong] }, { style: wrong }]) {
+                    assert.throws(() => format(5, words), RangeError, JSON.stringify(wrong));
+                }
+                assert.throws(() => parseNs("5", { defaultUnit: wrong }), RangeError);
+            }
+        }
     }
 });
 

@@ -337,9 +337,11 @@ class Reading(unittest.TestCase):
         for column in [numpy.array([b"1s"]), numpy.array([1]), pandas.Series([1.5]), {1}]:
             with self.assertRaisesRegex(TypeError, "^at index 0: "):
                 to_timedelta(column)
-        for column in [b"1s", pandas.DataFrame({"wait": ["1s"]})]:
-            with self.assertRaises(TypeError):
-                to_timedelta(column)
+        self.assertRaises(TypeError, to_timedelta, b"1s")
+        for table in [pandas.DataFrame({name: ["1s"]}) for name in ("wait", "dtype")]:
+            for call in (parse_many, to_timedelta, format_many):
+                with self.assertRaisesRegex(TypeError, "^a DataFrame is no column"):
+                    call(table)
         for value in [5, 1.5]:
             with self.assertRaisesRegex(
                 TypeError, "must be a str, not (int|float): .*default_unit"
@@ -480,5 +482,8 @@ class Printing(unittest.TestCase):
             for column in [[1, value], numpy.array([1, value], dtype=object)]:
                 with self.subTest(value=value), self.assertRaisesRegex(error, "^at index 1: "):
                     format_many(column)
+        for column in ["5s", b"5s", bytearray(b"5s")]:
+            with self.assertRaisesRegex(TypeError, f"not one {type(column).__name__}$"):
+                format_many(column)
         with self.assertRaisesRegex(ValueError, "^at index 0: "):
             format_many(pandas.Series([pandas.Timedelta(-1)]))

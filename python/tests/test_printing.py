@@ -1,6 +1,7 @@
 """Tests how durations are printed."""
 
 import datetime
+import itertools
 import os
 import pickle
 import random
@@ -12,6 +13,7 @@ from duration_str import (
     Breakdown,
     DurationError,
     Part,
+    Style,
     Unit,
     breakdown,
     format,
@@ -194,6 +196,16 @@ class Printing(unittest.TestCase):
                 )
             with self.subTest(**limits):
                 self.assertRaisesRegex(error, line, breakdown, 5, **limits)
+
+    def test_knows_whole_names_only(self):
+        names = [*typing.get_args(Unit), *typing.get_args(Style)]
+        for name, one in itertools.product(names, " \t\n\0\x1b-._05é٣\u200b"):
+            for wrong in (one + name, name + one):
+                for words in ({"largest": wrong}, {"units": [wrong]}, {"style": wrong}):
+                    with self.subTest(**words), self.assertRaises(ValueError):
+                        format(5, **words)
+                with self.subTest(default_unit=wrong), self.assertRaises(ValueError):
+                    parse_ns("5", default_unit=wrong)
         for call in [
             lambda: format(5, 2),
             lambda: format(),

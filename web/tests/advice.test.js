@@ -7,6 +7,7 @@ import test from "node:test";
 
 import { formatNs, parseNs, tryParseNs } from "../../js/dist/duration-str.js";
 import { markedParts, notesOn, offersFor, sentence } from "../advice.js";
+import { LANGUAGES } from "../code.js";
 import { lineOf, shorten } from "../sentences.js";
 import { counts, decimal, groupDigits, iso, seconds, termRows } from "../values.js";
 
@@ -139,4 +140,10 @@ test("many words and signs around a duration", () => {
         const text = `${sign.repeat(1_900 / sign.length)}5m`;
         assert.deepEqual(offersFor(text, options), [], sign);
     }
+});
+
+test("the line for Cargo.toml is that of README", () => {
+    const [, line] = LANGUAGES.rust;
+    const readme = readFileSync(new URL("../../README.md", import.meta.url), "utf8");
+    assert.ok(readme.includes(`\n[dependencies]\n${line}\n`), line);
 });

@@ -47,9 +47,6 @@ def _flat(values: Any, name: str) -> list[Any]:
     """`name` is the name of the items' type. If the type is not read, the list has stand-ins."""
     import numpy
 
-    pandas = sys.modules.get("pandas")
-    if pandas is not None and isinstance(values, pandas.DataFrame):
-        raise TypeError("a DataFrame is no column: take its columns one by one")
     has_dtype = hasattr(values, "dtype")
     if not has_dtype and not hasattr(values, "to_pylist"):
         return values_of(values, name)
@@ -218,7 +215,8 @@ def to_timedelta(
     import numpy
 
     is_one = isinstance(values, (str, datetime.timedelta, numpy.timedelta64))
-    is_one = is_one or not hasattr(values, "__iter__")
+    # An array of ctypes has no `__iter__`.
+    is_one = is_one or not (hasattr(values, "__iter__") or hasattr(values, "__len__"))
     name = "object" if is_one else type_name(values)
     if LENGTHS.fullmatch(name):
         return _nanos_of_lengths(values, _lengths(values), raises)
@@ -263,6 +261,8 @@ def format_many(
     limits = _native.limits(
         parts=parts, units=units, largest=largest, smallest=smallest, style=style
     )
+    if isinstance(values, (str, bytes, bytearray)):
+        raise TypeError(f"the durations must be a sequence, not one {type(values).__name__}")
     given = _durations(values) if hasattr(values, "__array__") else list(values)
     texts: list[str | None] = []
     try:

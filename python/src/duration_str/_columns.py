@@ -3,6 +3,7 @@
 from __future__ import annotations
 
 import re
+import struct
 import sys
 from array import array
 from collections.abc import Iterable
@@ -20,7 +21,7 @@ Errors = Literal["raise", "coerce"]
 #: The types whose values are read, as NumPy, pandas, Arrow and the formats of buffers name them. In
 #: `object`, each value has a type of its own.
 _READ = re.compile(
-    "object|double|large_string|string_view|format '[@=<>!]?[bBhHiIlLqQnNduwOZ]'"
+    "object|double|large_string|string_view|format '(@?[nN]|[@=<>!]?[bBhHiIlLqQduwOZ])'"
     "|(?i:u?int(8|16|32|64)|float64|str(ing(dtype)?)?[0-9]*)"
 )
 #: The types of timedeltas
@@ -47,6 +48,9 @@ def type_name(values: Any) -> str:
     """Returns `object` for a sequence that doesn't say the type of its values, such as a list."""
     if type(values) is list:
         return "object"
+    pandas: Any = sys.modules.get("pandas")
+    if pandas is not None and isinstance(values, pandas.DataFrame):
+        raise TypeError("a DataFrame is no column: take its columns one by one")
     dtype = getattr(values, "dtype", None)
     arrow: Any = sys.modules.get("pyarrow")
     if arrow is not None and isinstance(values, (arrow.Array, arrow.ChunkedArray)):
@@ -55,7 +59,10 @@ def type_name(values: Any) -> str:
         return _name_of(_type_of_values(dtype))
     try:
         with memoryview(values) as buffer:
-            return f"format {buffer.format!r}"
+            name = f"format {buffer.format!r}"
+            # An array reads its own texts and objects, but neither `tolist` nor `struct` does.
+            is_unread = isinstance(values, memoryview) and buffer.format[-1] in "uwOZ"
+            return f"{name} in a memoryview" if is_unread else name
     except TypeError:
         return "object"
 
@@ -78,6 +85,9 @@ def values_of(texts: Any, name: str) -> list[Any]:
         )
     if (refused := stand_in(name)) is not None:
         return [refused] * len(texts)
+    if isinstance(texts, memoryview):
+        # `tolist` doesn't read formats that name an order of bytes, such as those of ctypes.
+        return [value for (value,) in struct.iter_unpack(texts.format, texts.tobytes())]
     for listing in ("tolist", "to_pylist"):  # of NumPy and pandas, and of Arrow
         if hasattr(texts, listing):
             return list(getattr(texts, listing)())
