@@ -1,6 +1,7 @@
 pub mod MessageLemmas
 pub mod OneLineLemmas
 pub mod ReportLemmas
+pub mod SinkLemmas
 pub mod PrintingLemmas
 pub mod DigitLemmas
 pub mod PrintedBytesLemmas

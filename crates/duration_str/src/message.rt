@@ -1,6 +1,6 @@
 //! The message of a fault, and its layout.
-ghost use Rattle.std.specs.Prelude.{◌≡◌, ◌≤◌, ◌-◌, ◌^◌, ◌++◌, ◌<◌, None, Some, IfSome, IfNone, IsUtf8, length, take, replicate, decimal, encode_utf8_all};
-ghost use Rattle.std.specs.Fmt.{DisplaysOnOk, DisplaysStyledOnOk};
+ghost use Rattle.std.specs.Prelude.{◌≡◌, ◌≤◌, ◌-◌, ◌^◌, ◌++◌, ◌<◌, ℕ, ⊤, List, None, Some, IfSome, IfNone, IsErr, IsOk, IsUtf8, length, take, replicate, decimal, encode_utf8_all};
+ghost use Rattle.std.specs.Fmt.{DisplaysOnOk, DisplaysStyledOnOk, HasWritten, IsPlainFormatter, WritesInCalls};
 ghost use Rattle.std.specs.Str.{IsCharBoundary};
 ghost use Rattle.duration_str.specs.Buffers.{IsInFront};
 ghost use Rattle.duration_str.specs.Internal.Writing.{IsWritten};
@@ -12,8 +12,9 @@ use std::fmt;
 
 impl Fault<'_> {
     pub(crate) fn layout(&self) -> Layout
-        ensures { laid_out result self.now.text.now (encode_utf8_all (line_of self.now.cause))
+        ensures text { laid_out result self.now.text.now (encode_utf8_all (line_of self.now.cause))
             ≡ message_of self.now.text.now self.now.cause }
+        ensures small { (place : ℕ) → result ≡ Layout.Byte place → place < 2 ^ 64 }
     {
         let Some(place) = self.cause.place() else {
             return Layout::Line;
@@ -23,6 +24,30 @@ impl Fault<'_> {
         }
         Layout::Caret {
             spaces: chars_before(self.text, place),
+        }
+    }
+
+    /// Writes the message. It fails only if the sink does.
+    #[tactic(auto, using(crate::proofs::Printer::SinkLemmas::in_one_call))]
+    fn write_message<S: Sink>(&self, sink: &mut S) -> fmt::Result
+        ensures writes { IsOk result → WritesInCalls S.took sink.old
+            (message_of self.now.text.now self.now.cause) sink.new }
+        ensures fails { IsErr result → S.has_failed sink.new }
+    {
+        let layout = self.layout();
+        let line = self.cause.line();
+        if let Layout::Line = layout {
+            return sink.put(line);
+        }
+        // Most messages are short and fit into this buffer. Then one call of the sink is enough,
+        // which takes less time than several.
+        if let Some(message) = layout.message(&mut [0; 256], self.text, line) {
+            return sink.put(message);
+        }
+        match layout {
+            Layout::Caret { spaces } => write_caret(sink, self.text, spaces, line),
+            // Messages without a caret fit.
+            _ => unreachable!(),
         }
     }
 }
@@ -44,17 +69,7 @@ impl fmt::Display for Fault<'_> {
             (Some (message_of self.now.text.now self.now.cause)) f.new }
         ensures styled { DisplaysStyledOnOk W.write_str_gives f.old result None f.new }
     {
-        let layout = self.layout();
-        let line = self.cause.line();
-        if let Layout::Line = layout {
-            return f.write_str(line);
-        }
-        // Most messages are short and fit into this buffer. Then one call of the formatter is
-        // enough, which takes less time than several.
-        match layout.message(&mut [0; 256], self.text, line) {
-            Some(message) => f.write_str(message),
-            None => layout.write(f, self.text, line),
-        }
+        self.write_message(f)
     }
 }
 
@@ -68,20 +83,6 @@ pub(crate) enum Layout {
 }
 
 impl Layout {
-    fn write<W: fmt::Write>(self, f: &mut fmt::Formatter<W>, text: &str, line: &str) -> fmt::Result
-        ensures { DisplaysOnOk W.write_str_gives f.old result
-            (Some (laid_out self text.now line.now)) f.new }
-    {
-        match self {
-            Layout::Line => f.write_str(line),
-            Layout::Byte { place } => write!(f, "byte {place}: {line}"),
-            Layout::Caret { spaces } => {
-                let spaces = Spaces(spaces);
-                write!(f, "{text}\n{spaces}^\n{line}")
-            }
-        }
-    }
-
     pub(crate) fn message<'b>(self, buffer: &'b mut [u8], text: &str, line: &str) -> Option<&'b str>
         ensures text { IfSome result
             (λ message. message.now ≡ laid_out self text.now line.now) }
@@ -177,20 +178,53 @@ pub(crate) fn put_decimal(buffer: &mut [u8], at: usize, number: usize) -> Option
     put(buffer, at, &digits[..end])
 }
 
-#[derive(Clone, Copy)]
-struct Spaces(usize);
+/// What a message is written to.
+trait Sink {
+    /// A call of `put` with these bytes takes the sink from the first state to the second one.
+    ghost took: { Self → List ℕ → Self → Type 0 };
 
-impl fmt::Display for Spaces {
-    ghost output = { λ spaces. Some (replicate spaces.0 32) };
+    /// The last call of `put` failed. A function that writes to every sink can show this only after
+    /// such a call. So by its clause `fails` it fails only if its sink does. `fmt::Write` has no
+    /// such word.
+    ghost has_failed: { Self → Type 0 };
 
-    fn fmt<W: fmt::Write>(&self, f: &mut fmt::Formatter<W>) -> fmt::Result {
-        let mut left = self.0;
-        while left > 64 {
-            f.write_str(short_run(64))?;
-            left -= 64;
-        }
-        f.write_str(short_run(left))
+    fn put(&mut self, piece: &str) -> fmt::Result
+        ensures took { IsOk result → took self.old piece.now self.new }
+        ensures fails { IsErr result → has_failed self.new };
+}
+
+impl<W: fmt::Write> Sink for fmt::Formatter<W> {
+    ghost took = { λ f bytes g. IsPlainFormatter f → HasWritten W.write_str_gives f bytes g };
+
+    ghost has_failed = { λ _. ⊤ };
+
+    fn put(&mut self, piece: &str) -> fmt::Result {
+        self.write_str(piece)
     }
+}
+
+fn write_caret<S: Sink>(sink: &mut S, text: &str, spaces: usize, line: &str) -> fmt::Result
+    ensures writes { IsOk result → WritesInCalls S.took sink.old
+        (caret_text text.now spaces line.now) sink.new }
+    ensures fails { IsErr result → S.has_failed sink.new }
+{
+    sink.put(text)?;
+    sink.put("\n")?;
+    write_spaces(sink, spaces)?;
+    sink.put("^\n")?;
+    sink.put(line)
+}
+
+fn write_spaces<S: Sink>(sink: &mut S, count: usize) -> fmt::Result
+    ensures writes { IsOk result → WritesInCalls S.took sink.old (replicate count 32) sink.new }
+    ensures fails { IsErr result → S.has_failed sink.new }
+{
+    let mut left = count;
+    while left > 64 {
+        sink.put(short_run(64))?;
+        left -= 64;
+    }
+    sink.put(short_run(left))
 }
 
 fn short_run(count: usize) -> &'static str

@@ -17,6 +17,25 @@ impl Fault<'_> {
             spaces: chars_before(self.text, place),
         }
     }
+
+    /// Writes the message. It fails only if the sink does.
+    fn write_message<S: Sink>(&self, sink: &mut S) -> fmt::Result {
+        let layout = self.layout();
+        let line = self.cause.line();
+        if let Layout::Line = layout {
+            return sink.put(line);
+        }
+        // Most messages are short and fit into this buffer. Then one call of the sink is enough,
+        // which takes less time than several.
+        if let Some(message) = layout.message(&mut [0; 256], self.text, line) {
+            return sink.put(message);
+        }
+        match layout {
+            Layout::Caret { spaces } => write_caret(sink, self.text, spaces, line),
+            // Messages without a caret fit.
+            _ => unreachable!(),
+        }
+    }
 }
 
 /// Prints the cause's line. If the fault has a place, the text is printed above the line, and
@@ -30,17 +49,7 @@ impl Fault<'_> {
 /// ```
 impl fmt::Display for Fault<'_> {
     fn fmt(&self, f: &mut fmt::Formatter<'_>) -> fmt::Result {
-        let layout = self.layout();
-        let line = self.cause.line();
-        if let Layout::Line = layout {
-            return f.write_str(line);
-        }
-        // Most messages are short and fit into this buffer. Then one call of the formatter is
-        // enough, which takes less time than several.
-        match layout.message(&mut [0; 256], self.text, line) {
-            Some(message) => f.write_str(message),
-            None => layout.write(f, self.text, line),
-        }
+        self.write_message(f)
     }
 }
 
@@ -54,17 +63,6 @@ pub(crate) enum Layout {
 }
 
 impl Layout {
-    fn write(self, f: &mut fmt::Formatter<'_>, text: &str, line: &str) -> fmt::Result {
-        match self {
-            Layout::Line => f.write_str(line),
-            Layout::Byte { place } => write!(f, "byte {place}: {line}"),
-            Layout::Caret { spaces } => {
-                let spaces = Spaces(spaces);
-                write!(f, "{text}\n{spaces}^\n{line}")
-            }
-        }
-    }
-
     pub(crate) fn message<'b>(self, buffer: &'b mut [u8], text: &str, line: &str) -> Option<&'b str> {
         match self.put(buffer, text, line) {
             // SAFETY: `put` writes UTF-8 up to `end`, by its clause `utf8`.
@@ -131,18 +129,32 @@ pub(crate) fn put_decimal(buffer: &mut [u8], at: usize, number: usize) -> Option
     put(buffer, at, &digits[..end])
 }
 
-#[derive(Clone, Copy)]
-struct Spaces(usize);
+/// What a message is written to.
+trait Sink {
+    fn put(&mut self, piece: &str) -> fmt::Result;
+}
 
-impl fmt::Display for Spaces {
-    fn fmt(&self, f: &mut fmt::Formatter<'_>) -> fmt::Result {
-        let mut left = self.0;
-        while left > 64 {
-            f.write_str(short_run(64))?;
-            left -= 64;
-        }
-        f.write_str(short_run(left))
+impl Sink for fmt::Formatter<'_> {
+    fn put(&mut self, piece: &str) -> fmt::Result {
+        self.write_str(piece)
     }
+}
+
+fn write_caret<S: Sink>(sink: &mut S, text: &str, spaces: usize, line: &str) -> fmt::Result {
+    sink.put(text)?;
+    sink.put("\n")?;
+    write_spaces(sink, spaces)?;
+    sink.put("^\n")?;
+    sink.put(line)
+}
+
+fn write_spaces<S: Sink>(sink: &mut S, count: usize) -> fmt::Result {
+    let mut left = count;
+    while left > 64 {
+        sink.put(short_run(64))?;
+        left -= 64;
+    }
+    sink.put(short_run(left))
 }
 
 fn short_run(count: usize) -> &'static str {

@@ -1,12 +1,11 @@
 use Rattle.duration_str.proofs.Common.{replicate, ◌-◌, ◌≤◌}
-use Rattle.std.specs.Fmt.{HasWritten, IsPlainFormatter}
-use Rattle.duration_str.proofs.message.SpacesDisplay.fmt.Given as goal
+use Rattle.std.specs.Fmt.{WritesInCalls}
+use Rattle.duration_str.proofs.message.write_spaces.Given as goal
 
 abbrev pub invariant-loop-left : goal.invariant-loop-left
 invariant-loop-left g l = record {
   within : l.left ≤ l.initial.left;
-  wrote : IsPlainFormatter l.initial.f
-      → HasWritten g.W.Write.write_str_gives l.initial.f (replicate (l.initial.left - l.left) 32) l.f;
+  wrote : WritesInCalls g.S.Sink.took l.initial.sink (replicate (l.initial.left - l.left) 32) l.sink;
 }
 
 abbrev pub decreases-loop-left : goal.decreases-loop-left
