@@ -69,11 +69,10 @@ static void print(const char *text) { semihosting(0x04, text); }
 
 static void end(void) { semihosting(0x18, (const void *)0x20026); }
 #else
+#define CHANGED "rcx", "r11", "memory"
+
 static void system_call(long number, long first, const void *second, size_t third) {
-    __asm__ volatile("syscall"
-                     : "+a"(number)
-                     : "D"(first), "S"(second), "d"(third)
-                     : "rcx", "r11", "memory");
+    __asm__ volatile("syscall" : "+a"(number) : "D"(first), "S"(second), "d"(third) : CHANGED);
 }
 
 static void print(const char *text) {

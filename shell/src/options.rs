@@ -251,8 +251,12 @@ fn with_list(shell: Shell, script: &str) -> String {
             format!(r#"{before}"{list}{{{words}}}"{after}"#)
         }
         Shell::Zsh => {
+            // Newer versions of clap let zsh complete other values by `_default`, which gives names
+            // of files, and runs a command that is in what was typed.
             let words = UNITS.join(" ");
-            script.replace("(LIST)", &format!("_sequence compadd - {words}"))
+            script
+                .replace("(LIST)", &format!("_sequence compadd - {words}"))
+                .replace(":_default'", ": '")
         }
         _ => {
             // compgen expands its words, and would run a command in them. So the typed text must
