@@ -293,7 +293,11 @@ uninstall: installable
 	    # A name with a slash before it would be that of a folder outside of DESTDIR. With
 	    # prefix=/ each name has two.
 	    for folder in $$(realpath -ms --relative-to=/ $(sort $(dir $(installed)))); do
-	        [ ! -d "$$folder" ] || rmdir -p --ignore-fail-on-non-empty "$$folder"
+	        # A link to a folder stays, such as /lib.
+	        while [ "$$folder" != . ] && [ -d "$$folder" ] && [ ! -L "$$folder" ]; do
+	            rmdir --ignore-fail-on-non-empty "$$folder"
+	            folder=$$(dirname "$$folder")
+	        done
 	    done
 	    exit 0
 	fi
