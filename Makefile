@@ -336,4 +336,4 @@ clean:
 	rm -rf out crates/*/out tests/fuzz/out target */target js/dist
 	rm -rf python/build python/src/{*.egg-info,duration_str/*.so} */{LICENSE,NOTICE}
 	find . -name __pycache__ -prune -exec rm -r {} +
-	find . -mindepth 2 -name Cargo.lock -delete
+	rm -f {bench,rust,rust/{core,macros,examples/*,tests/*},shell}/Cargo.lock
