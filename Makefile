@@ -293,7 +293,11 @@ uninstall: installable
 	    # A name with a slash before it would be that of a folder outside of DESTDIR. With
 	    # prefix=/ each name has two.
 	    for folder in $$(realpath -ms --relative-to=/ $(sort $(dir $(installed)))); do
-	        [ ! -d "$$folder" ] || rmdir -p --ignore-fail-on-non-empty "$$folder"
+	        # A link to a folder stays, such as /lib.
+	        while [ "$$folder" != . ] && [ -d "$$folder" ] && [ ! -L "$$folder" ]; do
+	            rmdir --ignore-fail-on-non-empty "$$folder"
+	            folder=$$(dirname "$$folder")
+	        done
 	    done
 	    exit 0
 	fi
@@ -332,4 +336,4 @@ clean:
 	rm -rf out crates/*/out tests/fuzz/out target */target js/dist
 	rm -rf python/build python/src/{*.egg-info,duration_str/*.so} */{LICENSE,NOTICE}
 	find . -name __pycache__ -prune -exec rm -r {} +
-	find . -mindepth 2 -name Cargo.lock -delete
+	rm -f {bench,rust,rust/{core,macros,examples/*,tests/*},shell}/Cargo.lock

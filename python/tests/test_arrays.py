@@ -348,6 +348,10 @@ class Reading(unittest.TestCase):
             ):
                 to_timedelta(value)
             self.assertTrue(pandas.isna(to_timedelta(value, errors="coerce")))
+        has_length = type("HasLength", (), {"__len__": lambda self: 2})()
+        with self.assertRaisesRegex(DurationTypeError, "must be a str, not HasLength$"):
+            to_timedelta(has_length)
+        self.assertIs(to_timedelta(has_length, errors="coerce"), pandas.NaT)
 
     def test_takes_one_missing_value(self):
         self.assertIsNone(to_timedelta(None))

@@ -194,6 +194,12 @@ class Kinds(unittest.TestCase):
                 name, nanos = of_memory(values)
                 self.check(name, values, nanos)
 
+    def test_judges_unions_of_c(self):
+        fields = [("small", ctypes.c_uint8), ("large", ctypes.c_uint64)]
+        union = type("Union", (ctypes.Union,), {"_fields_": fields})
+        view = memoryview((union * 1)())
+        self.check(f"format {view.format!r} in a memoryview", view)
+
     @unittest.skipUnless(numpy, "NumPy or pandas is missing")
     def test_judges_arrays_of_numpy(self):
         for values in of_numpy():

@@ -123,7 +123,11 @@ Examples:
 
 impl Choices {
     pub fn of(words: impl Iterator<Item = OsString>) -> Result<Choices, clap::Error> {
-        let choices = Choices::try_parse_from(words.map(escape))?;
+        let mut has_ended = false;
+        let choices = Choices::try_parse_from(words.map(|word| {
+            has_ended |= word == "--";
+            escape(word, has_ended)
+        }))?;
         if choices.format().units != Units::NONE {
             return Ok(choices);
         }
@@ -285,11 +289,14 @@ fn without_files(script: &str) -> String {
 /// that clap doesn't take it for an option.
 pub const ESCAPE: &[u8] = b"\0";
 
-fn escape(word: OsString) -> OsString {
+/// After `--` all words are texts.
+fn escape(word: OsString, is_text: bool) -> OsString {
     match word.as_encoded_bytes() {
         [b'-', b'.' | b'0'..=b'9', ..] => [OsStr::from_bytes(ESCAPE), &word].into_iter().collect(),
         // clap would take away the equals sign of `-d=` and `-zd=`.
-        [b'-', flags @ .., b'd', b'='] if flags.iter().all(|flag| b"qz".contains(flag)) => {
+        [b'-', flags @ .., b'd', b'=']
+            if !is_text && flags.iter().all(|flag| b"qz".contains(flag)) =>
+        {
             [&word, OsStr::new("=")].into_iter().collect()
         }
         _ => word,

@@ -79,6 +79,16 @@ fn takes_a_minus_for_a_text() {
 }
 
 #[test]
+fn takes_all_that_follows_two_minuses_for_texts() {
+    for text in ["-d=", "-zd=", "-5m", "--", "--to"] {
+        let start = format!("{{\"text\":\"{text}\",\"argument\":1,\"column\":1,\"found\":\"-\",");
+        let (status, json, errors) = run(&["--json", "--", text], b"");
+        assert_eq!((status, &*errors), (1, ""), "{text}");
+        assert!(json.starts_with(&start), "{json}");
+    }
+}
+
+#[test]
 fn divides_fields_at_equals_signs() {
     for words in ["-d=", "-qd=", "-zqzd=", "-d=="] {
         let input = b"wait=5m\0";

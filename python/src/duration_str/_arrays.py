@@ -216,7 +216,10 @@ def to_timedelta(
 
     is_one = isinstance(values, (str, datetime.timedelta, numpy.timedelta64))
     # An array of ctypes has no `__iter__`.
-    is_one = is_one or not (hasattr(values, "__iter__") or hasattr(values, "__len__"))
+    is_column = hasattr(values, "__iter__") or (
+        hasattr(values, "__len__") and hasattr(values, "__getitem__")
+    )
+    is_one = is_one or not is_column
     name = "object" if is_one else type_name(values)
     if LENGTHS.fullmatch(name):
         return _nanos_of_lengths(values, _lengths(values), raises)

@@ -60,8 +60,11 @@ def type_name(values: Any) -> str:
     try:
         with memoryview(values) as buffer:
             name = f"format {buffer.format!r}"
-            # An array reads its own texts and objects, but neither `tolist` nor `struct` does.
-            is_unread = isinstance(values, memoryview) and buffer.format[-1] in "uwOZ"
+            # An array reads its own texts and objects, but neither `tolist` nor `struct` does. Unions
+            # and packed structures of ctypes name the format of one byte.
+            is_unread = isinstance(values, memoryview) and (
+                buffer.format[-1] in "uwOZ" or (buffer.format == "B" and buffer.itemsize != 1)
+            )
             return f"{name} in a memoryview" if is_unread else name
     except TypeError:
         return "object"
