@@ -485,13 +485,12 @@ def rounded(number, way):
 def bare_number(text, length, way):
     """The nanoseconds of this many units of this length, or None if they are too many. The text is
     a number with a fraction or an exponent, as the command `duration` reads it with `--from`.
-    `way` says how the number is rounded to 18 decimals, and then the duration to nanoseconds.
+    `way` says how it is rounded.
     """
     number, _, exponent = text.strip(BLANKS).upper().partition("E")
     # A larger or smaller exponent gives the same result, since the texts are far shorter.
     exponent = min(max(int(exponent or "0"), -99_999), 99_999)
-    decimals = rounded(fractions.Fraction(f"{number}e{exponent}") * 10**18, way)
-    nanos = rounded(fractions.Fraction(decimals * length, 10**18), way)
+    nanos = rounded(fractions.Fraction(f"{number}e{exponent}") * length, way)
     return nanos if nanos < LIMIT else None
 
 

@@ -93,27 +93,27 @@ fn bare_number(text: &str, unit: TimeUnit, round: Round) -> Option<(&str, u128)>
         isize::MAX
     };
     let exponent = exponent.parse().unwrap_or(most);
-    // There are enough zeros on both sides for the point to move by the exponent, or beyond all
-    // digits that count.
+    // A larger exponent makes every number but 0 too large, and a smaller one leaves less than a
+    // nanosecond.
     let exponent = exponent.clamp(-(digits.len() as isize) - 99, digits.len() as isize + 99);
-    let zeros = "0".repeat(1 + exponent.unsigned_abs());
-    let all = [&zeros, whole, decimals, &zeros].concat();
-    let (whole, decimals) = all.split_at((zeros.len() + whole.len()).checked_add_signed(exponent)?);
-    let (decimals, others) = decimals.split_at(decimals.len().min(18));
-    let (steps, length) = (10_u128.pow(decimals.len() as u32), u128::from(unit.nanos()));
-    let part = decimals.parse::<u128>().ok()? * length;
-    let part = match round {
-        Round::Up if others.bytes().any(|digit| digit != b'0') => (part + length).div_ceil(steps),
-        Round::Up => part.div_ceil(steps),
-        Round::Down | Round::Nearest => part / steps,
+    let point = whole.len() as isize + exponent;
+    let digits = [whole, decimals].concat().into_bytes();
+    let digit = |place: isize| {
+        let place = usize::try_from(place).ok();
+        place
+            .and_then(|place| digits.get(place))
+            .map_or(0, |digit| u128::from(digit - b'0'))
     };
+    let length = u128::from(unit.nanos());
+    // The part of a unit that the decimals are, from the last one to the first. Each division is
+    // rounded in the same way, and so the result is, too.
+    let more = if let Round::Up = round { 9 } else { 0 };
+    let part = (point..digits.len() as isize)
+        .rev()
+        .fold(0, |part, place| (digit(place) * length + part + more) / 10);
     // If the whole part doesn't fit, the result is more than any duration.
-    Some((
-        number,
-        whole
-            .parse()
-            .unwrap_or(u128::MAX)
-            .saturating_mul(length)
-            .saturating_add(part),
-    ))
+    let whole = (0..point).fold(0, |number: u128, place| {
+        number.saturating_mul(10).saturating_add(digit(place))
+    });
+    Some((number, whole.saturating_mul(length).saturating_add(part)))
 }
