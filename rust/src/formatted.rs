@@ -117,7 +117,7 @@ impl FormattedDuration {
     #[expect(clippy::inherent_to_string_shadow_display, reason = "the same text")]
     #[must_use]
     pub fn to_string(&self) -> String {
-        <[&str; 2]>::from(self.parts_of_text(&mut [0; FORMAT_BUFFER_SIZE])).concat()
+        <[&str; 2]>::from(self.sign_and_text(&mut [0; FORMAT_BUFFER_SIZE])).concat()
     }
 
     /// Returns the parts as numbers: the units with their counts, the longest unit first. The style
@@ -143,7 +143,7 @@ impl FormattedDuration {
     }
 
     #[inline(always)]
-    fn parts_of_text<'b>(
+    fn sign_and_text<'b>(
         &self,
         buffer: &'b mut [u8; FORMAT_BUFFER_SIZE],
     ) -> (&'static str, &'b str) {
@@ -257,7 +257,7 @@ chooses! {
 /// cut the text at it.
 impl fmt::Display for FormattedDuration {
     fn fmt(&self, f: &mut fmt::Formatter<'_>) -> fmt::Result {
-        match (self.parts_of_text(&mut [0; FORMAT_BUFFER_SIZE]), f.width()) {
+        match (self.sign_and_text(&mut [0; FORMAT_BUFFER_SIZE]), f.width()) {
             (("", magnitude), None) => f.write_str(magnitude),
             ((sign, magnitude), _) => pad(f, &[sign, magnitude]),
         }

@@ -287,6 +287,8 @@ fn put_part(buffer: &mut [u8], at: usize, count: u64, row: &Printed, style: Styl
     put_name_in(buffer, end, row, count == 1, style)
 }
 
+/// Returns a set with the same parts for `nanos`. Below a day it has no unit longer than an hour,
+/// which saves divisions.
 #[inline(always)]
 fn set_for(nanos: u64, set: Units) -> Units
     ensures { (style : Style) (bytes : List ℕ) (most : ℕ)
