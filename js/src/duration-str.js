@@ -47,8 +47,9 @@ function secondsAndNanos() {
 function milliseconds() {
     const high = fields.getUint32(ANSWER + 4, true);
     if (high < 2 ** 21) return (high * HALF + fields.getUint32(ANSWER, true)) / MILLISECOND;
-    // From 2^53 ns on the sum is a multiple of 2^-19. The fraction, which is rounded too, is either
-    // a multiple of 1/64, and then exact, or too far from the middle of two sums to reach it.
+    // From 2^53 ns on the sum is a multiple of 2^-19. The fraction is rounded before. That changes
+    // nothing: a multiple of 1/64 is exact, and any other fraction is too far from the middle
+    // between two sums for its rounding to cross it.
     const { millis, rest } = split();
     return millis + rest / MILLISECOND;
 }

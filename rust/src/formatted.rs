@@ -105,8 +105,8 @@ impl FormattedDuration {
         &self.magnitude
     }
 
-    /// Returns the text that [`ToString`](alloc::string::ToString) would return, without a
-    /// formatter.
+    /// Returns the text that [`ToString`](alloc::string::ToString) would return. This is faster,
+    /// since no formatter is used.
     ///
     /// ```
     /// use duration_str::format_duration;
