@@ -1,8 +1,13 @@
 //! Gives the shared library its soname on Linux. CONTRIBUTING.md says when the soname's number is
-//! raised. The Makefile reads the soname here.
+//! raised. The Makefile reads the soname here. In WebAssembly callers need the end of the module's
+//! own memory, which Rust exports by itself only up to 1.96.
 fn main() {
     println!("cargo:rerun-if-changed=build.rs");
-    if std::env::var("CARGO_CFG_TARGET_OS").as_deref() == Ok("linux") {
+    let set = |name| std::env::var(name).unwrap_or_default();
+    if set("CARGO_CFG_TARGET_OS") == "linux" {
         println!("cargo:rustc-cdylib-link-arg=-Wl,-soname,libduration_str.so.3");
+    }
+    if set("CARGO_CFG_TARGET_ARCH") == "wasm32" {
+        println!("cargo:rustc-cdylib-link-arg=--export=__heap_base");
     }
 }

@@ -144,8 +144,10 @@ test("has types for a CommonJS module", skipWithout("tsc"), () => {
         join(room, "typed.cts"),
         'import { parse } from "duration-str/plain";\nexport const value: number = parse("1h");',
     );
+    const version = parseInt(runs("tsc", "--version").replace("Version ", ""), 10);
     for (const [module, resolution] of [
-        ["node16", "node16"], ["nodenext", "nodenext"], ["commonjs", "node"],
+        ["node16", "node16"], ["nodenext", "nodenext"],
+        ["commonjs", version < 6 ? "node" : "bundler"],
     ]) {
         runs(
             "tsc",

@@ -318,7 +318,7 @@ fn completes_in_bash() {
         lists+=('--units $(echo),n' '--units y,&,n')
         for words in --sma '--to m' '--style l' '--round u' \"${lists[@]}\" '--field C' '-d C'; do
             COMP_WORDS=(duration $words) COMP_CWORD=$((${#COMP_WORDS[@]} - 1))
-            _duration duration
+            _duration duration \"${COMP_WORDS[-1]}\" \"${COMP_WORDS[-2]}\"
             echo ${COMPREPLY[@]}
         done";
     let script = answer(&["--completions", "bash"]) + words;
