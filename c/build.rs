@@ -7,7 +7,7 @@ fn main() {
     if set("CARGO_CFG_TARGET_OS") == "linux" {
         println!("cargo:rustc-cdylib-link-arg=-Wl,-soname,libduration_str.so.3");
     }
-    if set("CARGO_CFG_TARGET_ARCH") == "wasm32" {
+    if set("TARGET") == "wasm32-unknown-unknown" {
         println!("cargo:rustc-cdylib-link-arg=--export=__heap_base");
     }
 }
