@@ -146,6 +146,10 @@ docdir = $(datarootdir)/doc/duration_str
 INSTALL = install
 INSTALL_PROGRAM = $(INSTALL)
 INSTALL_DATA = $(INSTALL) -m 644
+# Below / nothing is staged.
+ifeq ($(DESTDIR),/)
+override DESTDIR :=
+endif
 export DESTDIR
 
 open := (

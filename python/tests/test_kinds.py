@@ -199,6 +199,9 @@ class Kinds(unittest.TestCase):
         union = type("Union", (ctypes.Union,), {"_fields_": fields})
         view = memoryview((union * 1)())
         self.check(f"format {view.format!r} in a memoryview", view)
+        with self.assertRaisesRegex(TypeError, "in a memoryview$"):
+            format_many(view)
+        self.assertEqual(format_many(memoryview((ctypes.c_int * 2)(5, 0))), ["5ns", "0s"])
 
     @unittest.skipUnless(numpy, "NumPy or pandas is missing")
     def test_judges_arrays_of_numpy(self):

@@ -196,16 +196,6 @@ class Printing(unittest.TestCase):
                 )
             with self.subTest(**limits):
                 self.assertRaisesRegex(error, line, breakdown, 5, **limits)
-
-    def test_knows_whole_names_only(self):
-        names = [*typing.get_args(Unit), *typing.get_args(Style)]
-        for name, one in itertools.product(names, " \t\n\0\x1b-._05é٣\u200b"):
-            for wrong in (one + name, name + one):
-                for words in ({"largest": wrong}, {"units": [wrong]}, {"style": wrong}):
-                    with self.subTest(**words), self.assertRaises(ValueError):
-                        format(5, **words)
-                with self.subTest(default_unit=wrong), self.assertRaises(ValueError):
-                    parse_ns("5", default_unit=wrong)
         for call in [
             lambda: format(5, 2),
             lambda: format(),
@@ -217,6 +207,16 @@ class Printing(unittest.TestCase):
             lambda: breakdown(value=5),
         ]:
             self.assertRaises(TypeError, call)
+
+    def test_knows_whole_names_only(self):
+        names = [*typing.get_args(Unit), *typing.get_args(Style)]
+        for name, one in itertools.product(names, " \t\n\0\x1b-._05é٣\u200b"):
+            for wrong in (one + name, name + one):
+                for words in ({"largest": wrong}, {"units": [wrong]}, {"style": wrong}):
+                    with self.subTest(**words), self.assertRaises(ValueError):
+                        format(5, **words)
+                with self.subTest(default_unit=wrong), self.assertRaises(ValueError):
+                    parse_ns("5", default_unit=wrong)
 
     def test_wants_an_int_or_a_timedelta(self):
         for value in [None, "1s", 1.0, True, datetime.datetime(2000, 1, 1)]:

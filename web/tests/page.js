@@ -2,12 +2,13 @@
 window.violations = [];
 addEventListener("securitypolicyviolation", (event) => violations.push(event.violatedDirective));
 
-// What the page puts off runs when a test says so, however slow the machine is.
+// What the page puts off for some time runs when a test says so, however slow the machine is.
 const putOff = new Map();
 let timers = 0;
-window.setTimeout = (call) => {
+window.setTimeout = (call, milliseconds) => {
     timers += 1;
-    putOff.set(timers, call);
+    if (milliseconds < 250) queueMicrotask(call);
+    else putOff.set(timers, call);
     return timers;
 };
 window.clearTimeout = (timer) => putOff.delete(timer);
