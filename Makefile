@@ -219,7 +219,7 @@ installable:
 install install-library: installing = yes
 install install-library: installable
 	@sed 'e :' </dev/null 2>/dev/null || { echo 'install: needs GNU sed' >&2; exit 1; }
-	$(INSTALL) --help 2>/dev/null | grep -q -- --verbose || {
+	$(INSTALL) --help 2>/dev/null | grep -- --verbose >/dev/null || {
 	    echo "install: needs GNU's command install, of coreutils" >&2
 	    exit 1
 	}
