@@ -2,11 +2,15 @@
  * duration_str_report. It also knows the words `require_unit` and, for example,
  * `default_unit=ms`. tests/processors builds it for several processors, and compares what they
  * write. */
-#define _POSIX_C_SOURCE 200809L
 #include <inttypes.h>
 #include <stdio.h>
 #include <stdlib.h>
 #include <string.h>
+
+#ifdef _WIN32
+#include <fcntl.h>
+#include <io.h>
+#endif
 
 #include "duration_str.h"
 
@@ -28,23 +32,26 @@ int main(int count, char **words) {
     uint32_t options = 0;
     for (int at = 1; at < count; at++)
         options |= option_of(words[at]);
-    char *line = NULL;
-    size_t size = 0;
-    ssize_t length;
+#ifdef _WIN32
+    _setmode(0, _O_BINARY);
+    _setmode(1, _O_BINARY);
+#endif
+    static char input[1 << 20];
+    const char *line = input, *end = input + fread(input, 1, sizeof input, stdin);
     int status = 0;
-    while ((length = getline(&line, &size, stdin)) > 0) {
-        if (line[length - 1] == '\n')
-            length--;
+    while (line < end) {
+        const char *feed = memchr(line, '\n', (size_t)(end - line));
+        const size_t length = (size_t)((feed ? feed : end) - line);
         struct duration_str_answer answer;
         char output[DURATION_STR_REPORT_BUFFER_SIZE];
-        if (duration_str_report(line, (size_t)length, options, &answer, output) > 0) {
+        if (duration_str_report(line, length, options, &answer, output) > 0) {
             puts(output);
             status = 1;
         } else {
             duration_str_format(answer.nanos, output);
             printf("%" PRIu64 " %s\n", answer.nanos, output);
         }
+        line = feed ? feed + 1 : end;
     }
-    free(line);
     return status;
 }

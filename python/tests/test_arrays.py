@@ -2,6 +2,7 @@
 
 import datetime
 import decimal
+import importlib.util
 import re
 import subprocess
 import sys
@@ -42,7 +43,7 @@ class Name(str):
     pass
 
 
-@unittest.skipIf(numpy, "NumPy and pandas are installed")
+@unittest.skipIf(importlib.util.find_spec("numpy"), "NumPy is installed")
 class Nothing(unittest.TestCase):
     def test_misses_numpy(self):
         with self.assertRaisesRegex(ImportError, "numpy"):
