@@ -62,11 +62,9 @@ let decoder;
 
 /** Decodes where there is no decoder, such as in some versions of jsdom. */
 function decodeEscaped(bytes) {
-    let escaped = "";
-    for (let place = 0; place < bytes.length; place++) {
-        escaped += `%${bytes[place].toString(16).padStart(2, "0")}`;
-    }
-    return decodeURIComponent(escaped);
+    let letters = "";
+    for (const byte of bytes) letters += String.fromCharCode(byte);
+    return decodeURIComponent(escape(letters));
 }
 
 export function decode(bytes) {
