@@ -3,7 +3,7 @@ import { instance } from "instance";
 
 /** The size of a page in bytes, by which a memory of WebAssembly grows. */
 const PAGE = 65_536;
-const LONE_SURROGATE = /\p{Surrogate}/gu;
+const LONE_SURROGATE = /[\ud800-\udfff]/gu;
 
 /** The size of the buffer that the module writes to. The longest report fits. */
 const WRITTEN_SIZE = 867;
