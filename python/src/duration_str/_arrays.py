@@ -268,7 +268,10 @@ def format_many(
     )
     if isinstance(values, (str, bytes, bytearray)):
         raise TypeError(f"the durations must be a sequence, not one {type(values).__name__}")
-    given = _durations(values) if hasattr(values, "__array__") else list(values)
+    if isinstance(values, memoryview):
+        given = values_of(values, type_name(values))
+    else:
+        given = _durations(values) if hasattr(values, "__array__") else list(values)
     texts: list[str | None] = []
     try:
         _native.format_list(
