@@ -216,7 +216,7 @@ def to_timedelta(
         return None
     import numpy
 
-    is_one = isinstance(values, (str, datetime.timedelta, numpy.timedelta64))
+    is_one = isinstance(values, (str, datetime.timedelta, numpy.timedelta64, numpy.void))
     # An array of ctypes has no `__iter__`.
     is_column = hasattr(values, "__iter__") or (
         hasattr(values, "__len__") and hasattr(values, "__getitem__")
