@@ -3,7 +3,7 @@ import { instance } from "instance";
 
 /** The size of a page in bytes, by which a memory of WebAssembly grows. */
 const PAGE = 65_536;
-const LONE_SURROGATE = /\p{Surrogate}/gu;
+const LONE_SURROGATE = /[\ud800-\udfff]/gu;
 
 /** The size of the buffer that the module writes to. The longest report fits. */
 const WRITTEN_SIZE = 867;
@@ -62,11 +62,9 @@ let decoder;
 
 /** Decodes where there is no decoder, such as in some versions of jsdom. */
 function decodeEscaped(bytes) {
-    let escaped = "";
-    for (let place = 0; place < bytes.length; place++) {
-        escaped += `%${bytes[place].toString(16).padStart(2, "0")}`;
-    }
-    return decodeURIComponent(escaped);
+    let letters = "";
+    for (const byte of bytes) letters += String.fromCharCode(byte);
+    return decodeURIComponent(escape(letters));
 }
 
 export function decode(bytes) {

@@ -350,9 +350,12 @@ class Reading(unittest.TestCase):
                 to_timedelta(value)
             self.assertTrue(pandas.isna(to_timedelta(value, errors="coerce")))
         has_length = type("HasLength", (), {"__len__": lambda self: 2})()
-        with self.assertRaisesRegex(DurationTypeError, "must be a str, not HasLength$"):
-            to_timedelta(has_length)
-        self.assertIs(to_timedelta(has_length, errors="coerce"), pandas.NaT)
+        record = numpy.zeros(1, "i4,f4")[0]
+        for value in [has_length, record, numpy.void(b"1s")]:
+            line = f"^a duration's text must be a str, not {type(value).__name__}$"
+            with self.assertRaisesRegex(DurationTypeError, line):
+                to_timedelta(value)
+            self.assertIs(to_timedelta(value, errors="coerce"), pandas.NaT)
 
     def test_takes_one_missing_value(self):
         self.assertIsNone(to_timedelta(None))

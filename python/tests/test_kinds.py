@@ -166,7 +166,7 @@ class Kinds(unittest.TestCase):
             self.assertEqual(answer, (array.array("Q", [0]), array.array("Q", [0])))
             return
         self.assertEqual(numpy.isnat(numpy.asarray(answer)).tolist(), [True])
-        if hasattr(column, "__array__"):
+        if hasattr(column, "__array__") or isinstance(column, memoryview):
             with self.assertRaisesRegex(TypeError, f"^at index 0: .* not {re.escape(name)}$"):
                 format_many(column)
 
@@ -193,6 +193,10 @@ class Kinds(unittest.TestCase):
             for values in (column, memoryview(column)):
                 name, nanos = of_memory(values)
                 self.check(name, values, nanos)
+
+    def test_prints_views_in_any_order_of_bytes(self):
+        for kind in (ctypes.c_uint64.__ctype_le__, ctypes.c_uint64.__ctype_be__):
+            self.assertEqual(format_many(memoryview((kind * 2)(1, 5))), ["1ns", "5ns"])
 
     def test_judges_unions_of_c(self):
         fields = [("small", ctypes.c_uint8), ("large", ctypes.c_uint64)]

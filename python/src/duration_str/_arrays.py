@@ -10,7 +10,7 @@ from functools import partial
 from typing import TYPE_CHECKING, Any, overload
 
 from . import _native
-from ._columns import LENGTHS, Errors, raises_errors, stand_in, type_name, values_of, zeros
+from ._columns import Errors, raises_errors, stand_in, type_name, values_of, zeros
 from ._lists import Style, Unit
 from ._texts import UNNAMED, UNSAID, nanos_a_step, nanos_of, type_error_of
 
@@ -18,6 +18,8 @@ if TYPE_CHECKING:
     import numpy
     from numpy.typing import NDArray
 
+#: The types of timedeltas, without a unit in brackets
+_LENGTHS = ("timedelta64", "duration")
 #: NaT as a number
 _NAT = -(2**63)
 
@@ -214,14 +216,14 @@ def to_timedelta(
         return None
     import numpy
 
-    is_one = isinstance(values, (str, datetime.timedelta, numpy.timedelta64))
+    is_one = isinstance(values, (str, datetime.timedelta, numpy.timedelta64, numpy.void))
     # An array of ctypes has no `__iter__`.
     is_column = hasattr(values, "__iter__") or (
         hasattr(values, "__len__") and hasattr(values, "__getitem__")
     )
     is_one = is_one or not is_column
     name = "object" if is_one else type_name(values)
-    if LENGTHS.fullmatch(name):
+    if name.partition("[")[0] in _LENGTHS:
         return _nanos_of_lengths(values, _lengths(values), raises)
     texts = [values] if is_one else _flat(values, name)
     nanos = zeros(len(texts))
@@ -288,7 +290,7 @@ def format_many(
 
 def _durations(values: Any) -> list[Any]:
     """The values of a timedelta64 column become ints of nanoseconds. A missing one becomes None."""
-    if not LENGTHS.fullmatch(name := type_name(values)):
+    if (name := type_name(values)).partition("[")[0] not in _LENGTHS:
         return _flat(values, name)
     lengths = _lengths(values)
     step = nanos_a_step(lengths.dtype)

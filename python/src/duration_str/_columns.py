@@ -1,8 +1,7 @@
-"""Columns of texts"""
+"""Columns of texts. The module re is imported only when it is used."""
 
 from __future__ import annotations
 
-import re
 import struct
 import sys
 from array import array
@@ -18,14 +17,12 @@ from ._texts import UNNAMED, UNSAID
 Errors = Literal["raise", "coerce"]
 
 
-#: The types whose values are read, as NumPy, pandas, Arrow and the formats of buffers name them. In
-#: `object`, each value has a type of its own.
-_READ = re.compile(
-    "object|double|large_string|string_view|format '(@?[nN]|[@=<>!]?[bBhHiIlLqQduwOZ])'"
+#: The types whose values are read, as NumPy, pandas, Arrow and the formats of buffers name them,
+#: except `object`, in which each value has a type of its own
+_READ = (
+    "double|large_string|string_view|format '(@?[nN]|[@=<>!]?[bBhHiIlLqQduwOZ])'"
     "|(?i:u?int(8|16|32|64)|float64|str(ing(dtype)?)?[0-9]*)"
 )
-#: The types of timedeltas
-LENGTHS = re.compile(r"(timedelta64|duration)(\[.*\])?")
 
 
 def _type_of_values(dtype: Any) -> Any:
@@ -73,7 +70,10 @@ def type_name(values: Any) -> str:
 def stand_in(name: str) -> Any | None:
     """Returns None if values of the type of this name are read. Otherwise it returns an object that
     takes the place of each value. The object's type has this name, so errors say it."""
-    return None if _READ.fullmatch(name) else type(name, (), {})()
+    import re
+
+    is_read = name == "object" or re.fullmatch(_READ, name)
+    return None if is_read else type(name, (), {})()
 
 
 def values_of(texts: Any, name: str) -> list[Any]:

@@ -3,7 +3,6 @@
 from __future__ import annotations
 
 import datetime
-from contextlib import suppress
 from importlib import import_module
 from typing import Annotated, Any
 
@@ -59,11 +58,12 @@ class _Shown(dict[str, Any]):
 
     def __setitem__(self, key: str, value: Any) -> None:
         if key == "default" and (isinstance(value, float) or str(value).startswith("P")):
-            # A negative default has no text.
-            with suppress(ValueError):
+            try:
                 value = format(
                     import_module("pydantic").TypeAdapter(datetime.timedelta).validate_python(value)
                 )
+            except ValueError:
+                pass  # A negative default has no text.
         super().__setitem__(key, value)
 
 

@@ -1,7 +1,8 @@
 """The errors that say why and where a text is refused, the parts of a duration, and durations as
 nanoseconds"""
 
-from __future__ import annotations
+# NamedTuple compiles annotations that are texts, which takes longer than the rest of this module. So
+# annotations are no texts here.
 
 import datetime
 import enum
@@ -145,7 +146,7 @@ class DurationError(ValueError):
         if place is not None and not text.isascii():
             self.pos = len(text.encode()[:place].decode())
 
-    def __reduce__(self) -> tuple[type[DurationError], tuple[object, ...], dict[str, object]]:
+    def __reduce__(self) -> tuple[object, ...]:
         return type(self), (str(self), self.text, self.cause), self.__dict__
 
 
