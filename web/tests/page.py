@@ -824,11 +824,12 @@ def try_rules(page):
         for what, broken in page.answer_line("asked.brokenRules()").items():
             page.same(f"{what} under {text}", [], broken)
     for button in page.driver.find_elements(By.CSS_SELECTOR, "#units button"):
-        language = "" if button.text.isascii() or "µ" in button.text else "zh"
-        page.same(f"the language of {button.text}", language, button.get_attribute("lang"))
+        language = "en" if button.text.isascii() or "µ" in button.text else "zh"
+        got = page.run("return arguments[0].closest('[lang]').lang", button)
+        page.same(f"the language of {button.text}", language, got)
     page.choose()
     page.put("1分")
-    page.same("the language of a sentence", ["分"], page.words("#sentence code[lang=zh]"))
+    page.same("the language of a sentence", ["分"], page.words("#sentence :lang(zh)"))
     page.same("one first heading", 1, len(page.driver.find_elements(By.TAG_NAME, "h1")))
     version = subprocess.run(
         [ROOT / "tools/version"], stdout=subprocess.PIPE, check=True, text=True
