@@ -7,11 +7,11 @@ const CHINESE = /\p{Script=Han}/u;
 export const element = (id) => document.getElementById(id);
 export const text = element("text");
 
-/** The element's language is Chinese if the content has a Chinese character. */
+/** The element's language is Chinese if its own text has a Chinese character. */
 export function make(name, ...content) {
     const one = document.createElement(name);
     one.append(...content);
-    if (CHINESE.test(one.textContent)) one.lang = "zh";
+    if (content.some((part) => CHINESE.test(part))) one.lang = "zh";
     return one;
 }
 

@@ -45,13 +45,9 @@ const runs = (...words) => execFileSync(
     { cwd: room, encoding: "utf8" },
 ).trim();
 
-function skipWithout(tool) {
-    try {
-        execFileSync("which", [tool]);
-        return {};
-    } catch {
-        return { skip: `${tool} is missing (make setup all=yes)` };
-    }
+function skipWithout(...tools) {
+    const missing = tools.filter((tool) => spawnSync("which", [tool]).status !== 0);
+    return missing.length ? { skip: `missing: ${missing.join(" ")} (make setup all=yes)` } : {};
 }
 
 test("has the version of package.json", () => {
@@ -273,38 +269,43 @@ for (const format of ["esm", "cjs"]) {
     });
 }
 
+const FIRST = "set -- /usr/lib/*/webkit*gtk-*/MiniBrowser; echo $1";
+const MINI_BROWSER = execFileSync("sh", ["-c", FIRST], { encoding: "utf8" }).trim();
+/** The words before a page's address. Only WebKit's browser needs a display. */
+const BROWSERS = {
+    Chromium: [
+        "chromium", "--headless", "--no-sandbox", "--disable-gpu", "--user-data-dir=PROFILE",
+    ],
+    Firefox: ["firefox-esr", "--headless", "--no-remote", "--profile", "PROFILE"],
+    WebKit: ["xvfb-run", "--auto-servernum", MINI_BROWSER, "--private"],
+};
+
 /**
- * Serves these files with these headers, opens the first file as a page in Chromium, and returns
- * the message that the page posts.
+ * Serves these files, each with its policy if it has one, opens the first file as a page in the
+ * browser, and returns the message that the page posts.
  */
-async function pageMessage(files, headers = {}) {
+async function pageMessage([program, ...words], files) {
     let browser;
     const server = createServer();
     return new Promise((resolve, reject) => {
         server.on("request", async (request, response) => {
             const name = request.url === "/" ? Object.keys(files)[0] : request.url.slice(1);
             if (request.method === "GET") {
+                const [content = "", policy = "frame-src 'self'"] = [files[name]].flat();
                 const type = name.endsWith(".js") ? "text/javascript" : "text/html";
-                response.writeHead(200, { ...headers, "content-type": type }).end(files[name]);
+                const headers = { "content-security-policy": policy, "content-type": type };
+                response.writeHead(200, headers).end(content);
                 return;
             }
             let body = "";
             for await (const part of request) body += part;
             response.end();
-            resolve(body);
+            resolve(JSON.parse(body));
         });
         server.listen(0, "127.0.0.1", () => {
-            const words = [
-                "--headless",
-                "--no-sandbox",
-                "--disable-gpu",
-                `--user-data-dir=${join(room, "profile")}`,
-            ];
-            browser = spawn(
-                "chromium",
-                [...words, `http://127.0.0.1:${server.address().port}/`],
-                { stdio: "ignore" },
-            );
+            const address = `http://127.0.0.1:${server.address().port}/`;
+            const env = { ...process.env, HOME: room, TMPDIR: room };
+            browser = spawn(program, [...words, address], { stdio: "ignore", detached: true, env });
             browser.on("error", reject);
         });
         setTimeout(() => reject(new Error("the page says nothing for a minute")), 60_000).unref();
@@ -313,51 +314,109 @@ async function pageMessage(files, headers = {}) {
         server.closeAllConnections();
         // The browser writes to its profile until it has ended.
         browser.on("close", resolve);
-        browser.kill();
+        process.kill(-browser.pid);
     }));
 }
 
-function bundle(lines) {
+function bundle(lines, ...words) {
     writeFileSync(join(room, "lines.mjs"), lines);
-    return runs("esbuild", "lines.mjs", "--bundle", "--log-level=error", "--format=iife");
+    return runs("esbuild", "lines.mjs", "--bundle", "--log-level=error", ...words);
 }
 
-test("works in a service worker, and counts what Chromium's own types take", skipWithout("chromium"), async () => {
-    const worker = bundle(`${MODULE}
+const PARTS = ["vectors", "refused", "allowed", "plain", "worker"];
+const PAGE = `<script>
+const said = {};
+const hear = ({ data: [part, words] }) => {
+    said[part] = words;
+    if (Object.keys(said).length < ${PARTS.length}) return;
+    fetch("/", { method: "POST", body: JSON.stringify(said) });
+};
+onmessage = navigator.serviceWorker.onmessage = hear;
+navigator.serviceWorker.register("worker.js").then(() => navigator.serviceWorker.ready)
+    .then((registration) => registration.active.postMessage("?"));
+</script>
+${PARTS.slice(0, -1).map((part) => `<iframe src="${part}.html"></iframe>`).join("\n")}`;
+
+// WebKit knows no Temporal yet.
+const WORKER = `${MODULE}
 import { parts } from "duration-str";
 const counted = parts(5_400_000_000_000n);
-said += \` \${new Intl.DurationFormat("en").format(counted)} \${Temporal.Duration.from(counted)} \${Temporal.Duration.from(parts(0n))}\`;
-self.onmessage = (event) => event.source.postMessage(said);`);
-    const page = `<script>
-        navigator.serviceWorker.onmessage = (event) => fetch("/said", { method: "POST", body: event.data });
-        navigator.serviceWorker.register("worker.js").then(() => navigator.serviceWorker.ready)
-            .then((registration) => registration.active.postMessage("?"));
-    </script>`;
-    assert.equal(
-        await pageMessage({ "page.html": page, "worker.js": worker }),
-        `${SAID} 1 hr, 30 min PT1H30M PT0S`,
-    );
-});
+said += \` \${new Intl.DurationFormat("en").format(counted)}\`;
+for (const each of self.Temporal ? [counted, parts(0n)] : []) {
+    said += \` \${Temporal.Duration.from(each)}\`;
+}
+self.onmessage = (event) => event.source.postMessage(["worker", said]);`;
 
-test("lets a page start whose policy refuses it, and says what to allow", skipWithout("chromium"), async () => {
-    const script = bundle(`import * as all from "duration-str";
-const said = () => { try { return all.parseNs("1h"); } catch (error) { return \`\${error.cause.name}: \${error.message}\`; } };
-fetch("/said", { method: "POST", body: \`started \${said()}\` });`);
-    const files = { "page.html": '<script src="script.js"></script>', "script.js": script };
-    const said = await pageMessage(files, { "content-security-policy": "script-src 'self'" });
-    assert.match(
-        said,
-        /^started CompileError: duration-str cannot use WebAssembly here .* allow 'wasm-unsafe-eval' /,
-    );
-    assert.equal(
-        await pageMessage(
-            files,
-            { "content-security-policy": "script-src 'self' 'wasm-unsafe-eval'" },
-        ),
-        "started 3600000000000",
-    );
-    const plain = bundle(`import { parseNs } from "duration-str/plain";
-fetch("/said", { method: "POST", body: parseNs("1h") });`);
-    const policy = { "content-security-policy": "script-src 'self'" };
-    assert.equal(await pageMessage({ ...files, "script.js": plain }, policy), "3600000000000");
-});
+const hourIn = (part, from) => `import { parseNs } from "${from}";
+let said = "started ";
+try {
+    said += parseNs("1h");
+} catch (error) {
+    said += \`\${error.cause.name}: \${error.message}\`;
+}
+parent.postMessage(["${part}", said], "*");`;
+
+const WRONG_VECTORS = `import * as compiled from "duration-str";
+import * as plain from "duration-str/plain";
+import { optionsOf, VECTORS } from "${join(PACKAGE, "tests/vectors.js")}";
+const wrong = [];
+for (const { DurationError, formatNs, tryParseNs } of [compiled, plain]) {
+    for (const { on, rows } of VECTORS.values) {
+        for (const [secs, nanos, texts] of rows) {
+            const value = BigInt(secs) * 1_000_000_000n + BigInt(nanos);
+            wrong.push(...texts.filter((text) => tryParseNs(text, optionsOf(on)).value !== value));
+        }
+    }
+    for (const [text, names, ...row] of VECTORS.refused) {
+        const [code, place, found, , line] = row;
+        const error = new DurationError(tryParseNs(text, optionsOf(names)).fault);
+        const copy = structuredClone(error.toJSON());
+        const got = [copy.code, copy.place, copy.found, copy.message];
+        got.push(structuredClone(error).message);
+        if (got.join() !== [code, place, found, line, line].join()) wrong.push(text);
+    }
+    for (const [text, limits, short] of VECTORS.printed) {
+        const { ok, value } = tryParseNs(text);
+        if (ok && formatNs(value, limits) !== short) wrong.push(text);
+    }
+}
+parent.postMessage(["vectors", wrong], "*");`;
+
+function browserFiles() {
+    const strict = "script-src 'self'";
+    const frame = (part) => `<script type="module" src="${part}.js"></script>`;
+    // The vectors are a part of the bundle.
+    const vectors = join(PACKAGE, "../rust/vectors.json");
+    const reads = `import text from "${vectors}";\nexport const readFileSync = () => text;`;
+    writeFileSync(join(room, "fs.mjs"), reads);
+    const words = ["--format=esm", "--alias:node:fs=./fs.mjs", "--loader:.json=text"];
+    return {
+        "page.html": PAGE,
+        "worker.js": bundle(WORKER),
+        "vectors.html": frame("vectors"),
+        "vectors.js": bundle(WRONG_VECTORS, ...words),
+        "refused.html": [frame("refused"), strict],
+        "refused.js": bundle(hourIn("refused", "duration-str")),
+        "allowed.html": [frame("allowed"), `${strict} 'wasm-unsafe-eval'`],
+        "allowed.js": bundle(hourIn("allowed", "duration-str")),
+        "plain.html": [frame("plain"), strict],
+        "plain.js": bundle(hourIn("plain", "duration-str/plain")),
+    };
+}
+
+for (const [name, words] of Object.entries(BROWSERS)) {
+    const needed = words.filter((word) => word === words[0] || word === MINI_BROWSER);
+    const where = `${name}, in frames with policies and in a service worker`;
+    test(`works in ${where}`, skipWithout(...needed), async () => {
+        const profile = join(room, name);
+        mkdirSync(profile);
+        const filled = words.map((word) => word.replace("PROFILE", profile));
+        const said = await pageMessage(filled, browserFiles());
+        assert.deepEqual(said.vectors, []);
+        const refused = /^started CompileError: duration-str cannot .* allow 'wasm-unsafe-eval' /s;
+        assert.match(said.refused, refused);
+        const hour = "started 3600000000000";
+        assert.deepEqual([said.allowed, said.plain], [hour, hour]);
+        assert.match(said.worker, RegExp(`^${SAID} 1 hr, 30 min( PT1H30M PT0S)?$`));
+    });
+}
