@@ -1,7 +1,7 @@
 """The errors that say why and where a text is refused, the parts of a duration, and durations as
 nanoseconds"""
 
-# NamedTuple compiles annotations that are texts, which takes longer than the rest of this module. So
+# NamedTuple compiles annotations that are texts. That takes longer than all else in this module. So
 # annotations are no texts here.
 
 import datetime
