@@ -150,8 +150,8 @@ docdir = $(datarootdir)/doc/duration_str
 INSTALL = install
 INSTALL_PROGRAM = $(INSTALL)
 INSTALL_DATA = $(INSTALL) -m 644
-# Below / nothing is staged.
-ifeq ($(DESTDIR),/)
+# Below / nothing is staged. DESTDIR may also be // or a link to /.
+ifeq ($(shell realpath $(call quoted,$(DESTDIR)) 2>/dev/null),/)
 override DESTDIR :=
 endif
 export DESTDIR
