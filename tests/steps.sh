@@ -81,6 +81,12 @@ finds() {
 # can WHAT NEED WORDS..: returns whether the words succeed. If they fail, NEED says what is missing
 can() { "${@:3}" >/dev/null 2>&1 || skips "$1" "missing: $2"; }
 
+# is_rust WHAT MINOR: returns whether rustc is of Rust 1.MINOR or later. If not, WHAT is skipped
+is_rust() {
+    can "$1" "Rust 1.$2 or later" awk -F '[ .]' "{ exit \$2 == 1 && \$3 < $2 }" \
+        <<<"$(rustc --version)"
+}
+
 # copies FOLDER: copies the files into the folder as they are here, except .git and folders such as
 # out. If root copies the files of another user, the copy is root's, since git refuses a clone of
 # another user
