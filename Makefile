@@ -61,9 +61,11 @@ cargo = tools/cargo-for $(call quoted,$(target)) $(1) --quiet --profile $(profil
 static =
 comma := ,
 
-# For Windows, files have the names that cargo gives them there.
+# For Windows, files have the names that cargo gives them there. The linker writes the time into
+# them unless it is told not to.
 windows := $(filter x86_64-pc-windows-gnu,$(target))
 durstr := durstr$(if $(windows),.exe)
+timeless := $(if $(windows),-C link-arg=-Wl$(comma)--no-insert-timestamp)
 
 # $(call serves,FILE,FOLDERS): succeeds if the file is up to date, and can't be built here: nothing
 # can be written, or make installs without cargo, as it may under sudo
@@ -78,7 +80,7 @@ program:
 	elif type -P cargo >/dev/null; then
 	    [ -x "$$program" ] || echo 'durstr: cargo builds it, in seconds' >&2
 	    $(call cargo,std$(comma)panic_abort rustc) -p durstr --bin durstr -- \
-	        $(if $(static),-C target-feature=+crt-static)
+	        $(if $(static),-C target-feature=+crt-static) $(timeless)
 	elif type -P rt >/dev/null && [ '$(origin target)' = file ]; then
 	    program=crates/durstr/out/durstr
 	    [ -x $$program ] ||
@@ -98,7 +100,7 @@ library:
 	    object="$(built)/duration_str.o"
 	    $(call cargo,core rustc) -p duration-str-c \
 	        $(if $(findstring -none,$(target)),--crate-type staticlib) -- \
-	        $(if $(filter wasm%,$(target)),,--emit "obj=$$object")
+	        $(if $(filter wasm%,$(target)),,--emit "obj=$$object") $(timeless)
 	    [ ! -e "$$object" ] || { rm -f "$$archive" && ar rcs "$$archive" "$$object"; }
 	fi
 	echo $(built)
