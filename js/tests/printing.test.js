@@ -63,9 +63,20 @@ test("prints texts of each length", () => {
     for (let length = 7; length <= 30; length++) assert.ok(others.has(length), `${length} with µ`);
 });
 
-test("takes options that are undefined, and any whole number of parts", () => {
-    const options = { units: undefined, smallest: undefined, parts: undefined, style: undefined };
-    assert.equal(formatNs(90_000_000_000n, options), "1min 30s");
+test("leaves out options that are undefined, in each call", () => {
+    const names = ["units", "largest", "smallest", "parts", "style"];
+    const options = Object.fromEntries(names.map((name) => [name, undefined]));
+    for (const call of [format, formatNs, breakdown, parts]) {
+        const value = call === format ? 90_061_000 : 90_061_000_000_000n;
+        for (const given of [{}, { units: ["d", "s"] }, { largest: "h", parts: 1 }]) {
+            assert.deepEqual(call(value, { ...options, ...given }), call(value, given));
+        }
+        // A name that no call knows is a slip in any case.
+        assert.throws(() => call(value, { unit: undefined }), new TypeError("unknown option: unit"));
+    }
+});
+
+test("takes any whole number of parts", () => {
     assert.equal(format(193_029, { parts: 2 }), "3min 13s");
     for (const parts of [2 ** 32, Infinity]) {
         assert.equal(formatNs(90_061_000_000_001n, { parts }), "1d 1h 1min 1s 1ns");
@@ -186,7 +197,6 @@ test("counts the parts", () => {
         [400n * DAY, { largest: "mon", parts: 2 }, { months: 13, weeks: 1 }],
         [400n * DAY, { units: ["y", "d"] }, { years: 1, days: 35 }],
         [400n * DAY, { units: ["y", "mon", "d"], parts: 1 }, { years: 1 }],
-        [400n * DAY, { units: undefined }, { days: 400 }],
         [5n, { units: ["d", "mon"] }, { days: 0 }],
         [5n, { units: ["µs", "d"] }, { seconds: 0 }],
         [2n ** 53n - 1n, { largest: "ns" }, { nanoseconds: Number.MAX_SAFE_INTEGER }],

@@ -2,7 +2,7 @@ import assert from "node:assert/strict";
 import test from "node:test";
 import { runInNewContext } from "node:vm";
 
-import { DurationError, parseNs, parse, tryParse, tryParseNs } from "duration-str";
+import { DurationError, parseNs, parse, pattern, tryParse, tryParseNs } from "duration-str";
 import { choicesFor, holds, optionsOf, VECTORS } from "./vectors.js";
 
 const LARGEST = 2n ** 64n - 1n;
@@ -43,10 +43,14 @@ test("reads the vectors, and refuses them under the other options", () => {
     }
 });
 
-test("reads as without options where they are left out or undefined", () => {
-    for (const options of [undefined, {}, { noCalc: undefined }, optionsOf([])]) {
+test("reads as without options if they are left out or undefined", () => {
+    const names = ["noCalc", "lowercase", "cnUnit", "requireUnit", "defaultUnit"];
+    const none = Object.fromEntries(names.map((name) => [name, undefined]));
+    for (const options of [undefined, {}, none, optionsOf([])]) {
         assert.equal(parseNs("1M*2", options), 120_000_000_000n);
         assert.throws(() => parseNs("1分", options), DurationError);
+        assert.throws(() => parseNs(1, options), TypeError);
+        assert.equal(pattern(options), pattern());
     }
 });
 
