@@ -7,9 +7,8 @@ import { choicesFor, holds, optionsOf, VECTORS } from "./vectors.js";
 
 const LARGEST = 2n ** 64n - 1n;
 const NO_UNITS = [
-    "fortnight", "toString", "", " ", "mins", "年", "毫秒", "1分", " ms", "ms ", "m s", "m\n", "m 0s",
-    "d 6d", "1", "1ms", "0ms", "ms1", "m\0", "+s", "s+", "2*s", "\u039cs", "\u03bcs", "\u017f",
-    "\u212a", "\u{1f600}", "\ud800", "ms\udc00", "\ud800s", "milliseconds".repeat(10_000),
+    "fortnight", "toString", "", " ", "mins", "年", "毫秒", "1分", "m 0s", "d 6d", "1", "2*s",
+    "\u039cs", "\u{1f600}", "\ud800", "ms\udc00", "\ud800s", "milliseconds".repeat(10_000),
 ];
 
 // This test comes first, while the memory is still small.
