@@ -1,5 +1,8 @@
 //! Tests durations that are numbers in JSON. `tests/precision` runs the same rows with serde_json's
 //! feature `arbitrary_precision`, under which serde_json passes some numbers on as maps.
+#[path = "near.rs"]
+mod near;
+
 use duration_str::{human_or_millis, human_or_seconds, parse_duration};
 use serde::Deserialize;
 use serde_json::{Deserializer, Error, Number, json};
@@ -102,25 +105,14 @@ fn refuses_other_numbers() {
     }
 }
 
-/// The text itself, and with a character more, less or exchanged, at each place.
-fn near(text: &str) -> impl Iterator<Item = String> {
-    let others = [
-        "", "0", "5", "-", "+", ".", "e", "E", "x", "_", ",", " ", "\t", "٣", "０", "−",
-    ];
-    let cuts = (0..=text.len()).flat_map(|at| [(at, at), (at, text.len().min(at + 1))]);
-    cuts.flat_map(move |(from, to)| {
-        others.map(|other| format!("{}{other}{}", &text[..from], &text[to..]))
-    })
-}
-
 /// serde_json's own `Number` says which texts are numbers. Only with its feature does it read maps.
 #[test]
 fn takes_for_a_number_what_serde_json_takes() {
     let numbers = [
-        "0", "30", "-1", "-0.0", "30.0", "0.5", "3e1", "0.3E+2", "3000e-2", "184e8",
+        "0", "30", "-1", "-0.0", "30.0", "0.5", "3e1", "0.3E+2", "3000e-2", "184e8", "inf", "NaN",
     ];
     let mut counts = [0, 0];
-    for text in numbers.into_iter().chain(["inf", "NaN"]).flat_map(near) {
+    for text in numbers.into_iter().flat_map(near::near) {
         let number = serde_json::from_str::<Number>(&text);
         // Here each float that is whole is exact.
         let secs = number.as_ref().ok().and_then(Number::as_f64);
@@ -149,7 +141,7 @@ fn takes_for_a_number_what_serde_json_takes() {
             }
         }
     }
-    assert!(counts.iter().all(|count| *count > 200), "{counts:?}");
+    assert!(counts.iter().all(|count| *count > 300), "{counts:?}");
 }
 
 #[test]
