@@ -48,7 +48,7 @@ WRONG_WORDS = """--to= --to=mins --to=年 --from=secs --largest=mo --round=half 
 --units=y,mins --parts=0 --parts=256 --parts=two --field=0 --field=65536 --field=-1 -dab -dé
 --header= --header=x --none -x""".split()
 # These are read only as a whole.
-NUMBERS = ("12.5", ".5", "1e-05", "2.5E+3", "0.5e0", "\t3.0 ")
+NUMBERS = ("12.5", ".5", "1e-05", "2.5E+3", "0.5e0", "\t3.0 ", "1e-99999999999999999999")
 WORDS = """--to=ms --from=Hour --largest=µs --smallest=mon --units=y,d --style=long
 --round=up""".split()
 Refused = collections.namedtuple("Refused", "message column found", defaults=(None, None))
