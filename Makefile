@@ -314,7 +314,8 @@ uninstall: installable
 	    [ ! -e "$$library" ] ||
 	        echo "uninstall: left for programs that were linked with it: $$library"
 	done
-	# Below DESTDIR nothing says which folders were made.
+	# A folder that can't be removed stays, such as a mount point. Below DESTDIR nothing says which
+	# folders were made.
 	if [ -n "$$DESTDIR" ]; then
 	    [ -d "$$DESTDIR" ] || exit 0
 	    cd "$$DESTDIR"
@@ -323,7 +324,7 @@ uninstall: installable
 	    for folder in $$(realpath -ms --relative-to=/ $(sort $(dir $(installed)))); do
 	        # A link to a folder stays, such as /lib.
 	        while [ "$$folder" != . ] && [ -d "$$folder" ] && [ ! -L "$$folder" ]; do
-	            rmdir --ignore-fail-on-non-empty "$$folder"
+	            rmdir --ignore-fail-on-non-empty "$$folder" || break
 	            folder=$$(dirname "$$folder")
 	        done
 	    done
@@ -331,7 +332,7 @@ uninstall: installable
 	fi
 	made=$$(for folder in $$made; do realpath -m "$(prefix)/$$folder"; done | sort -ru)
 	for folder in $(docdir) $(libdir)/cmake/duration_str $$made; do
-	    [ ! -d "$$folder" ] || rmdir --ignore-fail-on-non-empty "$$folder"
+	    [ ! -d "$$folder" ] || rmdir --ignore-fail-on-non-empty "$$folder" || :
 	done
 
 # ---- The rest

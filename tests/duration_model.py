@@ -6,6 +6,7 @@ import collections
 import fractions
 import itertools
 import json
+import multiprocessing.pool
 import operator
 import pathlib
 import re
@@ -19,7 +20,7 @@ sys.path.append(str(pathlib.Path(__file__).resolve().parent.parent / "tools"))
 import patterns  # noqa: E402
 import reference_parser as reference  # noqa: E402
 import vectors  # noqa: E402
-from texts import Texts  # noqa: E402
+from texts import Texts, near  # noqa: E402
 
 LONGEST_LINE = 1_048_576
 BLANKS = reference.BLANKS
@@ -43,9 +44,13 @@ VALUES = (
     )
 )
 WITH_PATTERN = {"pattern", "lowercase", "cn-unit", "require-unit", "from", "zero-terminated"}
-WRONG_WORDS = """--to= --to=mins --to=年 --from=secs --largest=mo --smallest=5s --style=Long --round=half --decimals=10
---units= --units=y, --units=y,mins --units=年 --parts=0 --parts=256 --parts=two --field=0
---field=65536 --field=-1 -dab -dé --header= --header=x --none -x""".split()
+WRONG_WORDS = """--to= --to=mins --to=年 --from=secs --largest=mo --round=half --decimals=10 --units=
+--units=y,mins --parts=0 --parts=256 --parts=two --field=0 --field=65536 --field=-1 -dab -dé
+--header= --header=x --none -x""".split()
+# These are read only as a whole.
+NUMBERS = ("12.5", ".5", "1e-05", "2.5E+3", "0.5e0", "\t3.0 ", "1e-99999999999999999999")
+WORDS = """--to=ms --from=Hour --largest=µs --smallest=mon --units=y,d --style=long
+--round=up""".split()
 Refused = collections.namedtuple("Refused", "message column found", defaults=(None, None))
 Said = collections.namedtuple("Said", "output errors status")
 quoted = json.JSONEncoder(ensure_ascii=False).encode
@@ -254,19 +259,6 @@ class Commands(Texts):
             return ",".join(self.random.choices(list(LENGTHS), k=self.random.randint(1, 6)))
         return self.choice(VALUES[name])
 
-    def with_one_more(self, text):
-        """A text that is read only as a whole, with one character more before or after it."""
-        one = self.choice("eE+-._,05 sx\t\x1b½é٣")
-        return self.choice((f"{one}{text}", f"{text}{one}"))
-
-    def wrong_word(self):
-        """A word whose value is a valid one with one character more, or one of WRONG_WORDS."""
-        if self.chance(50):
-            return self.choice(WRONG_WORDS)
-        name = self.choice(("to", "from", "largest", "smallest", "style", "round", "units"))
-        value, one = self.value(name), self.choice("-._05 ;é٣\t\n\x1b")
-        return f"--{name}={self.choice((one + value, value + one))}"
-
     def bare_number(self):
         decimals = "0" * self.choice((0, 0, 9, 18)) + str(
             self.random.randrange(10**9)
@@ -281,7 +273,7 @@ class Commands(Texts):
             ("", "\t", "s"),
         )
         text = "".join(map(self.choice, parts))
-        return (self.with_one_more(text) if self.chance(20) else text).encode()
+        return (self.choice([*near(text)]) if self.chance(20) else text).encode()
 
     def single(self, options):
         if self.chance(5):
@@ -385,9 +377,34 @@ def vector_commands():
     for (row, nanos, *_), style in itertools.product(vectors.durations(), reference.STYLES):
         limits = row[1] | {name: ",".join(row[1][name]) for name in row[1].keys() & {"units"}}
         items[*limits.items(), ("style", style)].append(f"{nanos}ns")
+    items[("from", "s"),] += itertools.chain.from_iterable(map(near, NUMBERS))
     for given, texts in items.items():
         data = "".join(f"{text}\0" for text in texts if "\0" not in text)
         yield {**dict(given), "json": "", "zero-terminated": ""}, data.encode()
+
+
+def is_option(word):
+    name, _, value = word.partition("=")
+    units = [each.translate(reference.FOLDED) in reference.PLACES for each in value.split(",")]
+    match name:
+        case "--style" | "--round":
+            return value in VALUES[name[2:]]
+        case "--to" | "--from" | "--largest" | "--smallest":
+            return units == [True]
+    return name == "--units" and all(units)
+
+
+def check_words(program):
+    def is_taken(word, beside):
+        ended = subprocess.run([program, *beside, word, "90061s"], capture_output=True)
+        return ended.returncode == 0
+
+    words = {(each, ("--to=m",) * ("round" in word)) for word in WORDS for each in near(word)}
+    with multiprocessing.pool.ThreadPool() as pool:
+        for (word, _), taken in zip(words, pool.starmap(is_taken, words)):
+            if taken != is_option(word):
+                sys.exit(f"duration_model: {word!r} is {'taken' if taken else 'refused'}")
+    print(f"duration_model: {len(words)} words, {sum(is_option(word) for word, _ in words)} taken")
 
 
 def compare(words, must, options, data, cuts=()):
@@ -402,6 +419,7 @@ def main(program, seconds="20", seed=str(time.time_ns())):
     print(f"duration_model: seed {seed}")
     if names := untried(program):
         sys.exit(f"duration_model: not tried: {' '.join(sorted(names))}")
+    check_words(program)
     commands, usage, count = Commands(seed), Said(b"", b"error: ", 2), 0
     for options, data in vector_commands():
         is_usage = is_wrong(options, []) or options.get("parts") == 0
@@ -411,7 +429,7 @@ def main(program, seconds="20", seed=str(time.time_ns())):
     ends = time.monotonic() + float(seconds)
     while time.monotonic() < ends:
         options, texts, data = commands.command()
-        wrong = [commands.wrong_word()] if commands.chance(5) else []
+        wrong = [commands.choice(WRONG_WORDS)] if commands.chance(5) else []
         words = [program, *commands.words(options), *wrong, *(["--"] * bool(texts) + texts)]
         is_usage = bool(wrong) or is_wrong(options, texts)
         is_whole = is_usage or texts or "pattern" in options or len(data) > 9999

@@ -15,6 +15,19 @@ sys.dont_write_bytecode = True
 from reference_parser import LIMIT, NEAR_WORDS, SECOND, SMALL_WORDS, UNITS  # noqa: E402
 
 
+# Characters of each kind: of numbers, of names, between words, and some that only look like those.
+OTHERS = ("", *"05emsx+-*.,_=; \t\n\x0c\xa0", *"٣０−µμſK")
+
+
+def near(text, others=OTHERS):
+    """Texts with a character more, less or exchanged at each place, and the text itself."""
+    for place in range(len(text) + 1):
+        here, after = text[place : place + 1], text[place + 1 :]
+        for other in (*others, here.swapcase()):
+            yield text[:place] + other + after
+            yield text[:place] + other + here + after
+
+
 class Texts:
     """The texts are terms with operators and blanks. Many are then damaged."""
 

@@ -4,8 +4,8 @@ import {
     ANSWER, calls, fields, loneSurrogateIn, output, start, TEXT, write, WRITTEN,
 } from "./memory.js";
 import {
-    ALL_UNITS, bitsOf, COUNTED, COUNTED_UNITS, countOf, formatOf, PARTS, PRINTED, READS_NUMBERS,
-    styleOf, typeOf, unitsLeft,
+    ALL_UNITS, bitsOf, COUNTED_UNITS, countOf, formatOf, PARTS, READS_NUMBERS, styleOf, typeOf,
+    unitsLeft,
 } from "./options.js";
 import { DurationError, faultOf, loneSurrogateAt } from "./refusals.js";
 
@@ -148,7 +148,7 @@ function print(options) {
     // The duration is taken before the options are looked at, since an option may have a getter
     // that calls this package.
     const { low, high, nanos } = secondsAndNanos();
-    const chosen = formatOf(options, PRINTED);
+    const chosen = formatOf(options, true);
     const { left } = unitsLeft(chosen, ALL_UNITS, "y");
     const parts = countOf(chosen.parts);
     const style = styleOf(chosen.style);
@@ -187,7 +187,7 @@ function breakDown(value, options, all, longest) {
     }
     put(value);
     const { low, high, nanos } = secondsAndNanos();
-    const chosen = formatOf(options, COUNTED);
+    const chosen = formatOf(options, false);
     const { left, named } = unitsLeft(chosen, all, longest);
     // `breakdown` counts all units, and `parts` all except the quarter.
     if (named & ~all) throw new RangeError("parts has no quarters");

@@ -133,22 +133,22 @@ export function countOf(parts) {
     return Math.min(parts, UNITS.length);
 }
 
-/** The names of the options for printing and for counting. */
-export const PRINTED = ["units", "largest", "smallest", "parts", "style"];
-export const COUNTED = ["units", "largest", "smallest", "parts"];
+/** The names of the options for printing. For counting there is no style. */
+const FORMAT = ["units", "largest", "smallest", "parts", "style"];
 
-export function formatOf(options, known) {
+export function formatOf(options, hasStyle) {
     checkPlain(options);
     let units, largest, smallest = "ns", parts = Infinity, style = "short";
     for (const name of Object.keys(options)) {
-        if (!known.includes(name)) throw unknown(name);
+        if (!FORMAT.includes(name)) throw unknown(name);
         const value = options[name];
         if (value === undefined) continue;
         if (name === "units") units = value;
         else if (name === "largest") largest = value;
         else if (name === "smallest") smallest = value;
         else if (name === "parts") parts = value;
-        else style = value;
+        else if (hasStyle) style = value;
+        else throw unknown(name);
     }
     return { units, largest, smallest, parts, style };
 }

@@ -5,7 +5,7 @@ import test from "node:test";
 import {
     breakdown, formatNs, format, parseNs, parse, parts, tryParseNs,
 } from "duration-str";
-import { VECTORS } from "./vectors.js";
+import { near, VECTORS } from "./vectors.js";
 
 /** The printed names of the units, the longest first. */
 const NAMES = ["y", "q", "mon", "w", "d", "h", "min", "s", "ms", "µs", "ns"];
@@ -63,9 +63,18 @@ test("prints texts of each length", () => {
     for (let length = 7; length <= 30; length++) assert.ok(others.has(length), `${length} with µ`);
 });
 
-test("takes options that are undefined, and any whole number of parts", () => {
-    const options = { units: undefined, smallest: undefined, parts: undefined, style: undefined };
-    assert.equal(formatNs(90_000_000_000n, options), "1min 30s");
+test("leaves out options that are undefined, in each call", () => {
+    const names = ["units", "largest", "smallest", "parts", "style"];
+    const options = Object.fromEntries(names.map((name) => [name, undefined]));
+    for (const call of [format, formatNs, breakdown, parts]) {
+        const value = call === format ? 90_061_000 : 90_061_000_000_000n;
+        for (const given of [{}, { units: ["d", "s"] }, { largest: "h", parts: 1 }]) {
+            assert.deepEqual(call(value, { ...options, ...given }), call(value, given));
+        }
+    }
+});
+
+test("takes any whole number of parts", () => {
     assert.equal(format(193_029, { parts: 2 }), "3min 13s");
     for (const parts of [2 ** 32, Infinity]) {
         assert.equal(formatNs(90_061_000_000_001n, { parts }), "1d 1h 1min 1s 1ns");
@@ -186,7 +195,6 @@ test("counts the parts", () => {
         [400n * DAY, { largest: "mon", parts: 2 }, { months: 13, weeks: 1 }],
         [400n * DAY, { units: ["y", "d"] }, { years: 1, days: 35 }],
         [400n * DAY, { units: ["y", "mon", "d"], parts: 1 }, { years: 1 }],
-        [400n * DAY, { units: undefined }, { days: 400 }],
         [5n, { units: ["d", "mon"] }, { days: 0 }],
         [5n, { units: ["µs", "d"] }, { seconds: 0 }],
         [2n ** 53n - 1n, { largest: "ns" }, { nanoseconds: Number.MAX_SAFE_INTEGER }],
@@ -212,14 +220,32 @@ test("counts the parts", () => {
 });
 
 test("knows whole names only", () => {
-    for (const name of [...ALL_NAMES.flat(), ...VECTORS.styles]) {
-        for (const one of " \t\n\0\x1b-._05é٣\u200b\ud800") {
-            for (const wrong of [one + name, name + one]) {
-                for (const words of [{ largest: wrong }, { units: [wrong] }, { style: wrong }]) {
-                    assert.throws(() => format(5, words), RangeError, JSON.stringify(wrong));
-                }
-                assert.throws(() => parseNs("5", { defaultUnit: wrong }), RangeError);
-            }
+    const refuses = (name, words, call) =>
+        assert.throws(() => call(words), { name }, JSON.stringify(Object.entries(words)));
+    for (const word of near(ALL_NAMES.flat())) {
+        const small = word.replace(/[A-Z]/g, (letter) => letter.toLowerCase());
+        const place = ALL_NAMES.findIndex((names) => names.includes(small));
+        const limits = [{ largest: word }, { smallest: word }, { units: [word] }];
+        if (place < 0) {
+            for (const each of limits) refuses("RangeError", each, (words) => format(5, words));
+            refuses("RangeError", { defaultUnit: word }, (words) => parse("5", words));
+        } else {
+            const value = parseNs("7", { defaultUnit: word });
+            assert.equal(formatNs(value, Object.assign({}, ...limits)), `7${NAMES[place]}`);
+        }
+    }
+    for (const style of near(VECTORS.styles)) {
+        if (VECTORS.styles.includes(style)) continue;
+        refuses("RangeError", { style }, (words) => format(5, words));
+    }
+    const formats = ["units", "largest", "smallest", "parts", "style"];
+    const options = ["noCalc", "lowercase", "cnUnit", "requireUnit", "defaultUnit"];
+    for (const name of near([...formats, ...options])) {
+        const words = { [name]: undefined };
+        if (!options.includes(name)) refuses("TypeError", words, () => parse("5", words));
+        if (formats.includes(name)) continue;
+        for (const call of [format, breakdown, parts]) {
+            refuses("TypeError", words, () => call(5, words));
         }
     }
 });

@@ -2,14 +2,13 @@ import assert from "node:assert/strict";
 import test from "node:test";
 import { runInNewContext } from "node:vm";
 
-import { DurationError, parseNs, parse, tryParse, tryParseNs } from "duration-str";
+import { DurationError, parseNs, parse, pattern, tryParse, tryParseNs } from "duration-str";
 import { choicesFor, holds, optionsOf, VECTORS } from "./vectors.js";
 
 const LARGEST = 2n ** 64n - 1n;
 const NO_UNITS = [
-    "fortnight", "toString", "", " ", "mins", "年", "毫秒", "1分", " ms", "ms ", "m s", "m\n", "m 0s",
-    "d 6d", "1", "1ms", "0ms", "ms1", "m\0", "+s", "s+", "2*s", "\u039cs", "\u03bcs", "\u017f",
-    "\u212a", "\u{1f600}", "\ud800", "ms\udc00", "\ud800s", "milliseconds".repeat(10_000),
+    "fortnight", "toString", "", " ", "mins", "年", "毫秒", "1分", "m 0s", "d 6d", "1", "2*s",
+    "\u039cs", "\u{1f600}", "\ud800", "ms\udc00", "\ud800s", "milliseconds".repeat(10_000),
 ];
 
 // This test comes first, while the memory is still small.
@@ -43,10 +42,14 @@ test("reads the vectors, and refuses them under the other options", () => {
     }
 });
 
-test("reads as without options where they are left out or undefined", () => {
-    for (const options of [undefined, {}, { noCalc: undefined }, optionsOf([])]) {
+test("reads as without options if they are left out or undefined", () => {
+    const names = ["noCalc", "lowercase", "cnUnit", "requireUnit", "defaultUnit"];
+    const none = Object.fromEntries(names.map((name) => [name, undefined]));
+    for (const options of [undefined, {}, none, optionsOf([])]) {
         assert.equal(parseNs("1M*2", options), 120_000_000_000n);
         assert.throws(() => parseNs("1分", options), DurationError);
+        assert.throws(() => parseNs(1, options), TypeError);
+        assert.equal(pattern(options), pattern());
     }
 });
 

@@ -33,3 +33,19 @@ export function choicesFor({ on }) {
 export function holds({ on, off }, names) {
     return on.every((name) => names.includes(name)) && !off.some((name) => names.includes(name));
 }
+
+/** Returns the words with a character more, less or exchanged at each place, and the words. */
+export function near(words) {
+    const others = ["", ..."05emsx_+-*., \t\n\0\xa0٣０µμſ\u212a分", "\ud800"];
+    const found = new Set();
+    for (const word of words) {
+        for (let place = 0; place <= word.length; place++) {
+            const here = word.charAt(place);
+            for (const other of [...others, here.toUpperCase(), here.toLowerCase()]) {
+                const before = word.slice(0, place) + other;
+                found.add(before + word.slice(place)).add(before + word.slice(place + 1));
+            }
+        }
+    }
+    return [...found];
+}

@@ -1,11 +1,12 @@
 """Tests how durations are printed."""
 
 import datetime
-import itertools
+import inspect
 import os
 import pickle
 import random
 import re
+import string
 import typing
 import unittest
 
@@ -21,7 +22,7 @@ from duration_str import (
     parse,
     parse_ns,
 )
-from tests.vectors import VECTORS
+from tests.vectors import VECTORS, near
 
 SECOND = 10**9
 DAY = 86_400 * SECOND
@@ -149,15 +150,10 @@ class Printing(unittest.TestCase):
             "",
             "mins",
             "年",
-            "μs",
-            "y ",
-            " y",
             "1",
-            "0s",
             "000ms",  # With a 1 before it, it is read as a second.
             "h 0s",
             "\ud800",
-            "y\0",
             "s" * 15,
             "s" * 16,
             "s" * 999,
@@ -209,14 +205,27 @@ class Printing(unittest.TestCase):
             self.assertRaises(TypeError, call)
 
     def test_knows_whole_names_only(self):
-        names = [*typing.get_args(Unit), *typing.get_args(Style)]
-        for name, one in itertools.product(names, " \t\n\0\x1b-._05é٣\u200b"):
-            for wrong in (one + name, name + one):
-                for words in ({"largest": wrong}, {"units": [wrong]}, {"style": wrong}):
-                    with self.subTest(**words), self.assertRaises(ValueError):
-                        format(5, **words)
-                with self.subTest(default_unit=wrong), self.assertRaises(ValueError):
-                    parse_ns("5", default_unit=wrong)
+        def refuses(word, error, call, *values, **words):
+            with self.assertRaises(error, msg=ascii(word)):
+                call(*values, **words)
+
+        small = str.maketrans(string.ascii_uppercase, string.ascii_lowercase)
+        units, styles = typing.get_args(Unit), typing.get_args(Style)
+        for word in near(units):
+            if word.translate(small) in units:
+                nanos = parse_ns(f"7{word}")
+                self.assertEqual(parse_ns("7", default_unit=word), nanos)
+                self.assertEqual(format(nanos, units=[word], largest=word, smallest=word)[0], "7")
+                continue
+            for limits in ({"largest": word}, {"smallest": word}, {"units": [word]}):
+                refuses(word, ValueError, format, 5, **limits)
+            refuses(word, ValueError, parse_ns, "5", default_unit=word)
+        for word in near(styles) - {*styles}:
+            refuses(word, ValueError, format, 5, style=word)
+        for call, value in ((parse_ns, "5"), (format, 5), (breakdown, 5)):
+            names = {*inspect.signature(call).parameters}
+            for word in near(names) - names:
+                refuses(word, TypeError, call, value, **{word: "s"})
 
     def test_wants_an_int_or_a_timedelta(self):
         for value in [None, "1s", 1.0, True, datetime.datetime(2000, 1, 1)]:

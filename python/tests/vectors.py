@@ -62,3 +62,14 @@ def error_of(call, *arguments, **words):
     except DurationError as error:
         return error
     raise AssertionError(f"{arguments} is read as {value}")
+
+
+def near(words):
+    """Words with a character more, less or exchanged at each place, and the words themselves."""
+    found = set()
+    for word in words:
+        for place in range(len(word) + 1):
+            here, after = word[place : place + 1], word[place + 1 :]
+            for other in ("", here.swapcase(), *"05emsx_+-*., \t\n\0\xa0٣０µμſK分\ud800"):
+                found |= {word[:place] + other + after, word[:place] + other + here + after}
+    return found

@@ -106,22 +106,6 @@ fn divides_fields_at_equals_signs() {
 }
 
 #[test]
-fn refuses_what_follows_a_long_exponent() {
-    for text in [
-        "1e-99999999999999999999 1h",
-        "1e99999999999999999999s",
-        "0e99999999999999999999\u{1b}[m",
-    ] {
-        let errors = format!("duration: argument 1: {}\n", line(text));
-        assert_eq!(
-            run(&["--from", "s", text], b""),
-            (1, "".into(), errors),
-            "{text}"
-        );
-    }
-}
-
-#[test]
 fn answers_each_line() {
     let errors = ["5 mins", ""].map(line);
     let errors = format!(

@@ -181,9 +181,20 @@ fn text_of_number<'de, A: MapAccess<'de>>(mut map: A) -> Option<String> {
     if map.next_key::<String>().ok()?? != NUMBER_KEY {
         return None;
     }
-    let text = map.next_value().ok()?;
+    let text: String = map.next_value().ok()?;
     let next_key = map.next_key::<IgnoredAny>().ok()?;
-    next_key.is_none().then_some(text)
+    (next_key.is_none() && is_number(&text)).then_some(text)
+}
+
+/// Whether JSON's grammar allows this number. Rust's `parse` also reads others, such as `+30`.
+fn is_number(text: &str) -> bool {
+    let text = text.strip_prefix('-').unwrap_or(text);
+    let (mantissa, exponent) = text.split_once(['e', 'E']).unwrap_or((text, "0"));
+    let (whole, fraction) = mantissa.split_once('.').unwrap_or((mantissa, "0"));
+    let exponent = exponent.strip_prefix(['+', '-']).unwrap_or(exponent);
+    let is_digits = |part: &str| !part.is_empty() && part.bytes().all(|b| b.is_ascii_digit());
+    [whole, fraction, exponent].into_iter().all(is_digits)
+        && (whole == "0" || !whole.starts_with('0'))
 }
 
 struct Text<T, const HOW: u8>(PhantomData<T>);

@@ -9,6 +9,8 @@ mod features;
 mod human;
 mod humantime_items;
 mod lengths;
+#[path = "../near.rs"]
+mod near;
 #[cfg(feature = "serde")]
 mod numbers;
 mod owned;

@@ -1,9 +1,11 @@
+use crate::near::near;
 use crate::{FEATURES, Group, by_usual_calls, choices, default_unit_of, has, options_of, vectors};
 use duration_str::{
-    Fault, Options, TimeUnit, UNITS, parse, parse_in, parse_std, parse_with,
+    Fault, Options, Style, TimeUnit, UNITS, parse, parse_in, parse_std, parse_with,
     parse_with_default_unit,
 };
 use duration_str_core as proved;
+use std::collections::BTreeSet;
 use std::time::Duration;
 
 fn answers(text: &str) -> Vec<Result<Duration, String>> {
@@ -87,6 +89,37 @@ fn reads_operators_only_if_numbers_count_seconds() {
             let is_read = parse_in(text, unit).is_ok();
             assert_eq!(is_read, unit == TimeUnit::Second, "{text} in {unit}");
         }
+    }
+}
+
+/// The names of a unit are the words that a text can have for it.
+#[test]
+fn knows_whole_names_only() {
+    let is_outside = |c: char| c.is_ascii_digit() || " \t\r\n+*".contains(c);
+    let vectors = vectors();
+    let texts = vectors.values.iter().flat_map(|group| &group.rows);
+    let words =
+        texts.flat_map(|(_, _, texts)| texts.iter().flat_map(|text| text.split(is_outside)));
+    let names: BTreeSet<&str> = words.collect();
+    let words: BTreeSet<String> = names.iter().flat_map(|name| near(name)).collect();
+    let choices: Vec<Options> = choices().iter().map(|names| options_of(names)).collect();
+    let mut counts = [0, 0];
+    for word in words {
+        let is_word = !word.is_empty() && !word.contains(is_outside);
+        for options in &choices {
+            let read = parse_with(&format!("1{word}"), *options).ok();
+            let unit = TimeUnit::from_word(&word, *options);
+            let length = unit.map(|unit| Duration::from_nanos(unit.nanos()));
+            assert_eq!(length, read.filter(|_| is_word), "{word:?}");
+            counts[usize::from(unit.is_some())] += 1;
+        }
+        let unit = TimeUnit::from_word(&word, Options::off());
+        assert_eq!(word.parse().ok(), unit, "{word:?}");
+    }
+    assert!(counts.iter().all(|count| *count > 300), "{counts:?}");
+    for word in vectors.styles.iter().flat_map(|name| near(name)) {
+        let is_style = word.parse::<Style>().is_ok();
+        assert_eq!(is_style, vectors.styles.contains(&word), "{word:?}");
     }
 }
 
