@@ -120,12 +120,12 @@ pub fn all_parts()
     ensures { AllParts }
 {}
 
-/// A text printed in a format stands for the greatest duration that fits into the format and is not
-/// above the given one. A duration fits into a format if its own greatest breakdown, into the
-/// format's units and the units shorter than all of them, has no more parts than the format allows,
-/// and has parts only in the format's units. That greatest duration prints as the same text, and
-/// the text is read as that duration if the duration is below 2^64 nanoseconds. So a countdown
-/// never shows more than is left, and 366 days in one part are `1y`.
+/// A printed text is that of the greatest duration that prints whole in the format, and is not
+/// above the given one. That duration prints as the same text, and the text is read as that
+/// duration if the duration is below 2^64 nanoseconds. A duration prints whole in a format if its
+/// greatest breakdown, into the format's units and the units shorter than all of them, has no more
+/// parts than the format allows, and has parts only in the format's units. So a countdown never
+/// shows more than is left, and 366 days in one part are `1y`.
 #[tactic(auto, using(crate::proofs::LawProofs::NeverMore::never_more_holds))]
 pub fn never_more()
     ensures { NeverMore }
