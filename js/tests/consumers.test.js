@@ -279,6 +279,11 @@ const BROWSERS = {
     Firefox: ["firefox-esr", "--headless", "--no-remote", "--profile", "PROFILE"],
     WebKit: ["xvfb-run", "--auto-servernum", MINI_BROWSER, "--private"],
 };
+const NEEDED = {
+    Chromium: ["chromium"],
+    Firefox: ["firefox-esr"],
+    WebKit: ["xvfb-run", "xauth", MINI_BROWSER],
+};
 
 /**
  * Serves these files, each with its policy if it has one, opens the first file as a page in the
@@ -405,9 +410,8 @@ function browserFiles() {
 }
 
 for (const [name, words] of Object.entries(BROWSERS)) {
-    const needed = words.filter((word) => word === words[0] || word === MINI_BROWSER);
     const where = `${name}, in frames with policies and in a service worker`;
-    test(`works in ${where}`, skipWithout(...needed), async () => {
+    test(`works in ${where}`, skipWithout(...NEEDED[name]), async () => {
         const profile = join(room, name);
         mkdirSync(profile);
         const filled = words.map((word) => word.replace("PROFILE", profile));
