@@ -16,8 +16,7 @@
 # make install         installs the programs, the library, its header, manual pages and completions
 #                      below prefix=/usr/local, or into bindir=, libdir=, includedir=, mandir=,
 #                      docdir= and datarootdir=, all below DESTDIR= if that is set
-# make install-library installs only what belongs to the library for C. For another machine this
-#                      doesn't need Rust's standard library, which the program needs
+# make install-library installs only what belongs to the library for C
 # make uninstall       removes what was installed, given the same variables
 # make release         fills dist/, or dist=FOLDER, with the files of a release
 # make page            writes out/duration_str.html, a page to try texts on
@@ -25,8 +24,9 @@
 #
 # cargo, from Rust 1.85 on, builds the programs and the library. It needs no network. For another
 # machine, set target=TARGET to rustc's name of it, such as aarch64-unknown-linux-gnu, or
-# x86_64-pc-windows-gnu for Windows. With static=yes the program needs no shared library. If there
-# is rt but no cargo, rt builds the program for this machine.
+# x86_64-pc-windows-gnu for Windows. That also needs a linker, and Rust's library for the target: by
+# `rustup target add TARGET`, or from Debian's package rust-web-src. With static=yes the program
+# needs no shared library. If there is rt but no cargo, rt builds the program for this machine.
 SHELL := bash
 .SHELLFLAGS := -euo pipefail -c
 .ONESHELL:
