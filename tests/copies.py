@@ -1,5 +1,5 @@
-"""Lays out words of docs/GRAMMAR.md for the packages' documentation. tests/repository compares the
-result with what stands there, and writes it.
+"""Lays out words of docs/GRAMMAR.md for the packages' documentation, and callers in Rattle for
+documents. tests/repository compares the result with what stands there, and writes it.
 
 Each place is a file, the text before and after what is copied, and what must stand between them.
 """
@@ -105,9 +105,21 @@ def options_in_javascript(descriptions, sentences):
     yield "js/README.md", "the options for reading:\n\n", "\n\n", as_list(descriptions)
 
 
+def callers():
+    """The callers in a crate that the gate proves."""
+    library, crate, answers = "crates/duration_str", "crates/service", "proofs/timeout/Answers.antt"
+    caller = read(f"{crate}/src/lib.rt").partition("\npub mod ")[0]
+    yield f"{library}/CALLING.md", "and is not refused.\n\n```rust\n", "```", caller
+    yield f"{library}/CALLING.md", f"-- {answers}\n", "```", read(f"{crate}/{answers}")
+    for before, module in (("## Call it\n", "call"), ("there is none:\n", "configuration")):
+        block = read(f"{crate}/src/{module}.rt")
+        yield f"{library}/README.md", f"{before}\n```rust rattle\n", "```", block
+
+
 def places():
     descriptions = option_descriptions()
     sentences = {name: f"{what[0].upper()}{what[1:]}." for name, what in descriptions.items()}
     yield from paragraphs()
     yield from options(descriptions, sentences)
     yield from options_in_javascript(descriptions, sentences)
+    yield from callers()
