@@ -1,9 +1,11 @@
 """The browsers in which page.py tries the page."""
 import base64
 import hashlib
+import inspect
 import json
 import os
 import pathlib
+import shutil
 import socket
 import subprocess
 import sys
@@ -12,6 +14,7 @@ import time
 
 from selenium import webdriver
 from selenium.webdriver.chrome.service import Service
+from selenium.webdriver.webkitgtk.service import Service as WebKitService
 
 
 class Chromium:
@@ -164,5 +167,9 @@ class WebKit(Copied):
         options = webdriver.WebKitGTKOptions()
         options.add_argument("--automation")
         options.add_argument("--javascript-can-access-clipboard=true")
-        self.driver = webdriver.WebKitGTK(options=options)
+        path = shutil.which("WebKitWebDriver")
+        # The Selenium of Debian 12 takes no service, and that of sid no path.
+        has_service = "service" in inspect.signature(webdriver.WebKitGTK).parameters
+        words = {"service": WebKitService(path)} if has_service else {"executable_path": path}
+        self.driver = webdriver.WebKitGTK(options=options, **words)
         self.driver.set_window_rect(0, 0, 900, 1100)
