@@ -255,9 +255,11 @@ install install-library: installable
 	libraries=$$($(MAKE) --silent library installing=yes target=$(target))
 	put $(header) $(includedir)/duration_str.h
 	put "$$libraries/libduration_str.a" $(libdir)/libduration_str.a
+	# Cygwin loads a library only if it may be executed.
 	for file in $(shared); do
 	    name=$${file##*/}
-	    put "$$libraries/$${name%.[0-9]*}" "$$file"
+	    case $$name in *.dll) put=put_program ;; *) put=put ;; esac
+	    $$put "$$libraries/$${name%.[0-9]*}" "$$file"
 	done
 	[ -n '$(windows)' ] || ln -sf $(soname) "$$DESTDIR$(libdir)/libduration_str.so"
 	# Before the soname 2 the library's file was named by its version. So the link of an older
