@@ -13,7 +13,8 @@ use std::time::Duration;
 
 /// The timeout in a text, or a minute if it is refused.
 pub fn timeout(text: &str) -> Duration
-    ensures read { (nanos : ℕ) → IsRead (rules_of off) (chars text.now) nanos → as_nanos result ≡ nanos }
+    ensures read { (nanos : ℕ) → IsRead (rules_of off) (chars text.now) nanos
+        → as_nanos result ≡ nanos }
     ensures refused { (cause : AnyCause) → IsRefused (rules_of off) (chars text.now) cause
         → as_nanos result ≡ 60_000_000_000 }
 {
