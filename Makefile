@@ -216,6 +216,10 @@ variables = prefix bindir libdir includedir datarootdir mandir docdir
 installable:
 	@export LC_ALL=C
 	for folder in $(foreach name,$(variables),$(call quoted,$($(name)))); do
+	    if [[ -n $$DESTDIR && $$folder/ == */../* ]]; then
+	        echo "install: $$folder has .., which can lead out of DESTDIR" >&2
+	        exit 1
+	    fi
 	    [[ $$folder =~ ^/[A-Za-z0-9/._+,@=~-]*$$ ]] && continue
 	    echo "install: $$folder can't be told to pkg-config: a folder has to begin with / and may" \
 	        'have ASCII letters, digits and . _ + , @ = ~ -' >&2
