@@ -329,12 +329,14 @@ uninstall: installable
 	# folders were made.
 	if [ -n "$$DESTDIR" ]; then
 	    [ -d "$$DESTDIR" ] || exit 0
-	    cd "$$DESTDIR"
+	    cd -P "$$DESTDIR"
 	    # A name with a slash before it would be that of a folder outside of DESTDIR. With
 	    # prefix=/ each name has two.
 	    for folder in $$(realpath -ms --relative-to=/ $(sort $(dir $(installed)))); do
-	        # A link to a folder stays, such as /lib.
-	        while [ "$$folder" != . ] && [ -d "$$folder" ] && [ ! -L "$$folder" ]; do
+	        # A link to a folder stays, such as /lib, and so do the folders outside of DESTDIR to which
+	        # a link leads.
+	        while [ "$$folder" != . ] && [ -d "$$folder" ] && [ ! -L "$$folder" ] &&
+	            [[ $$(realpath "$$folder") == "$$PWD"/* ]]; do
 	            rmdir --ignore-fail-on-non-empty "$$folder" || break
 	            folder=$$(dirname "$$folder")
 	        done
