@@ -74,6 +74,20 @@ test("leaves out options that are undefined, in each call", () => {
     }
 });
 
+test("takes no format from Object.prototype, and minds none there", () => {
+    Object.prototype.style = "long";
+    Object.prototype.other = true;
+    try {
+        for (const options of [{}, { largest: "min" }]) {
+            assert.equal(format(90_000, options), "1min 30s");
+            assert.equal(breakdown(90_000, options).parts.length, 2);
+        }
+    } finally {
+        delete Object.prototype.style;
+        delete Object.prototype.other;
+    }
+});
+
 test("takes any whole number of parts", () => {
     assert.equal(format(193_029, { parts: 2 }), "3min 13s");
     for (const parts of [2 ** 32, Infinity]) {
