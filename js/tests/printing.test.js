@@ -299,6 +299,23 @@ test("prints milliseconds", () => {
     }
 });
 
+test("reads each option once", () => {
+    const values = {
+        units: ["h", "min"], largest: "h", smallest: "min", parts: 1, style: "long",
+    };
+    for (const call of [format, breakdown, parts]) {
+        const read = [];
+        const options = {};
+        for (const name of Object.keys(values)) {
+            if (name === "style" && call !== format) continue;
+            const get = () => (read.push(name), values[name]);
+            Object.defineProperty(options, name, { enumerable: true, get });
+        }
+        call(5_400_000, options);
+        assert.deepEqual(read, Object.keys(options));
+    }
+});
+
 test("prints what it is given, whatever an option's getter calls", () => {
     const options = { get parts() { return parse("2ms"); } };
     assert.equal(format(5_445_000, options), "1h 30min");
