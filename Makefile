@@ -215,7 +215,15 @@ variables = prefix bindir libdir includedir datarootdir mandir docdir
 # compilers misread them.
 installable:
 	@export LC_ALL=C
+	if [[ $$DESTDIR == -* ]]; then
+	    echo "install: DESTDIR begins with -, as options do: write ./$$DESTDIR" >&2
+	    exit 1
+	fi
 	for folder in $(foreach name,$(variables),$(call quoted,$($(name)))); do
+	    if [[ -n $$DESTDIR && $$folder/ == */../* ]]; then
+	        echo "install: $$folder has .., which can lead out of DESTDIR" >&2
+	        exit 1
+	    fi
 	    [[ $$folder =~ ^/[A-Za-z0-9/._+,@=~-]*$$ ]] && continue
 	    echo "install: $$folder can't be told to pkg-config: a folder has to begin with / and may" \
 	        'have ASCII letters, digits and . _ + , @ = ~ -' >&2
@@ -321,12 +329,14 @@ uninstall: installable
 	# folders were made.
 	if [ -n "$$DESTDIR" ]; then
 	    [ -d "$$DESTDIR" ] || exit 0
-	    cd "$$DESTDIR"
+	    cd -P "$$DESTDIR"
 	    # A name with a slash before it would be that of a folder outside of DESTDIR. With
 	    # prefix=/ each name has two.
 	    for folder in $$(realpath -ms --relative-to=/ $(sort $(dir $(installed)))); do
-	        # A link to a folder stays, such as /lib.
-	        while [ "$$folder" != . ] && [ -d "$$folder" ] && [ ! -L "$$folder" ]; do
+	        # A link to a folder stays, such as /lib, and so do the folders outside of DESTDIR to which
+	        # a link leads.
+	        while [ "$$folder" != . ] && [ -d "$$folder" ] && [ ! -L "$$folder" ] &&
+	            [[ $$(realpath "$$folder") == "$$PWD"/* ]]; do
 	            rmdir --ignore-fail-on-non-empty "$$folder" || break
 	            folder=$$(dirname "$$folder")
 	        done

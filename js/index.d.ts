@@ -118,6 +118,11 @@ export interface Format extends Counted<Unit> {
     style?: "short" | "compact" | "long" | undefined;
 }
 
+interface Unstyled {
+    /** Only a text has a style. */
+    style?: undefined;
+}
+
 /** A part of a duration, such as `{ count: 3n, unit: "min" }`. */
 export interface Part {
     count: bigint;
@@ -136,7 +141,7 @@ export interface Breakdown {
  * How much of a duration the function `parts` counts. By default it counts all of the duration,
  * from days to nanoseconds. Longer units are counted only if you give `units` or `largest`.
  */
-export type PartFormat = Counted<Exclude<Unit, "q" | "quarter" | "quarters">>;
+export type PartFormat = Counted<Exclude<Unit, "q" | "quarter" | "quarters">> & Unstyled;
 
 /**
  * The counts of a duration, by the names of their units. A count of 0 is there only if all counts
@@ -380,7 +385,7 @@ export function formatNs(nanoseconds: bigint, format?: Format): string;
  * `format` throws it, or if a style is given
  */
 export function breakdown(
-    duration: number | bigint, format?: Omit<Format, "style">,
+    duration: number | bigint, format?: Counted<Unit> & Unstyled,
 ): Breakdown;
 
 /**

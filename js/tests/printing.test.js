@@ -74,6 +74,20 @@ test("leaves out options that are undefined, in each call", () => {
     }
 });
 
+test("takes no format from Object.prototype, and minds none there", () => {
+    Object.prototype.style = "long";
+    Object.prototype.other = true;
+    try {
+        for (const options of [{}, { largest: "min" }]) {
+            assert.equal(format(90_000, options), "1min 30s");
+            assert.equal(breakdown(90_000, options).parts.length, 2);
+        }
+    } finally {
+        delete Object.prototype.style;
+        delete Object.prototype.other;
+    }
+});
+
 test("takes any whole number of parts", () => {
     assert.equal(format(193_029, { parts: 2 }), "3min 13s");
     for (const parts of [2 ** 32, Infinity]) {
@@ -282,6 +296,23 @@ test("prints milliseconds", () => {
     // index.d.ts says that `format` prints every nanosecond below 2^33 ms.
     for (const [text, isSame] of [["8589934591999999ns", true], ["8589934592000001ns", false]]) {
         assert.equal(format(parse(text)) === formatNs(parseNs(text)), isSame);
+    }
+});
+
+test("reads each option once", () => {
+    const values = {
+        units: ["h", "min"], largest: "h", smallest: "min", parts: 1, style: "long",
+    };
+    for (const call of [format, breakdown, parts]) {
+        const read = [];
+        const options = {};
+        for (const name of Object.keys(values)) {
+            if (name === "style" && call !== format) continue;
+            const get = () => (read.push(name), values[name]);
+            Object.defineProperty(options, name, { enumerable: true, get });
+        }
+        call(5_400_000, options);
+        assert.deepEqual(read, Object.keys(options));
     }
 });
 

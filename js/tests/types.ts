@@ -37,11 +37,11 @@ const texts: string[] = [
     pattern(options),
     pattern({ defaultUnit: "ms", cnUnit: true }),
 ];
-const counting: PartFormat = { largest: "y", units: ["years", "d"] };
+const counting: PartFormat = { largest: "y", units: ["years", "d"], style: undefined };
 const counted: Parts = parts(nanoseconds, counting);
 const hours: number = counted.hours ?? 0;
 const broken: Breakdown = breakdown(nanoseconds, { largest: "days", smallest: "us", parts: 2 });
-const rest: bigint = broken.restNs + breakdown(milliseconds).restNs;
+const rest: bigint = broken.restNs + breakdown(milliseconds, { style: undefined }).restNs;
 const words: Record<PrintedUnit, string> = {
     y: "a", q: "b", mon: "c", w: "d", d: "e", h: "f", min: "g", s: "h", ms: "i", µs: "j", ns: "k",
 };
@@ -115,6 +115,8 @@ format(1, { unit: "d" });
 formatNs(1n, { style: "wide" });
 // @ts-expect-error: a breakdown has no style
 breakdown(1n, { style: "long" });
+// @ts-expect-error: a breakdown has no style, and this format can have one
+breakdown(1n, asked);
 // @ts-expect-error: no unit
 breakdown(1n, { units: ["fortnights"] });
 // @ts-expect-error: no duration
