@@ -295,7 +295,7 @@ def try_switching(page):
     page.choose()
     page.type("1h, 30m")
     page.click("#offered button")
-    # WebKit's driver presses keys that undo nothing.
+    # The keys that WebKit's driver presses undo nothing.
     page.run("document.execCommand('undo')")
     page.same("undone", "1h, 30m", page.text())
     page.run("document.execCommand('redo')")
