@@ -115,7 +115,6 @@ class Page:
         self.driver.execute_async_script("asked.runPutOff(...arguments)")
 
     def until(self, holds):
-        """Waits for at most 10 seconds."""
         with contextlib.suppress(TimeoutException):
             WebDriverWait(self.driver, 10).until(lambda _: holds())
 
