@@ -108,7 +108,7 @@ def as_packages_mean(choice):
     return choice._replace(options=choice.options._replace(no_calc=True))
 
 
-# All sets of units. The index of a set is its number for C.
+# The index of a set is its number for C.
 SETS = [
     tuple(unit for place, unit in enumerate(UNITS) if bits >> place & 1)
     for bits in range(2 ** len(UNITS))

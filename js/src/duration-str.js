@@ -14,7 +14,6 @@ export { DurationError } from "./refusals.js";
 
 /** A count of 64 bits is two halves of 32 bits, each below this. */
 const HALF = 2 ** 32;
-/** The nanoseconds in a millisecond. */
 const MILLISECOND = 1_000_000;
 /** All durations are below this many nanoseconds. */
 const LIMIT = 1n << 64n;

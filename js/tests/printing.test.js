@@ -7,7 +7,6 @@ import {
 } from "duration-str";
 import { near, VECTORS } from "./vectors.js";
 
-/** The printed names of the units, the longest first. */
 const NAMES = ["y", "q", "mon", "w", "d", "h", "min", "s", "ms", "µs", "ns"];
 const TYPES = readFileSync(new URL("../index.d.ts", import.meta.url), "utf8");
 const ALL_NAMES = /type Unit =([^;]*);/.exec(TYPES)[1].trim().split("\n")

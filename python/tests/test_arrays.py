@@ -1,5 +1,3 @@
-"""Tests columns of NumPy and pandas."""
-
 import datetime
 import decimal
 import importlib.util

@@ -1,5 +1,3 @@
-"""Tests how columns of texts are read."""
-
 import os
 import pickle
 import signal

@@ -1,5 +1,3 @@
-"""Tests the documentation."""
-
 import doctest
 import importlib.metadata
 import importlib.util

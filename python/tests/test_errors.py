@@ -1,5 +1,3 @@
-"""Tests the errors that say why a text is refused."""
-
 import copy
 import pickle
 import sys

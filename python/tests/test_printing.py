@@ -1,5 +1,3 @@
-"""Tests how durations are printed."""
-
 import datetime
 import inspect
 import os

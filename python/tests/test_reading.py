@@ -1,5 +1,3 @@
-"""Tests how texts are read."""
-
 import concurrent.futures
 import datetime
 import decimal

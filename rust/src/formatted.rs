@@ -105,8 +105,8 @@ impl FormattedDuration {
         &self.magnitude
     }
 
-    /// Returns the text that [`ToString`](alloc::string::ToString) would return. This is faster,
-    /// since no formatter is used.
+    /// Returns the text that [`ToString`](alloc::string::ToString) would return. With link-time
+    /// optimization this can be faster, since no formatter is used.
     ///
     /// ```
     /// use duration_str::format_duration;

@@ -115,7 +115,6 @@ class Page:
         self.driver.execute_async_script("asked.runPutOff(...arguments)")
 
     def until(self, holds):
-        """Waits for at most 10 seconds."""
         with contextlib.suppress(TimeoutException):
             WebDriverWait(self.driver, 10).until(lambda _: holds())
 
@@ -295,7 +294,7 @@ def try_switching(page):
     page.choose()
     page.type("1h, 30m")
     page.click("#offered button")
-    # WebKit's driver presses keys that undo nothing.
+    # The keys that WebKit's driver presses undo nothing.
     page.run("document.execCommand('undo')")
     page.same("undone", "1h, 30m", page.text())
     page.run("document.execCommand('redo')")

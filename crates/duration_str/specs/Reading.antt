@@ -74,8 +74,8 @@ pub data IsRefusedAt (r : Rules) (place : ℕ) (front rest : List Terminal) (cau
   late : early_fault r front rest ≡ None → IsSentence r (front ++ rest) → late_fault r (front ++ rest) ≡ Some cause
       → IsRefusedAt r place front rest cause
 
--- The text is refused for this cause. The empty text is refused as `Empty`. Any other text is
--- refused for a cause that its front and the rest after it decide.
+-- The empty text is refused as `Empty`. Any other text is refused for a cause that its front and
+-- the rest after it decide.
 abbrev pub IsRefused : Rules → Characters → Cause → Type 0
 IsRefused r [] cause = cause ≡ Empty
 IsRefused r (c ∷ text) cause =

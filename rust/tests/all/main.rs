@@ -87,7 +87,6 @@ fn by_usual_calls(
     }
 }
 
-/// The file `vectors.json`.
 #[derive(Deserialize)]
 struct Vectors {
     /// A row may also name `require_unit` or a default unit, such as `default_unit=ms`.

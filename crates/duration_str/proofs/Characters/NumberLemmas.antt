@@ -1,4 +1,3 @@
--- Lemmas about numbers and their digits.
 use Rattle.duration_str.proofs.Common.{[], and_parts, ap, arith, Bool, cases_Bool, cases_lt, chars, common_steps, cond-true, decimal, decimal_nonempty, digits_decimal, digits_value-decimal, drop, drop-cons, encodes-chars, encodes-IsAscii, false, fits, get_or, inl, inr, is_digit, IsAscii-from_digits, IsNumber, IsTrue, IsUtf8, le-ltb, length, length-drop, List, list_all, list_all-append, lt-ltb, mul-pos, nat_le, nat_tests, number, number_after, number_of, Option, pow-suc, refl, Result, Rules, rules, suc, sym, take, take-append-drop, terminal_of, true, u64_from, ℕ, ◌%◌, ◌&&◌, ◌*◌, ◌++◌, ◌+◌, ◌-◌, ◌<◌, ◌==◌, ◌^◌, ◌||◌, ◌∙◌, ◌∷◌, ◌≡◌}
 use Rattle.std.proofs.lemmas.Str.Parse.{digits_value_short, IsNumeralModel, numerals_by_fold}
 use native.Mathlib.Nat.{pow-le-pow_right}

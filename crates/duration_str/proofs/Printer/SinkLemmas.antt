@@ -45,7 +45,6 @@ after_place_le place line small short =
     let digits = length-decimal-le 20 place (lit< tt) (omega arith) small in
     omega (arith, short, digits, length-append (decimal place) (codes ": " ++ line))
 
--- Messages without a caret are short.
 pub short_without_caret : (layout : Layout) (text line : List ℕ) (cause : Cause)
     → ((place : ℕ) → layout ≡ Byte place → place < 2 ^ 64) → ((spaces : ℕ) → layout ≡ Caret spaces → ⊥)
     → line ≡ encode_utf8_all (line_of cause) → length (laid_out layout text line) ≤ 256

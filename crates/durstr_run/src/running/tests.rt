@@ -68,7 +68,6 @@ impl Read for Blanks {
     }
 }
 
-/// How many bytes a `Sink` can hold.
 const ROOM: usize = 2_048;
 
 /// A writer that takes at most `step` bytes per write into a fixed buffer, and counts the flushes.
