@@ -4,6 +4,8 @@ import importlib.util
 import inspect
 import pydoc
 import re
+import subprocess
+import sys
 import unittest
 
 import duration_str
@@ -12,6 +14,8 @@ from tests.vectors import VECTORS
 
 def load_tests(loader, tests, pattern):
     names = {"duration_str": duration_str}
+    # doctest looks only at the items that are imported.
+    exec("from duration_str import *", {})
     tests.addTests(doctest.DocTestSuite(duration_str, globs=names))
     if importlib.util.find_spec("pandas"):
         described = importlib.metadata.metadata("duration-str").get_payload()
@@ -31,6 +35,24 @@ class Documentation(unittest.TestCase):
             self.assertTrue(
                 getattr(duration_str, name).__doc__ or f"`{name}`" in duration_str.__doc__, name
             )
+
+    def test_imports_what_takes_long_when_it_is_used(self):
+        def printed(program):
+            words = [sys.executable, "-c", f"import sys; before = {{*sys.modules}}; {program}"]
+            return subprocess.run(words, capture_output=True, text=True, check=True).stdout.split()
+
+        late = ["typing", "duration_str._arrays", "duration_str._lists", "duration_str._models"]
+        loaded = "print(*{*sys.modules} - before)"
+        modules = printed(f"import duration_str as d; d.format(d.parse('1h')); {loaded}")
+        self.assertEqual(set(), {*late} & {*modules})
+        modules = printed(f"import duration_str; duration_str.Duration; {loaded}")
+        self.assertLessEqual({*late[1:]}, {*modules})
+        public = {"format", *duration_str.__all__}
+        self.assertLessEqual(public, {*printed("import duration_str; print(*dir(duration_str))")})
+        shown = "import duration_str, pydoc; print(pydoc.plain(pydoc.render_doc(duration_str)))"
+        self.assertLessEqual(public, {word.split("(")[0] for word in printed(shown)})
+        with self.assertRaisesRegex(AttributeError, "module 'duration_str' has no attribute 'ms'"):
+            duration_str.ms
 
     def test_leaves_the_builtin_function(self):
         names = {}
@@ -57,7 +79,7 @@ class Documentation(unittest.TestCase):
     def test_fits_a_terminal(self):
         for documented in [
             duration_str,
-            *map(vars(duration_str).get, ["format", *duration_str.__all__]),
+            *(getattr(duration_str, name) for name in ["format", *duration_str.__all__]),
         ]:
             for line in (documented.__doc__ or "").splitlines():
                 self.assertLessEqual(len(line), 79, line)

@@ -95,6 +95,7 @@ impl DurationError {
     /// assert_eq!(error.found(), Some("mins"));
     /// assert_eq!(duration_str::parse_duration("600y").unwrap_err().found(), None);
     /// ```
+    #[inline]
     #[must_use]
     pub fn found(&self) -> Option<&str> {
         self.as_fault().found()

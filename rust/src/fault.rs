@@ -101,6 +101,7 @@ impl<'a> Fault<'a> {
     ///
     /// assert_eq!(parse_with("1m 3-5", Options::off()).unwrap_err().found(), Some("-"));
     /// ```
+    #[inline]
     #[must_use]
     pub fn found(&self) -> Option<&'a str> {
         self.fault.found(self.options)

@@ -25,6 +25,7 @@ macro_rules! written_as_text {
         impl core::str::FromStr for $Name {
             type Err = $crate::DurationError;
 
+            #[inline]
             fn from_str(text: &str) -> Result<$Name, $crate::DurationError> {
                 $read(text).map($Name)
             }

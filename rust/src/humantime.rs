@@ -64,6 +64,7 @@ pub use crate::DurationError;
 /// assert!(refusal.to_string().starts_with(r#"unknown unit "H" at column 8"#));
 /// # Ok::<(), humantime::DurationError>(())
 /// ```
+#[inline]
 pub fn parse_duration(text: &str) -> Result<StdDuration, DurationError> {
     read(text).map_err(Fault::into_owned)
 }
@@ -78,7 +79,7 @@ pub(crate) fn read(text: &str) -> Result<StdDuration, Fault<'_>> {
 
 /// Most texts have no operators, and are read before this is called.
 #[cold]
-#[inline(never)]
+#[inline]
 fn read_other(text: &str) -> Result<StdDuration, Fault<'_>> {
     match read_with(text, false) {
         Ok(nanos) => Ok(StdDuration::from_nanos(nanos)),
@@ -86,14 +87,15 @@ fn read_other(text: &str) -> Result<StdDuration, Fault<'_>> {
     }
 }
 
-/// A copy of the reader is compiled for humantime's units alone, which makes it faster.
+/// A copy of the reader is compiled for humantime's units alone, which makes it faster. This is
+/// generic, and its callers are inline, so that it is compiled in the crates that use the module.
 #[inline(never)]
-fn read_with(text: &str, no_calc: bool) -> Result<u64, proved::Fault<'_>> {
+fn read_with<T: AsRef<str> + ?Sized>(text: &T, no_calc: bool) -> Result<u64, proved::Fault<'_>> {
     let options = Options {
         no_calc,
         ..CASE_SENSITIVE
     };
-    proved::parse_humantime_specialized(text, options)
+    proved::parse_humantime_specialized(text.as_ref(), options)
 }
 
 const YEAR_SECONDS: u64 = 31_557_600;

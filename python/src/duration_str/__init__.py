@@ -83,21 +83,22 @@ annotations: to make a value, call `parse`.
 
 from __future__ import annotations
 
-from ._arrays import format_many, to_timedelta
-from ._columns import parse_many
-from ._lists import PrintedUnit, Style, Unit
-from ._models import Duration, DurationField, DurationRequireUnit
+from importlib import import_module
+
 from ._native import format as format
 from ._native import breakdown, parse, parse_ns, parse_seconds
-from ._pattern import pattern
-from ._texts import (
-    Breakdown,
-    Cause,
-    DurationError,
-    DurationTypeError,
-    Expected,
-    Part,
-)
+from ._texts import Cause, DurationError, DurationTypeError, Expected
+
+TYPE_CHECKING = False
+if TYPE_CHECKING:
+    from typing import Any
+
+    from ._arrays import format_many, to_timedelta
+    from ._columns import parse_many
+    from ._lists import PrintedUnit, Style, Unit
+    from ._models import Duration, DurationField, DurationRequireUnit
+    from ._parts import Breakdown, Part
+    from ._pattern import pattern
 
 __all__ = [
     "Breakdown",
@@ -125,7 +126,30 @@ __all__ += [
 ]
 __version__ = "0.19.0"
 
-# In errors, pickles and documentation, the public items belong to this module.
-for _public in [*map(globals().get, __all__), format]:
-    _public.__module__ = __name__
-del _public
+
+def _public(name: str, item: Any) -> Any:
+    """In errors, pickles and documentation, the public items belong to this module."""
+    item.__module__ = __name__
+    globals()[name] = item
+    return item
+
+
+_public("format", format)
+for _name in {*__all__} & {*globals()}:
+    _public(_name, globals()[_name])
+del _name
+
+if not TYPE_CHECKING:
+    # The items of these modules need the module typing, which takes longer to import than this
+    # package. So the modules are imported when one of their items is used.
+    _LATER = ("_lists", "_parts", "_pattern", "_columns", "_arrays", "_models")
+
+    def __getattr__(name):
+        for module in _LATER if name in __all__ else ():
+            items = vars(import_module(f"{__name__}.{module}"))
+            if name in items:
+                return _public(name, items[name])
+        raise AttributeError(f"module {__name__!r} has no attribute {name!r}")
+
+    def __dir__():
+        return sorted({*globals(), *__all__})

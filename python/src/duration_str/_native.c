@@ -45,8 +45,6 @@ enum kept {
     TYPE_ERROR_OF,
     NANOS_OF,
     WHOLE_OF,
-    PART,
-    BREAKDOWN,
     UNNAMED,
     UNSAID,
     TIMEDELTA,
@@ -54,9 +52,12 @@ enum kept {
     A_SECOND,
     DATETIME_CALLS,
     UNIT_NAMES,
-    KEPT = UNIT_NAMES + DURATION_STR_UNIT_NANOSECOND + 1
+    PART = UNIT_NAMES + DURATION_STR_UNIT_NANOSECOND + 1,
+    BREAKDOWN,
+    KEPT
 };
-/* The objects before ERROR are these names, in this order. */
+/* The objects before ERROR are these names, in this order. From PART on they are the package's
+ * objects that are taken at the first call of `breakdown`, since they need the module typing. */
 static const char *const kept_names[] = {"no_calc", "lowercase", "cn_unit", "require_unit",
     "default_unit", "parts", "units", "largest", "smallest", "style", "days", "seconds",
     "microseconds"};
@@ -606,6 +607,23 @@ static PyObject *printed_count(const struct duration *duration, uint32_t units) 
     return PyLong_FromString(buffer, NULL, 10);
 }
 
+static PyObject *member(const char *module, const char *name) {
+    PyObject *imported = PyImport_ImportModule(module);
+    PyObject *taken = imported ? PyObject_GetAttrString(imported, name) : NULL;
+    Py_XDECREF(imported);
+    return taken;
+}
+
+/* Keeps a type of the package. While it is taken, another thread may keep it, too. */
+static int keep_type(struct state *state, enum kept at, const char *name) {
+    PyObject *taken = state->kept[at] ? NULL : member("duration_str", name);
+    if (!state->kept[at])
+        state->kept[at] = taken;
+    else
+        Py_XDECREF(taken);
+    return state->kept[at] ? 0 : -1;
+}
+
 /* Takes over the reference to the items, which are a tuple. The type's own constructor is a
  * function in Python, and takes longer. */
 static PyObject *named_tuple(PyObject *type, PyObject *items) {
@@ -667,6 +685,8 @@ static PyObject *breakdown(
     if (!has_one("breakdown", count))
         return NULL;
     if (take_limits(state, "breakdown", SMALLEST, arguments + 1, keywords, &limits))
+        return NULL;
+    if (keep_type(state, PART, "Part") || keep_type(state, BREAKDOWN, "Breakdown"))
         return NULL;
     /* nanos_of never returns None, so no value is missing here. */
     if (take_duration(state, arguments[0], state->kept[NANOS_OF], &duration) != 1)
@@ -967,13 +987,6 @@ static PyMethodDef methods[] = {
     {NULL, NULL, 0, NULL},
 };
 
-static PyObject *member(const char *module, const char *name) {
-    PyObject *imported = PyImport_ImportModule(module);
-    PyObject *taken = imported ? PyObject_GetAttrString(imported, name) : NULL;
-    Py_XDECREF(imported);
-    return taken;
-}
-
 /* The structure is not used if a program has replaced `datetime.timedelta`, such as by a mock,
  * while it imported this module: the structure's function would take that object for a type. */
 static void find_datetime(struct state *state) {
@@ -995,8 +1008,6 @@ static int begin(PyObject *module) {
     state->kept[TYPE_ERROR_OF] = member("duration_str._texts", "type_error_of");
     state->kept[NANOS_OF] = member("duration_str._texts", "nanos_of");
     state->kept[WHOLE_OF] = member("duration_str._texts", "whole_of");
-    state->kept[PART] = member("duration_str._texts", "Part");
-    state->kept[BREAKDOWN] = member("duration_str._texts", "Breakdown");
     state->kept[UNNAMED] = member("duration_str._texts", "UNNAMED");
     state->kept[UNSAID] = member("duration_str._texts", "UNSAID");
     state->kept[TIMEDELTA] = member("datetime", "timedelta");
@@ -1008,7 +1019,7 @@ static int begin(PyObject *module) {
     for (int unit = 0; unit <= DURATION_STR_UNIT_NANOSECOND; unit++)
         state->kept[UNIT_NAMES + unit] = PyUnicode_InternFromString(
             unit == DURATION_STR_UNIT_MICROSECOND ? "\xc2\xb5s" : unit_names[unit]);
-    for (int at = 0; at < KEPT; at++)
+    for (int at = 0; at < PART; at++)
         is_there = is_there && state->kept[at];
     return is_there ? 0 : -1;
 }

@@ -4,7 +4,7 @@ from datetime import timedelta
 from typing import Any, Literal, Protocol, SupportsIndex, overload, type_check_only
 
 from ._lists import Style, Unit
-from ._texts import Breakdown
+from ._parts import Breakdown
 
 @type_check_only
 class NumpyDuration(Protocol):

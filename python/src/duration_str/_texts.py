@@ -1,35 +1,15 @@
-"""The errors that say why and where a text is refused, the parts of a duration, and durations as
-nanoseconds"""
-
-# NamedTuple compiles annotations that are texts. That takes longer than all else in this module. So
-# annotations are no texts here.
+"""The errors that say why and where a text is refused, and durations as nanoseconds"""
 
 import datetime
 import enum
 import sys
 from importlib import import_module
-from typing import Any, NamedTuple
 
-from ._lists import PrintedUnit
-
-
-class Part(NamedTuple):
-    """A part of a duration, such as `Part(count=3, unit='min')`."""
-
-    # Each tuple has a method of this name.
-    count: int  # type: ignore[assignment]
-    """How many there are of the unit, at least 1."""
-    unit: PrintedUnit
-    """The unit, by the name that `format` prints in the short style."""
-
-
-class Breakdown(NamedTuple):
-    """A duration as counts of units, which `breakdown` returns."""
-
-    parts: tuple[Part, ...]
-    """The parts whose counts are not 0, the largest unit first."""
-    rest_ns: int
-    """The nanoseconds that no part has."""
+# Each import of the package runs this module. So it doesn't import typing, which takes longer than
+# all that it needs.
+TYPE_CHECKING = False
+if TYPE_CHECKING:
+    from typing import Any
 
 
 class _Unnamed(str):
@@ -37,7 +17,7 @@ class _Unnamed(str):
 
 
 #: The default unit of a call that names none. It equals "s", but is another object.
-UNNAMED: Any = _Unnamed("s")
+UNNAMED: "Any" = _Unnamed("s")
 
 
 class _Unsaid(int):
@@ -46,7 +26,7 @@ class _Unsaid(int):
 
 
 #: The option `no_calc` of a call that doesn't set it. It equals False, but is another object.
-UNSAID: Any = _Unsaid(0)
+UNSAID: "Any" = _Unsaid(0)
 
 
 #: The units of timedelta64 that are read, each with its length in nanoseconds
@@ -150,7 +130,7 @@ class DurationError(ValueError):
         return type(self), (str(self), self.text, self.cause), self.__dict__
 
 
-def type_error_of(value: Any, takes_numbers: bool, index: int) -> DurationTypeError:
+def type_error_of(value: "Any", takes_numbers: bool, index: int) -> DurationTypeError:
     """The index -1 stands for none."""
     where = "" if index < 0 else f"at index {index}: "
     what = type(value).__name__
@@ -167,7 +147,7 @@ def type_error_of(value: Any, takes_numbers: bool, index: int) -> DurationTypeEr
     return DurationTypeError(f"{where}a duration's text must be a str, not {what}{help}")
 
 
-def whole_of(value: Any) -> int | None:
+def whole_of(value: "Any") -> int | None:
     """Returns the int of an integer of NumPy, and None for any other value. NumPy also counts
     timedelta64 among its integers."""
     numpy: Any = sys.modules.get("numpy")
@@ -176,7 +156,7 @@ def whole_of(value: Any) -> int | None:
     return int(value) if isinstance(value, numpy.integer) else None
 
 
-def nanos_a_step(dtype: Any) -> int:
+def nanos_a_step(dtype: "Any") -> int:
     """Returns the nanoseconds of one step of this type of timedelta64. Raises TypeError if its unit
     is not one from weeks to nanoseconds."""
     numpy: Any = import_module("numpy")
@@ -188,7 +168,7 @@ def nanos_a_step(dtype: Any) -> int:
     return int(count) * _NANOS[unit]
 
 
-def nanos_of(value: Any) -> int:
+def nanos_of(value: "Any") -> int:
     """Returns the nanoseconds of a timedelta or an int, also one of pandas or NumPy."""
     numpy: Any = sys.modules.get("numpy")
     if isinstance(value, datetime.timedelta):

@@ -57,6 +57,7 @@ impl<'a> Fault<'a> {
     /// parse("3ms-2ms").unwrap_err().found(Options::off()) // Some("-")
     /// ```
     #[must_use]
+    #[inline]
     pub fn found(&self, o: Options) -> Option<&'a str> {
         let Cause::Syntax { place, .. } = self.cause else {
             return None;
@@ -75,6 +76,7 @@ fn last_boundary(text: &str, mut place: usize) -> usize {
     place
 }
 
+#[inline]
 fn token_at<'a>(mut tokens: Tokens<'a>, place: usize) -> Option<&'a str> {
     while let Some(token) = tokens.next() {
         if token.start == place {

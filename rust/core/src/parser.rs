@@ -199,6 +199,7 @@ pub fn parse_humantime_specialized(input: &str, o: Options) -> Result<u64, Fault
 /// ```text
 /// parse_looked("3m 13s", Options::off()) // (Ok(Duration::from_secs(193)), 6)
 /// ```
+#[inline]
 pub fn parse_looked(input: &str, o: Options) -> (Result<Duration, Fault<'_>>, u64) {
     let (answer, looks) = read_text(input, Settings::of(o));
     (answer.map(Duration::from_nanos), looks)
