@@ -25,9 +25,9 @@
 # cargo, from Rust 1.85 on, builds the programs and the library. It needs no network. For another
 # machine, set target=TARGET to rustc's name of it, such as aarch64-unknown-linux-gnu, or
 # x86_64-pc-windows-gnu for Windows. That also needs a linker, and Rust's library for the target: by
-# `rustup target add TARGET`, or from Debian's package rust-web-src beside cargo-web 1.96 or later.
-# With static=yes the program needs no shared library. If there is rt but no cargo, rt builds the
-# program for this machine.
+# `rustup target add TARGET`, or from Debian's package rust-web-src beside cargo-web 1.96 or later,
+# or in Debian sid from rust-src. With static=yes the program needs no shared library. If there is
+# rt but no cargo, rt builds the program for this machine.
 SHELL := bash
 .SHELLFLAGS := -euo pipefail -c
 .ONESHELL:
