@@ -7,7 +7,8 @@
 #                      are installed
 # make setup           installs what most tests need, on Debian, as root or by sudo without a
 #                      password; with all=yes also the many packages that few tests need
-# make prove           proves everything, by the Rattle toolchain's command rt
+# make prove           proves everything, by the Rattle toolchain's command rt, and writes what was
+#                      proved into proved.txt
 # make check           proves everything, if there is rt, and runs the tests; this can take over an
 #                      hour
 # make quick           runs short tests, and the checks of what has changed
@@ -356,7 +357,7 @@ prove:
 	    echo 'prove: needs the Rattle toolchain: its command rt is not on the path' >&2
 	    exit 1
 	}
-	rt ci
+	tools/proved --write
 
 all =
 setup:

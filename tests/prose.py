@@ -33,7 +33,7 @@ def tracked_files(*patterns):
 LINK = re.compile(r"\]\(([^)\s]+)\)|(?:src|srcset)=\"([^\"]+)\"")
 NAMED = re.compile(r"`(?:\w+::)*([A-Za-z]\w{3,})`")
 # Names that documents take from the toolchain and from Rust.
-FOREIGN = {"dac8208d650f15bf", "VecDeque", "Cursor"}
+FOREIGN = {"VecDeque", "Cursor"}
 # These documents name other libraries and earlier versions.
 ABOUT_OTHERS = {"CHANGELOG.md", "docs/MIGRATING.md"}
 
