@@ -43,6 +43,7 @@ enum kept {
     MICROSECONDS,
     ERROR,
     TYPE_ERROR_OF,
+    SURROGATE_ERROR_OF,
     NANOS_OF,
     WHOLE_OF,
     PART,
@@ -120,28 +121,18 @@ static void raise_error(struct state *state, PyObject *report, PyObject *text,
     Py_XDECREF(error);
 }
 
-static void raise_type_error(
-    struct state *state, PyObject *value, const struct reading *reading, Py_ssize_t index) {
-    PyObject *error = PyObject_CallFunction(
-        state->kept[TYPE_ERROR_OF], "Oin", value, reading->takes_numbers, index);
+/* Raises the error that a function of the package has made, or that it has raised. Takes over the
+ * reference. */
+static void raise_made(PyObject *error) {
     if (error)
         PyErr_SetObject((PyObject *)Py_TYPE(error), error);
     Py_XDECREF(error);
 }
 
-/* Replaces the pending UnicodeEncodeError by a DurationError. */
-static void raise_surrogate(struct state *state, PyObject *text, Py_ssize_t index) {
-    const struct duration_str_answer answer = {.cause = DURATION_STR_CAUSE_NOT_TEXT};
-    PyObject *type, *error, *traceback, *line = NULL;
-    Py_ssize_t start = 0;
-    PyErr_Fetch(&type, &error, &traceback);
-    PyErr_NormalizeException(&type, &error, &traceback);
-    if (!PyUnicodeEncodeError_GetStart(error, &start))
-        line = PyUnicode_FromFormat("not UTF-8: a lone surrogate at index %zd", start);
-    raise_error(state, line, PyUnicode_FromObject(text), &answer, NULL, index);
-    Py_XDECREF(type);
-    Py_XDECREF(error);
-    Py_XDECREF(traceback);
+static void raise_type_error(
+    struct state *state, PyObject *value, const struct reading *reading, Py_ssize_t index) {
+    raise_made(PyObject_CallFunction(
+        state->kept[TYPE_ERROR_OF], "Oin", value, reading->takes_numbers, index));
 }
 
 static PyObject *report_of(struct text text, uint32_t options, struct duration_str_answer *answer) {
@@ -160,11 +151,11 @@ static int read_str(struct state *state, PyObject *given, uint32_t options, uint
     if (!text.bytes) {
         if (!PyErr_ExceptionMatches(PyExc_UnicodeEncodeError))
             return -1;
-        if (!raises) {
-            PyErr_Clear();
+        PyErr_Clear();
+        if (!raises)
             return 0;
-        }
-        raise_surrogate(state, given, index);
+        raise_made(PyObject_CallFunction(
+            state->kept[SURROGATE_ERROR_OF], "Nn", PyUnicode_FromObject(given), index));
         return -1;
     }
     text.length = (size_t)length;
@@ -1001,6 +992,7 @@ static int begin(PyObject *module) {
         state->kept[at] = PyUnicode_InternFromString(kept_names[at]);
     state->kept[ERROR] = member("duration_str._texts", "DurationError");
     state->kept[TYPE_ERROR_OF] = member("duration_str._texts", "type_error_of");
+    state->kept[SURROGATE_ERROR_OF] = member("duration_str._texts", "surrogate_error_of");
     state->kept[NANOS_OF] = member("duration_str._texts", "nanos_of");
     state->kept[WHOLE_OF] = member("duration_str._texts", "whole_of");
     state->kept[PART] = member("duration_str._texts", "Part");
