@@ -224,13 +224,6 @@ static bool has_one(const char *call, Py_ssize_t count) {
     return count == 1;
 }
 
-static int place_among(PyObject *name, const char *const *names, int count) {
-    for (int place = 0; PyUnicode_Check(name) && place < count; place++)
-        if (!PyUnicode_CompareWithASCIIString(name, names[place]))
-            return place;
-    return -1;
-}
-
 static void raise_name(PyObject *name, const char *keyword, const char *listed) {
     PyErr_Format(PyUnicode_Check(name) ? PyExc_ValueError : PyExc_TypeError,
         "%s must be one of %s, not %R", keyword, listed, name);
@@ -417,11 +410,12 @@ static int take_parts(PyObject *value, uint32_t *parts) {
 }
 
 static int take_style(PyObject *name, uint32_t *style) {
-    const int place = place_among(name, style_names, sizeof style_names / sizeof *style_names);
-    if (place < 0)
-        raise_name(name, "style", listed_styles);
-    *style = (uint32_t)place;
-    return place < 0 ? -1 : 0;
+    const uint32_t count = sizeof style_names / sizeof *style_names;
+    for (*style = 0; PyUnicode_Check(name) && *style < count; ++*style)
+        if (!PyUnicode_CompareWithASCIIString(name, style_names[*style]))
+            return 0;
+    raise_name(name, "style", listed_styles);
+    return -1;
 }
 
 static int take_units(struct state *state, PyObject *value, uint32_t *units) {
