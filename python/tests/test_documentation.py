@@ -18,7 +18,7 @@ def load_tests(loader, tests, pattern):
     exec("from duration_str import *", {})
     tests.addTests(doctest.DocTestSuite(duration_str, globs=names))
     if importlib.util.find_spec("pandas"):
-        described = importlib.metadata.metadata("duration-str").get_payload()
+        described = importlib.metadata.metadata("duration-str")["Description"]
         for block in re.findall(r"^```pycon\n(.*?)^```$", described, re.M | re.S):
             example = doctest.DocTestParser().get_doctest(
                 block, dict(names), "README.md", None, None
@@ -87,4 +87,4 @@ class Documentation(unittest.TestCase):
     def test_has_its_version_and_its_description(self):
         metadata = importlib.metadata.metadata("duration-str")
         self.assertEqual(metadata["Version"], duration_str.__version__)
-        self.assertIn("# duration-str for Python", metadata.get_payload())
+        self.assertIn("# duration-str for Python", metadata["Description"])

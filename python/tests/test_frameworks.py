@@ -28,7 +28,7 @@ def has(name):
 
 def recipe(name):
     """The first line of a recipe is a comment with its name."""
-    readme = importlib.metadata.metadata("duration-str").get_payload()
+    readme = importlib.metadata.metadata("duration-str")["Description"]
     return re.search(rf"^```python\n(# {name}\n.*?)^```$", readme, re.M | re.S)[1]
 
 

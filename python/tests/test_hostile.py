@@ -4,7 +4,7 @@ and with values that change while they are read."""
 import concurrent.futures
 import datetime
 import gc
-import importlib
+import importlib.util
 import os
 import sys
 import tracemalloc
@@ -215,7 +215,7 @@ class Hostile(unittest.TestCase):
         def all_calls(rounds):
             for _ in range(rounds):
                 parse_ns("1m 3s")
-                parse("1h")
+                parse("1w 2h 3s")
                 duration_str.parse_seconds("1h")
                 format(SECOND)
                 format(2**64)
@@ -254,5 +254,26 @@ class Hostile(unittest.TestCase):
         try:
             before = kept(1_000)
             self.assertLess(kept(20_000) - before, 2_000)
+        finally:
+            tracemalloc.stop()
+
+    def test_frees_what_a_module_has_kept(self):
+        spec = importlib.util.find_spec("duration_str._native")
+
+        def kept(rounds):
+            for _ in range(rounds):
+                module = importlib.util.module_from_spec(spec)
+                spec.loader.exec_module(module)
+                for count in range(300):
+                    module.parse(f"{count}s")
+                del module
+                gc.collect()
+            return tracemalloc.get_traced_memory()[0]
+
+        tracemalloc.start()
+        try:
+            before = kept(2)
+            # CPython keeps some hundred bytes of each loading.
+            self.assertLess(kept(10) - before, 50_000)
         finally:
             tracemalloc.stop()

@@ -88,17 +88,19 @@ class Reading(unittest.TestCase):
         self.assertEqual(parse("1分", cn_unit=True), datetime.timedelta(minutes=1))
         self.assertEqual(parse("1h 30m", require_unit=True), datetime.timedelta(minutes=90))
 
-    def test_makes_timedeltas_without_the_calls_of_datetime(self):
-        # A version of Python may have other calls, or none.
-        program = """
-import datetime, random
-del datetime.datetime_CAPI
-from duration_str import parse
-for nanos in [999, 1000, 86_400 * 10**9 - 1, 2**64 - 1, *map(random.getrandbits, range(64))]:
-    assert parse(f"{nanos}ns") == datetime.timedelta(microseconds=nanos // 1000), nanos
-"""
-        for lines in [program, program.replace("del datetime.datetime_CAPI", "")]:
-            subprocess.run([sys.executable, "-c", lines], check=True)
+    def test_makes_timedeltas_of_all_digits(self):
+        day = 86_400 * 10**6
+        most = 2**64 // 1000
+        micros = {0, 1, most}
+        for unit in [1, 1_000, 10**6, 300 * 10**6, day, 1_000 * day]:
+            micros.update(count * unit + some for count in range(1, 1_000) for some in (-1, 0, 1))
+        micros.update(random.Random(11).randrange(most) for _ in range(1_000))
+        for count in sorted(micros):
+            if count <= most:
+                # The first call can make timedeltas that the second one finds.
+                for read in [parse(f"{count}us"), parse(f"{count}us")]:
+                    self.assertEqual(read, datetime.timedelta(microseconds=count))
+                    self.assertIs(type(read), datetime.timedelta)
 
     def test_makes_timedeltas_if_a_mock_stood_in_their_place(self):
         program = """

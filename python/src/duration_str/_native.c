@@ -43,6 +43,7 @@ enum kept {
     MICROSECONDS,
     ERROR,
     TYPE_ERROR_OF,
+    SURROGATE_ERROR_OF,
     NANOS_OF,
     WHOLE_OF,
     UNNAMED,
@@ -50,7 +51,6 @@ enum kept {
     TIMEDELTA,
     A_MICROSECOND,
     A_SECOND,
-    DATETIME_CALLS,
     UNIT_NAMES,
     PART = UNIT_NAMES + DURATION_STR_UNIT_NANOSECOND + 1,
     BREAKDOWN,
@@ -70,20 +70,22 @@ static const char *const kept_names[] = {"no_calc", "lowercase", "cn_unit", "req
 /* From this number on a float can have lost digits of the number that it was made of. */
 #define INEXACT 9007199254740992.0
 
-/* The beginning of the structure that the module datetime exports. The limited API leaves it out.
- * It is the same in the headers of CPython 3.11 to 3.13, so it is used for these versions only. */
-struct datetime_calls {
-    PyTypeObject *types[5];
-    PyObject *utc;
-    void (*others[3])(void);
-    PyObject *(*timedelta)(int days, int seconds, int micros, int normalizes, PyTypeObject *type);
+/* A duration is a number whose digits count these microseconds. All its digits are below RADIX if
+ * it is below 2^64 nanoseconds. */
+#define DIGITS 6
+#define RADIX 1000
+static const uint64_t counted[DIGITS] = {
+    86400000000000, /* thousands of days */
+    86400000000,    /* days */
+    300000000,      /* times five minutes */
+    1000000,        /* seconds */
+    1000,           /* milliseconds */
+    1,              /* microseconds */
 };
-#define KNOWN_DATETIME (Py_Version < 0x030e0000)
-#define TIMEDELTA_TYPE 3
 
 struct state {
     PyObject *kept[KEPT];
-    const struct datetime_calls *datetime; /* NULL if the structure isn't known */
+    PyObject *terms[DIGITS][RADIX]; /* timedeltas of the digits that were needed until now */
 };
 
 struct said {
@@ -120,28 +122,18 @@ static void raise_error(struct state *state, PyObject *report, PyObject *text,
     Py_XDECREF(error);
 }
 
-static void raise_type_error(
-    struct state *state, PyObject *value, const struct reading *reading, Py_ssize_t index) {
-    PyObject *error = PyObject_CallFunction(
-        state->kept[TYPE_ERROR_OF], "Oin", value, reading->takes_numbers, index);
+/* Raises the error that a function of the package has made, or that it has raised. Takes over the
+ * reference. */
+static void raise_made(PyObject *error) {
     if (error)
         PyErr_SetObject((PyObject *)Py_TYPE(error), error);
     Py_XDECREF(error);
 }
 
-/* Replaces the pending UnicodeEncodeError by a DurationError. */
-static void raise_surrogate(struct state *state, PyObject *text, Py_ssize_t index) {
-    const struct duration_str_answer answer = {.cause = DURATION_STR_CAUSE_NOT_TEXT};
-    PyObject *type, *error, *traceback, *line = NULL;
-    Py_ssize_t start = 0;
-    PyErr_Fetch(&type, &error, &traceback);
-    PyErr_NormalizeException(&type, &error, &traceback);
-    if (!PyUnicodeEncodeError_GetStart(error, &start))
-        line = PyUnicode_FromFormat("not UTF-8: a lone surrogate at index %zd", start);
-    raise_error(state, line, PyUnicode_FromObject(text), &answer, NULL, index);
-    Py_XDECREF(type);
-    Py_XDECREF(error);
-    Py_XDECREF(traceback);
+static void raise_type_error(
+    struct state *state, PyObject *value, const struct reading *reading, Py_ssize_t index) {
+    raise_made(PyObject_CallFunction(
+        state->kept[TYPE_ERROR_OF], "Oin", value, reading->takes_numbers, index));
 }
 
 static PyObject *report_of(struct text text, uint32_t options, struct duration_str_answer *answer) {
@@ -160,11 +152,11 @@ static int read_str(struct state *state, PyObject *given, uint32_t options, uint
     if (!text.bytes) {
         if (!PyErr_ExceptionMatches(PyExc_UnicodeEncodeError))
             return -1;
-        if (!raises) {
-            PyErr_Clear();
+        PyErr_Clear();
+        if (!raises)
             return 0;
-        }
-        raise_surrogate(state, given, index);
+        raise_made(PyObject_CallFunction(
+            state->kept[SURROGATE_ERROR_OF], "Nn", PyUnicode_FromObject(given), index));
         return -1;
     }
     text.length = (size_t)length;
@@ -231,13 +223,6 @@ static bool has_one(const char *call, Py_ssize_t count) {
         PyErr_Format(
             PyExc_TypeError, "%s() takes exactly one positional argument (%zd given)", call, count);
     return count == 1;
-}
-
-static int place_among(PyObject *name, const char *const *names, int count) {
-    for (int place = 0; PyUnicode_Check(name) && place < count; place++)
-        if (!PyUnicode_CompareWithASCIIString(name, names[place]))
-            return place;
-    return -1;
 }
 
 static void raise_name(PyObject *name, const char *keyword, const char *listed) {
@@ -343,18 +328,37 @@ static PyObject *parse_ns(
     return PyLong_FromUnsignedLongLong(nanos);
 }
 
-/* The timedelta of nanoseconds, rounded down to microseconds. */
-static PyObject *timedelta_of(struct state *state, uint64_t nanos) {
-    if (state->datetime) {
-        const uint64_t secs = nanos / SECOND;
-        return state->datetime->timedelta((int)(secs / 86400), (int)(secs % 86400),
-            (int)(nanos % SECOND / 1000), 0, (PyTypeObject *)state->kept[TIMEDELTA]);
+/* Returns the timedelta of a digit. The state owns it. */
+static PyObject *term_of(struct state *state, int place, uint64_t digit) {
+    PyObject **term = &state->terms[place][digit];
+    if (!*term) {
+        PyObject *micros = PyLong_FromUnsignedLongLong(digit * counted[place]);
+        *term = micros ? PyNumber_Multiply(state->kept[A_MICROSECOND], micros) : NULL;
+        Py_XDECREF(micros);
     }
-    /* Multiplying takes less time than calling the constructor. */
-    PyObject *micros = PyLong_FromUnsignedLongLong(nanos / 1000);
-    PyObject *value = micros ? PyNumber_Multiply(state->kept[A_MICROSECOND], micros) : NULL;
-    Py_XDECREF(micros);
-    return value;
+    return *term;
+}
+
+/* The timedelta of nanoseconds, rounded down to microseconds. It is the sum of its digits' terms.
+ * Adding takes far less time than multiplying, and than calling the constructor. */
+static PyObject *timedelta_of(struct state *state, uint64_t nanos) {
+    const uint64_t micros = nanos / 1000, secs = nanos / SECOND, days = secs / 86400;
+    const uint64_t digits[DIGITS] = {days / RADIX, days % RADIX, secs % 86400 / 300, secs % 300,
+        micros / 1000 % 1000, micros % 1000};
+    PyObject *sum = NULL;
+    for (int place = 0; place < DIGITS; place++) {
+        /* If all digits are 0, the last one has a term. */
+        if (!digits[place] && (sum || place < DIGITS - 1))
+            continue;
+        PyObject *term = term_of(state, place, digits[place]), *more = NULL;
+        if (term)
+            more = sum ? PyNumber_Add(sum, term) : Py_NewRef(term);
+        Py_XDECREF(sum);
+        if (!more)
+            return NULL;
+        sum = more;
+    }
+    return sum;
 }
 
 static PyObject *parse(
@@ -407,11 +411,12 @@ static int take_parts(PyObject *value, uint32_t *parts) {
 }
 
 static int take_style(PyObject *name, uint32_t *style) {
-    const int place = place_among(name, style_names, sizeof style_names / sizeof *style_names);
-    if (place < 0)
-        raise_name(name, "style", listed_styles);
-    *style = (uint32_t)place;
-    return place < 0 ? -1 : 0;
+    const uint32_t count = sizeof style_names / sizeof *style_names;
+    for (*style = 0; PyUnicode_Check(name) && *style < count; ++*style)
+        if (!PyUnicode_CompareWithASCIIString(name, style_names[*style]))
+            return 0;
+    raise_name(name, "style", listed_styles);
+    return -1;
 }
 
 static int take_units(struct state *state, PyObject *value, uint32_t *units) {
@@ -987,18 +992,6 @@ static PyMethodDef methods[] = {
     {NULL, NULL, 0, NULL},
 };
 
-/* The structure is not used if a program has replaced `datetime.timedelta`, such as by a mock,
- * while it imported this module: the structure's function would take that object for a type. */
-static void find_datetime(struct state *state) {
-    const char *name = "datetime.datetime_CAPI";
-    PyObject *capsule = KNOWN_DATETIME ? member("datetime", "datetime_CAPI") : NULL;
-    const struct datetime_calls *calls = capsule ? PyCapsule_GetPointer(capsule, name) : NULL;
-    if (calls && (PyObject *)calls->types[TIMEDELTA_TYPE] == state->kept[TIMEDELTA])
-        state->datetime = calls;
-    PyErr_Clear();
-    state->kept[DATETIME_CALLS] = capsule ? capsule : Py_NewRef(Py_None);
-}
-
 static int begin(PyObject *module) {
     struct state *state = PyModule_GetState(module);
     int is_there = 1;
@@ -1006,12 +999,12 @@ static int begin(PyObject *module) {
         state->kept[at] = PyUnicode_InternFromString(kept_names[at]);
     state->kept[ERROR] = member("duration_str._texts", "DurationError");
     state->kept[TYPE_ERROR_OF] = member("duration_str._texts", "type_error_of");
+    state->kept[SURROGATE_ERROR_OF] = member("duration_str._texts", "surrogate_error_of");
     state->kept[NANOS_OF] = member("duration_str._texts", "nanos_of");
     state->kept[WHOLE_OF] = member("duration_str._texts", "whole_of");
     state->kept[UNNAMED] = member("duration_str._texts", "UNNAMED");
     state->kept[UNSAID] = member("duration_str._texts", "UNSAID");
     state->kept[TIMEDELTA] = member("datetime", "timedelta");
-    find_datetime(state);
     if (state->kept[TIMEDELTA])
         state->kept[A_MICROSECOND] = PyObject_GetAttrString(state->kept[TIMEDELTA], "resolution");
     state->kept[A_SECOND] = PyLong_FromLong(SECOND);
@@ -1028,6 +1021,9 @@ static void end(void *module) {
     struct state *state = PyModule_GetState(module);
     for (int at = 0; state && at < KEPT; at++)
         Py_CLEAR(state->kept[at]);
+    for (int place = 0; state && place < DIGITS; place++)
+        for (int digit = 0; digit < RADIX; digit++)
+            Py_CLEAR(state->terms[place][digit]);
 }
 
 /* ISO C lets a function's address become a number, but not a pointer to an object. From CPython

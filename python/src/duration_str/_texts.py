@@ -147,6 +147,15 @@ def type_error_of(value: "Any", takes_numbers: bool, index: int) -> DurationType
     return DurationTypeError(f"{where}a duration's text must be a str, not {what}{help}")
 
 
+def surrogate_error_of(text: str, index: int) -> DurationError:
+    """The index -1 stands for none."""
+    try:
+        text.encode()
+    except UnicodeEncodeError as error:
+        report = f"not UTF-8: a lone surrogate at index {error.start}"
+    return DurationError(report, text, Cause.NOT_TEXT, index=None if index < 0 else index)
+
+
 def whole_of(value: "Any") -> int | None:
     """Returns the int of an integer of NumPy, and None for any other value. NumPy also counts
     timedelta64 among its integers."""
