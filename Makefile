@@ -11,7 +11,8 @@
 #                      proved into proved.txt
 # make check           proves everything, if there is rt, and runs the tests; this can take over an
 #                      hour
-# make quick           runs short tests, and the checks of what has changed
+# make quick           runs what takes at most a minute of the processor, and names the other checks
+#                      that the changed files need
 # make format          lays out Rust, Python, C, Go and shell scripts, by the usual tool of each
 #                      language
 # make install         installs the programs, the library, its header, manual pages and completions

@@ -97,6 +97,13 @@ copies() {
         tar -x --no-same-owner -C "$1"
 }
 
+# base: prints the commit with which the files here are compared: the last one that is also on the
+# upstream branch, or the one before the last if no branch is known
+base() {
+    git merge-base HEAD '@{upstream}' 2>/dev/null || git merge-base HEAD origin/HEAD 2>/dev/null ||
+        git rev-parse --verify --quiet HEAD~ || git rev-parse --verify --quiet HEAD
+}
+
 # path_without NAME..: prints the path without these commands
 path_without() {
     local folder made path=

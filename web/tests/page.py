@@ -39,8 +39,8 @@ from selenium.webdriver.support.ui import Select, WebDriverWait  # noqa: E402
 
 TEXTS = json.loads((HERE / "texts.json").read_text(encoding="utf-8"))
 SCHEMES = ("light", "dark")
-# The most bytes that the page may have
-LARGEST = 111_500
+# The page has 106,991 bytes, and may have 15 % more
+LARGEST = int(1.15 * 106_991)
 # The height that the keyboard of a phone of 375 by 667 pixels leaves free
 FREE = 300
 PICTURES = ROOT / "docs/images"
