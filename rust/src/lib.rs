@@ -194,8 +194,8 @@ pub use derror::{DError, DResult};
 #[doc(inline)]
 pub use duration_str_core::{
     Breakdown, Cause, CondUnit, Expected, FORMAT_BUFFER_SIZE, Format, HUMAN_BUFFER_SIZE,
-    ONE_LINE_BUFFER_SIZE, Options, Style, TimeUnit, Units, UnknownStyle, UnknownUnit, write_format,
-    write_human,
+    ONE_LINE_BUFFER_SIZE, Options, Rounding, Style, TimeUnit, Units, UnknownStyle, UnknownUnit,
+    round_to, write_format, write_human,
 };
 // `MAX_LONG_LEN`, `MAX_PRINTED_LEN` and `UNITS`, below, are hidden, since only the core's
 // documentation names them.

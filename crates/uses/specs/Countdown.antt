@@ -5,7 +5,7 @@ use Rattle.duration_str.specs.declared.format.TheConstants.Units.{ALL}
 use Rattle.duration_str.specs.declared.options.Options.{Options}
 use Rattle.duration_str.specs.declared.unit.TimeUnit.{TimeUnit}
 use Rattle.duration_str.specs.declared.unit.TimeUnit.TheVariants.{Second}
-use Rattle.duration_str.specs.Laws.{KeepsWithin}
+use Rattle.duration_str.specs.Rounding.{KeepsWithin}
 use Rattle.duration_str.specs.Format.{down_to, IsPrintedWithin, part_count, whole_format}
 use Rattle.duration_str.specs.Printing.{IsGreatestBreakdown}
 use Rattle.duration_str.specs.Reading.{IsRead}
