@@ -221,7 +221,7 @@ pub use duration_str_core::{MAX_LONG_LEN, MAX_PRINTED_LEN, UNITS};
 pub use duration_str_macros::duration;
 pub use error::DurationError;
 pub use fault::Fault;
-pub use formatted::{FormattedDuration, format_duration};
+pub use formatted::{FormattedDuration, RoundedDuration, format_duration};
 pub use human_duration::HumanDuration;
 pub use human_format::HumanFormat;
 #[cfg(feature = "chrono")]

@@ -1,5 +1,7 @@
 //! Rounds durations to those that print whole, in all sets of units and up to 12 parts.
-use duration_str::{Breakdown, Format, Rounding, TimeUnit, UNITS, Units, round_to};
+use duration_str::{
+    Breakdown, Format, Rounding, TimeUnit, UNITS, Units, format_duration, round_to,
+};
 use std::time::Duration;
 
 const DAY: u64 = 86_400;
@@ -103,4 +105,19 @@ fn rounds_to_the_next_that_prints_whole() {
             }
         }
     }
+}
+
+#[test]
+fn prints_rounded() {
+    let printed = |seconds, rounding| {
+        let length = format_duration(Duration::from_secs(seconds));
+        let rounded = |parts| length.parts(parts).rounding(rounding).to_string();
+        (rounded(1), rounded(0))
+    };
+    let texts = |one: &str| (one.to_string(), "0s".to_string());
+    assert_eq!(printed(7_199, Rounding::Down), texts("1h"));
+    assert_eq!(printed(7_199, Rounding::Nearest), texts("2h"));
+    assert_eq!(printed(5_399, Rounding::Nearest), texts("1h"));
+    assert_eq!(printed(5_399, Rounding::Up), texts("2h"));
+    assert_eq!(printed(7_200, Rounding::Up), texts("2h"));
 }
