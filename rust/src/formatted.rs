@@ -137,8 +137,8 @@ impl FormattedDuration {
     /// assert_eq!(parts.rest(), 29_000_000);
     /// ```
     ///
-    /// The file `tests/printers.rs` of this crate has functions for lists, clocks, decimals,
-    /// rounding and German.
+    /// The file `tests/printers.rs` of this crate has functions for lists, clocks, decimals and
+    /// German.
     #[must_use]
     pub fn breakdown(&self) -> Breakdown {
         Breakdown::new(&self.magnitude, self.format)
