@@ -2,7 +2,9 @@ use crate::human_duration::HumanDuration;
 use alloc::string::String;
 use core::fmt::{self, Write};
 use core::time::Duration;
-use duration_str_core::{Breakdown, FORMAT_BUFFER_SIZE, Format, Style, TimeUnit, write_format};
+use duration_str_core::{
+    Breakdown, FORMAT_BUFFER_SIZE, Format, Rounding, Style, TimeUnit, round_to, write_format,
+};
 
 /// A duration whose `Display` prints it for people, without allocating. You choose the units, the
 /// greatest number of parts and the style.
@@ -135,11 +137,37 @@ impl FormattedDuration {
     /// assert_eq!(parts.rest(), 29_000_000);
     /// ```
     ///
-    /// The file `tests/printers.rs` of this crate has functions for lists, clocks, decimals,
-    /// rounding and German.
+    /// The file `tests/printers.rs` of this crate has functions for lists, clocks, decimals and
+    /// German.
     #[must_use]
     pub fn breakdown(&self) -> Breakdown {
         Breakdown::new(&self.magnitude, self.format)
+    }
+
+    /// Rounds the duration in this way to one that prints whole, without a rest, in the units and
+    /// parts that you have chosen. If the duration is negative, its magnitude is rounded.
+    ///
+    /// `Rounding::Down` changes no text. If no duration up to [`Duration::MAX`] is long enough, as
+    /// with `parts(0)`, `Rounding::Up` rounds down.
+    ///
+    /// ```
+    /// use duration_str::{Rounding, TimeUnit, format_duration};
+    /// use std::time::Duration;
+    ///
+    /// let build = format_duration(Duration::from_secs(7_199)); // 1h 59min 59s
+    /// assert_eq!(build.parts(1).to_string(), "1h");
+    /// assert_eq!(build.parts(1).rounding(Rounding::Nearest).to_string(), "2h");
+    /// let minutes = build.smallest(TimeUnit::Minute);
+    /// assert_eq!(minutes.to_string(), "1h 59min");
+    /// assert_eq!(minutes.rounding(Rounding::Up).to_string(), "2h");
+    /// ```
+    #[must_use]
+    pub fn rounding(self, rounding: Rounding) -> RoundedDuration {
+        let rounded = round_to(&self.magnitude, self.format, rounding);
+        RoundedDuration(FormattedDuration {
+            magnitude: rounded.unwrap_or(self.magnitude),
+            ..self
+        })
     }
 
     #[inline(always)]
@@ -250,6 +278,49 @@ chooses! {
     /// assert_eq!(meeting.style(Style::Long).to_string(), "1 hour 30 minutes");
     /// ```
     style: Style,
+}
+
+/// A duration that was rounded to print whole in its units and parts, which can't be changed any
+/// more. Call [`FormattedDuration::rounding`] to get one.
+#[derive(Clone, Copy, Debug, PartialEq, Eq, Hash)]
+pub struct RoundedDuration(FormattedDuration);
+
+impl RoundedDuration {
+    /// Returns the rounded duration, or its magnitude if it is negative.
+    ///
+    /// ```
+    /// use duration_str::{Rounding, format_duration};
+    /// use std::time::Duration;
+    ///
+    /// let build = format_duration(Duration::from_secs(7_199)).parts(1);
+    /// let hours = *build.rounding(Rounding::Nearest).get_ref();
+    /// assert_eq!(hours, Duration::from_secs(7_200));
+    /// ```
+    #[must_use]
+    pub const fn get_ref(&self) -> &Duration {
+        self.0.get_ref()
+    }
+
+    /// Returns the parts as numbers, as [`FormattedDuration::breakdown`] does.
+    ///
+    /// ```
+    /// use duration_str::{Rounding, TimeUnit, format_duration};
+    /// use std::time::Duration;
+    ///
+    /// let build = format_duration(Duration::from_secs(7_199)).parts(1);
+    /// assert!(build.rounding(Rounding::Up).breakdown().eq([(TimeUnit::Hour, 2)]));
+    /// ```
+    #[must_use]
+    pub fn breakdown(&self) -> Breakdown {
+        self.0.breakdown()
+    }
+}
+
+/// Writes what a [`FormattedDuration`] writes.
+impl fmt::Display for RoundedDuration {
+    fn fmt(&self, f: &mut fmt::Formatter<'_>) -> fmt::Result {
+        self.0.fmt(f)
+    }
 }
 
 /// Writes a minus if the duration is negative and its text is not a zero, and then the text of its

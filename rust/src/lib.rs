@@ -194,8 +194,8 @@ pub use derror::{DError, DResult};
 #[doc(inline)]
 pub use duration_str_core::{
     Breakdown, Cause, CondUnit, Expected, FORMAT_BUFFER_SIZE, Format, HUMAN_BUFFER_SIZE,
-    ONE_LINE_BUFFER_SIZE, Options, Style, TimeUnit, Units, UnknownStyle, UnknownUnit, write_format,
-    write_human,
+    ONE_LINE_BUFFER_SIZE, Options, Rounding, Style, TimeUnit, Units, UnknownStyle, UnknownUnit,
+    round_to, write_format, write_human,
 };
 // `MAX_LONG_LEN`, `MAX_PRINTED_LEN` and `UNITS`, below, are hidden, since only the core's
 // documentation names them.
@@ -221,7 +221,7 @@ pub use duration_str_core::{MAX_LONG_LEN, MAX_PRINTED_LEN, UNITS};
 pub use duration_str_macros::duration;
 pub use error::DurationError;
 pub use fault::Fault;
-pub use formatted::{FormattedDuration, format_duration};
+pub use formatted::{FormattedDuration, RoundedDuration, format_duration};
 pub use human_duration::HumanDuration;
 pub use human_format::HumanFormat;
 #[cfg(feature = "chrono")]

@@ -214,13 +214,6 @@ fn minutes_and_seconds(duration: Duration) -> String {
     format!("{text}{}.{:03}s", millis / 1_000, millis % 1_000)
 }
 
-fn rounded(duration: Duration) -> String {
-    let half = Duration::from_secs(30);
-    format_duration(duration.saturating_add(half))
-        .smallest(Minute)
-        .to_string()
-}
-
 /// German has one form for the count 1 and another for all other counts. Some languages have more.
 fn german(duration: Duration) -> String {
     let part = |(unit, count): (TimeUnit, u128)| {
@@ -250,8 +243,6 @@ fn prints_texts_of_ones_own() {
     );
     let lengths = [193_029, 0].map(Duration::from_millis);
     assert_eq!(lengths.map(minutes_and_seconds), ["3min 13.029s", "0.000s"]);
-    let lengths = [29, 89, 90, 7_199].map(Duration::from_secs);
-    assert_eq!(lengths.map(rounded), ["0min", "1min", "2min", "2h"]);
     assert_eq!(
         german(Duration::from_secs(5_461)),
         "1 Stunde 31 Minuten 1 Sekunde"

@@ -33,7 +33,7 @@ pub use Rattle.duration_str.specs.Answer.{allows, answer, answer_at, expected_af
 pub use Rattle.duration_str.specs.Messages.{byte_text, caret_text, EndsInsideLine, has_line_feed, line_of, message_of, placed_text}
 pub use Rattle.duration_str.specs.Faults.{found_token, IsMissingAtEnd, IsSliceOf, place_of, token_at}
 pub use Rattle.duration_str.specs.Grammar.{BeginsWith, IsSentence, IsSentenceOf, number, operator, operator_or_other, other, sign_terminal, Spells, Terminal, terminal_of, word}
-pub use Rattle.duration_str.specs.Laws.{with_lowercase, with_no_calc, AllParts, AnswerIsReading, BlanksFree, EqualTexts, GreatestBreakdown, HasNoCapital, HasNoChinese, HasNoOperator, HasNoStar, is_operator, IsIdle, IsMostWithin, KeepsWithin, NearWords, NeverMore, NoCalcAgrees, OlderTexts, OneCut, OneReading, OneSentence, OptionsIdle, PartsAndRest, PlaceAndKinds, ReadsBack, Reorder, SumOfTexts, times_in, TwoFactors, counts_of, AllPlus, AreTokens, EndsRun, IsLexeme}
+pub use Rattle.duration_str.specs.Laws.{with_lowercase, with_no_calc, AllParts, AnswerIsReading, BlanksFree, EqualTexts, GreatestBreakdown, HasNoCapital, HasNoChinese, HasNoOperator, HasNoStar, is_operator, IsIdle, IsMostWithin, NearWords, NeverMore, NoCalcAgrees, OlderTexts, OneCut, OneReading, OneRounding, OneSentence, OptionsIdle, PartsAndRest, PlaceAndKinds, ReadsBack, Reorder, SumOfTexts, times_in, TwoFactors, counts_of, AllPlus, AreTokens, EndsRun, IsLexeme}
 pub use Rattle.duration_str.specs.Older.{older_row_of, older_rules, older_table, sentence_fault, WasRefused}
 pub use Rattle.duration_str.specs.declared.format.Format.{Format}
 pub use Rattle.duration_str.specs.declared.format.Style.{Style}
@@ -42,6 +42,7 @@ pub use Rattle.duration_str.specs.declared.printing.TheConstants.{MAX_LONG_LEN, 
 pub use Rattle.duration_str.specs.Format.{counts_within, IsGreatestWithin, IsPrintedWithin, IsWithin, lengths_within, most_len, part_count, last_unit, shorter_units, text_within, units_within, whole_format, zero_unit}
 pub use Rattle.duration_str.specs.declared.format.Units.{Units}
 pub use Rattle.duration_str.specs.declared.format.TheConstants.Units.{ALL}
+pub use Rattle.duration_str.specs.Rounding.{KeepsWithin}
 pub use Rattle.duration_str.specs.Place.{BeginsSentence, CanFollow, IsFront, start_after, terminals_of}
 pub use Rattle.duration_str.specs.Printing.{before_name, between, IsBefore, IsGreatestBreakdown, IsPrinted, IsPrintedIn, joined_parts, long_name, name_in, nonzero, printed_counts, printed_part, printed_parts, weighted_sum}
 pub use Rattle.duration_str.specs.OneTerm.{fault_or, term_of, IsNumber}

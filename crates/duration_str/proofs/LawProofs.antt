@@ -14,4 +14,5 @@ pub mod OlderTexts
 pub mod AllParts
 pub mod NearWords
 pub mod NeverMore
+pub mod Rounding
 pub mod PartsAndRest

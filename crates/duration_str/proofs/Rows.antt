@@ -1,9 +1,11 @@
 -- Examples that were worked out by hand, and are computed here, such as the values of texts, the
 -- causes for which others are refused, and the texts of durations.
-use Rattle.duration_str.proofs.Common.{[], ALL, answer, Bool, Cause, codes, Compact, counts_of, Empty, encode_utf8_all, Err, Expected, false, flat_map, if◌then◌else◌, length, List, Long, map, MAX_LONG_LEN, MAX_PRINTED_LEN, message_of, Mixed, nanos_of, nat_lt, None, nonzero, NumberTooLarge, off, Ok, older_row_of, older_rules, Options, OutOfRange, Overflow, Plus, printed_counts, Quarter, refl, replicate, Result, row_of, rules_of, rules_with, Short, Some, Star, Style, Syntax, TimeUnit, true, unit_lengths, unit_of_word, units, units_within, ℕ, ◌++◌, ◌∷◌, ◌≡◌}
+use Rattle.duration_str.proofs.Common.{[], ALL, answer, arith, Bool, Cause, codes, Compact, counts_of, Empty, encode_utf8_all, Err, Expected, false, flat_map, if◌then◌else◌, length, List, Long, map, MAX_LONG_LEN, MAX_PRINTED_LEN, message_of, Mixed, nanos_of, nat_lt, None, nonzero, NumberTooLarge, off, Ok, older_row_of, older_rules, Options, OutOfRange, Overflow, Plus, printed_counts, Quarter, refl, replicate, Result, row_of, rules_of, rules_with, Short, Some, Star, Style, Syntax, TimeUnit, true, unit_lengths, unit_of_word, units, units_within, ℕ, ◌++◌, ◌∷◌, ◌≡◌}
 use Rattle.duration_str.specs.declared.format.Format.{Format}
 use Rattle.duration_str.specs.declared.unit.TimeUnit.TheVariants.{Day, Hour, MicroSecond, MilliSecond, Minute, Month, NanoSecond, Second, Week, Year}
+use Rattle.duration_str.proofs.LawProofs.Rounding.{nearest_up, none_above, rounded_down, rounded_up}
 use Rattle.duration_str.specs.Breakdown.{sum_of_parts}
+use Rattle.duration_str.specs.Rounding.{IsNearest, IsRoundedDown, IsRoundedUp, NoneAbove}
 use Rattle.duration_str.specs.Format.{chosen, intersection, counts_within, down_to, is_in, lengths_within, set_of, shorter_units, text_within, up_to, whole_format, without_unit}
 use Rattle.duration_str.specs.Humantime.{humantime_row_of, humantime_rules}
 use Rattle.duration_str.specs.OneLine.{is_letter, is_plain, one_line_of}
@@ -371,6 +373,48 @@ pub record PartsAsNumbers : Type 0 where
 pub parts_as_numbers : PartsAsNumbers
 unfolding chosen is_in
 parts_as_numbers = assumption
+
+-- ---- Rounding
+
+abbrev one_part : Format
+one_part = record whole_format { parts = 1 }
+
+abbrev months_and_weeks : Format
+months_and_weeks = only (Month ∷ Week ∷ [])
+
+pub record RoundedDurations : Type 0 where
+  -- 1h 59min 59s
+  pub down : IsRoundedDown one_part 7_199_000_000_000 3_600_000_000_000
+  pub nearest : IsNearest one_part 7_199_000_000_000 7_200_000_000_000
+  pub up : IsRoundedUp one_part 3_600_000_000_001 7_200_000_000_000
+  -- 30 seconds are as near to no minute as to one
+  pub halfway : IsNearest (record whole_format { units = down_to Minute ALL }) 30_000_000_000 60_000_000_000
+  -- after four quarters comes a year, and after four weeks a month
+  pub quarters : IsRoundedUp one_part 31_449_600_000_000_001 31_536_000_000_000_000
+  pub weeks : IsRoundedUp months_and_weeks 2_505_600_000_000_000 2_592_000_000_000_000
+  pub whole : IsRoundedUp one_part 2_592_000_000_000_000 2_592_000_000_000_000
+  pub no_parts : NoneAbove (record whole_format { parts = 0 }) 1
+  pub too_long : NoneAbove (only (Year ∷ [])) 18_446_744_073_709_551_615_999_999_999
+
+pub rounded_durations : RoundedDurations
+unfolding chosen is_in
+rounded_durations =
+    let in_minutes = record whole_format { units = down_to Minute ALL } in
+    record {
+      down = rounded_down one_part 7_199_000_000_000 3_599_000_000_000 refl;
+      nearest = nearest_up one_part 7_199_000_000_000 3_600_000_000_000 7_200_000_000_000
+          (rounded_down one_part 7_199_000_000_000 3_599_000_000_000 refl)
+          (rounded_up one_part 7_199_000_000_000 (omega arith)) (omega arith);
+      up = rounded_up one_part 3_600_000_000_001 (omega arith);
+      halfway = nearest_up in_minutes 30_000_000_000 0 60_000_000_000
+          (rounded_down in_minutes 30_000_000_000 30_000_000_000 refl)
+          (rounded_up in_minutes 30_000_000_000 (omega arith)) (omega arith);
+      quarters = rounded_up one_part 31_449_600_000_000_001 (omega arith);
+      weeks = rounded_up months_and_weeks 2_505_600_000_000_000 (omega arith);
+      whole = rounded_up one_part 2_592_000_000_000_000 (omega arith);
+      no_parts = none_above (record whole_format { parts = 0 }) 1 refl;
+      too_long = none_above (only (Year ∷ [])) 18_446_744_073_709_551_615_999_999_999 refl;
+    }
 
 abbrev units_from : TimeUnit → List TimeUnit → List TimeUnit
 units_from largest [] = []

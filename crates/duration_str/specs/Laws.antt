@@ -24,12 +24,14 @@ use Rattle.duration_str.specs.Reading.{IsRead, IsRefused}
 use Rattle.duration_str.specs.Messages.{EndsInsideLine, message_of, line_of}
 use Rattle.duration_str.specs.Answer.{answer, expected_after, last_of, front_of}
 use Rattle.duration_str.specs.Older.{older_row_of, older_rules, WasRefused}
-use Rattle.duration_str.specs.Printing.{IsPrintedIn, IsGreatestBreakdown, long_name, weighted_sum}
+use Rattle.duration_str.specs.Printing.{IsPrintedIn, IsGreatestBreakdown, long_name}
 use Rattle.duration_str.specs.Breakdown.{YieldsPart, nanos_left, parts_left, sum_of_parts}
 use Rattle.duration_str.specs.declared.breakdown.Breakdown.{Breakdown}
 use Rattle.duration_str.specs.declared.format.Format.{Format}
 use Rattle.duration_str.specs.declared.format.Style.{Style}
-use Rattle.duration_str.specs.Format.{whole_format, lengths_within, part_count, shorter_units, units_within, IsPrintedWithin}
+use Rattle.duration_str.specs.declared.rounding.Rounding.{Rounding}
+use Rattle.duration_str.specs.Format.{whole_format, IsPrintedWithin}
+use Rattle.duration_str.specs.Rounding.{IsRounded, IsRoundedDown, IsRoundedUp, KeepsWithin, PrintsWhole}
 
 abbrev pub is_operator : ℕ → Bool
 is_operator c = is_some (operator_of c)
@@ -258,14 +260,6 @@ abbrev pub AllParts : Type 0
 AllParts = (style : Style) (parts nanos : ℕ) (text : Characters) → length units ≤ parts
     → (IsPrintedWithin (record whole_format { parts = parts; style = style }) nanos text ↔ IsPrintedIn style nanos text)
 
--- The duration fits into the format: its greatest breakdown into the format's units and those of
--- `shorter_units` has no more parts than the format allows, and each part is in one of the format's
--- units.
-pub record KeepsWithin (format : Format) (nanos : ℕ) (counts : List ℕ) : Type 0 where
-  pub breakdown : IsGreatestBreakdown (map nanos_of (units_within format ++ shorter_units (units_within format))) nanos counts
-  pub few : part_count counts ≤ format.parts
-  pub whole : weighted_sum (lengths_within format) counts ≡ nanos
-
 -- The duration `most` prints as this text too. By the library's own table, the text is read as
 -- `most` if `most` is below 2^64 nanoseconds. `most` is the greatest duration, up to `nanos`, that
 -- fits into the format.
@@ -282,6 +276,19 @@ pub record IsMostWithin (format : Format) (nanos : ℕ) (text : Characters) (mos
 abbrev pub NeverMore : Type 0
 NeverMore = (format : Format) (nanos : ℕ) (text : Characters) → IsPrintedWithin format nanos text
     → (most : ℕ) × IsMostWithin format nanos text most
+
+-- For each way of rounding there is at most one result up to `Duration::MAX`, and a duration that
+-- prints whole is its own result. Between the results of rounding down and up, no duration prints
+-- whole. A duration prints as the same text as what it is rounded down to.
+pub record OneRounding : Type 0 where
+  pub equal : (rounding : Rounding) (format : Format) (nanos m n : ℕ) → FitsDuration m → FitsDuration n
+      → IsRounded rounding format nanos m → IsRounded rounding format nanos n → m ≡ n
+  pub own : (rounding : Rounding) (format : Format) (nanos : ℕ) → PrintsWhole format nanos
+      → IsRounded rounding format nanos nanos
+  pub between : (format : Format) (nanos down up other : ℕ) → IsRoundedDown format nanos down
+      → IsRoundedUp format nanos up → PrintsWhole format other → down < other → other < up → ⊥
+  pub printed : (format : Format) (nanos down : ℕ) (text : Characters) → IsRoundedDown format nanos down
+      → (IsPrintedWithin format nanos text ↔ IsPrintedWithin format down text)
 
 -- The parts that calls of `next` return one after another are the first of those that were left.
 -- They and the nanoseconds that they leave add up to the nanoseconds that were left before.

@@ -137,7 +137,7 @@ impl Iterator for Breakdown {
 }
 
 #[inline(always)]
-fn longest(bits: u32) -> Option<(&'static Printed, u32)>
+pub(crate) fn longest(bits: u32) -> Option<(&'static Printed, u32)>
     ensures right { IfSome result (λ first. first.0.now ≡ printed_row first.0.now.unit) }
     ensures first { IfSome result (λ first.
         units_of bits ≡ first.0.now.unit ∷ units_of first.1) }

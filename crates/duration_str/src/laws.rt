@@ -1,6 +1,6 @@
 //! Laws about the definitions. Each function does nothing, and its contract states a law, which is
 //! proved. In the comments, texts are read by the library's own table of units.
-ghost use Rattle.duration_str.specs.Laws.{OneSentence, OneCut, OneReading, AnswerIsReading, PlaceAndKinds, NoCalcAgrees, OptionsIdle, BlanksFree, SumOfTexts, Reorder, TwoFactors, GreatestBreakdown, EqualTexts, ReadsBack, LastLine, OlderTexts, AllParts, NeverMore, PartsAndRest, NearWords};
+ghost use Rattle.duration_str.specs.Laws.{OneSentence, OneCut, OneReading, AnswerIsReading, PlaceAndKinds, NoCalcAgrees, OptionsIdle, BlanksFree, SumOfTexts, Reorder, TwoFactors, GreatestBreakdown, EqualTexts, ReadsBack, LastLine, OlderTexts, AllParts, NeverMore, OneRounding, PartsAndRest, NearWords};
 
 /// At most one sentence spells a text, and the lexemes of that sentence are those of the text's
 /// tokens. Each text is either read as one value or refused for one cause, and the computed answer
@@ -129,6 +129,16 @@ pub fn all_parts()
 #[tactic(auto, using(crate::proofs::LawProofs::NeverMore::never_more_holds))]
 pub fn never_more()
     ensures { NeverMore }
+{}
+
+/// For each way of rounding, at most one duration up to `Duration::MAX` is what a duration is rounded
+/// to, and one that prints whole is rounded to itself. No duration that prints whole is between
+/// those that another one is rounded down and up to. A duration is printed as what it is rounded
+/// down to. So 29 days in months and weeks are printed as `4w`, are rounded up to 1mon, and no
+/// duration between those prints whole.
+#[tactic(auto, using(crate::proofs::LawProofs::Rounding::one_rounding_holds))]
+pub fn one_rounding()
+    ensures { OneRounding }
 {}
 
 /// The parts that `Breakdown` has returned so far, and the nanoseconds that they leave (`rest`),

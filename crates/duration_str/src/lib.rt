@@ -21,6 +21,7 @@ pub mod parser;
 pub mod printing;
 mod reader;
 mod report;
+mod rounding;
 mod settings;
 mod signed;
 mod table;
@@ -42,6 +43,7 @@ pub use printing::{
     FORMAT_BUFFER_SIZE, HUMAN_BUFFER_SIZE, MAX_LONG_LEN, MAX_PRINTED_LEN, write_format, write_human,
 };
 pub use report::REPORT_BUFFER_SIZE;
+pub use rounding::{Rounding, round_to};
 pub use token::{Token, Tokens, What};
 pub use top::{
     DeserializeDuration, after_naive_date, after_naive_date_time, before_naive_date,

@@ -20,6 +20,8 @@ mod refusal;
 #[cfg(test)]
 mod refusals;
 #[cfg(test)]
+mod rounding;
+#[cfg(test)]
 mod rows;
 pub mod shared;
 #[cfg(test)]

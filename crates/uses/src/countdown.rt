@@ -1,14 +1,16 @@
 //! Shows the time that is left.
 #![tactic(auto)]
 
-ghost use Rattle.std.specs.Prelude.{◌≡◌, ◌+◌, ◌≤◌, ℕ, List, chars};
+ghost use Rattle.std.specs.Prelude.{◌≡◌, ◌+◌, ◌≤◌, ℕ, IsTrue, List, chars};
 ghost use Rattle.duration_str.specs.Breakdown.{AreParts, sum_of_parts};
 ghost use Rattle.duration_str.specs.declared.unit.TimeUnit.{TimeUnit};
 ghost use Rattle.uses.specs.Common.{as_nanos, IsPrintedIn};
-ghost use Rattle.uses.specs.Countdown.{coarse, IsShown};
+ghost use Rattle.uses.specs.Countdown.{coarse, IsShown, ShowsSame};
 
-use duration_str::laws::{all_parts, never_more, parts_and_rest};
-use duration_str::{Breakdown, FORMAT_BUFFER_SIZE, Format, Style, TimeUnit, write_format};
+use duration_str::laws::{all_parts, never_more, one_rounding, parts_and_rest};
+use duration_str::{
+    Breakdown, FORMAT_BUFFER_SIZE, Format, Rounding, Style, TimeUnit, round_to, write_format,
+};
 use std::time::Duration;
 
 /// Writes the time that is left to the caller's buffer, and returns the text. It has at most two
@@ -29,6 +31,25 @@ pub fn time_left<'b>(left: &Duration, buffer: &'b mut [u8; FORMAT_BUFFER_SIZE]) 
         Format::whole().smallest(TimeUnit::Second).parts(2),
         buffer,
     )
+}
+
+/// Whether `time_left` writes the same text for both times, so that nothing has to be drawn.
+///
+/// ```text
+/// shows_same(&Duration::new(5_400, 999_999_999), &Duration::new(5_400, 0)) // true
+/// ```
+pub fn shows_same(before: &Duration, after: &Duration) -> bool
+    ensures { IsTrue result → ShowsSame (as_nanos before.now) (as_nanos after.now) }
+{
+    one_rounding();
+    let format = Format::whole().smallest(TimeUnit::Second).parts(2);
+    let Some(shown) = round_to(before, format, Rounding::Down) else {
+        return false;
+    };
+    let Some(next) = round_to(after, format, Rounding::Down) else {
+        return false;
+    };
+    shown.as_nanos() == next.as_nanos()
 }
 
 /// Returns how many nanoseconds `time_left` does not show.

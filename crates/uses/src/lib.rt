@@ -21,7 +21,7 @@ pub use cache::{canonical, key, read_back, share_entry};
 pub use completion::{Completion, complete, complete_humantime, is_unfinished};
 pub use configuration::configured;
 pub use cost::price;
-pub use countdown::{in_parts, not_shown, time_left};
+pub use countdown::{in_parts, not_shown, shows_same, time_left};
 pub use dates::{cut_off, due};
 pub use help::{Example, examples, humantime_examples, refused_words};
 pub use line::{without_line_feed, write_line};

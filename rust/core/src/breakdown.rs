@@ -109,7 +109,7 @@ impl Iterator for Breakdown {
 }
 
 #[inline(always)]
-fn longest(bits: u32) -> Option<(&'static Printed, u32)> {
+pub(crate) fn longest(bits: u32) -> Option<(&'static Printed, u32)> {
     let rank = bits.trailing_zeros();
     if rank as usize >= PRINTED.len() {
         return None;

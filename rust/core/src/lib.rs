@@ -38,6 +38,8 @@ mod reader;
 #[forbid(unsafe_code)]
 mod report;
 #[forbid(unsafe_code)]
+mod rounding;
+#[forbid(unsafe_code)]
 mod settings;
 #[forbid(unsafe_code)]
 mod table;
@@ -57,5 +59,6 @@ pub use self::printing::{
     FORMAT_BUFFER_SIZE, HUMAN_BUFFER_SIZE, MAX_LONG_LEN, MAX_PRINTED_LEN, write_format, write_human,
 };
 pub use self::report::REPORT_BUFFER_SIZE;
+pub use self::rounding::{Rounding, round_to};
 pub use self::token::{Token, Tokens, What};
 pub use self::unit::{CondUnit, Options, TimeUnit, UNITS};

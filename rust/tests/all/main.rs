@@ -15,6 +15,7 @@ mod near;
 mod numbers;
 mod owned;
 mod printing;
+mod rounding;
 mod values;
 
 use duration_str::{

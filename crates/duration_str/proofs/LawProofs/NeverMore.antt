@@ -1,4 +1,4 @@
-use Rattle.duration_str.proofs.Common.{[], ap, arith, counts_of, counts_within, div-eq_of_lt-le, Format, IsGreatestBreakdown, IsRead, last_unit, le-div_iff_mul-le, le-mul_of_pos_right, length, lengths_within, List, map, map-append, nanos_of, nat_lt, NeverMore, nonzero, Option, Options, part_count, refl, rules, rules_with, shorter_units, subst, sym, terminal_of, text_within, TimeUnit, units, units_within, weighted_sum, Year, zero-div, zero_unit, ℕ, ◌%◌, ◌*◌, ◌++◌, ◌+◌, ◌/◌, ◌<◌, ◌^◌, ◌∙◌, ◌∷◌, ◌≡◌, ◌≤◌}
+use Rattle.duration_str.proofs.Common.{[], ap, arith, counts_of, counts_within, div-eq_of_lt-le, Format, IsGreatestBreakdown, IsRead, KeepsWithin, last_unit, le-div_iff_mul-le, le-mul_of_pos_right, length, lengths_within, List, map, map-append, nanos_of, nat_lt, NeverMore, nonzero, Option, Options, part_count, refl, rules, rules_with, shorter_units, subst, sym, terminal_of, text_within, TimeUnit, units, units_within, weighted_sum, Year, zero-div, zero_unit, ℕ, ◌%◌, ◌*◌, ◌++◌, ◌+◌, ◌/◌, ◌<◌, ◌^◌, ◌∙◌, ◌∷◌, ◌≡◌, ◌≤◌}
 use Rattle.duration_str.proofs.Characters.UnitLemmas.{some_length}
 use Rattle.std.specs.Prelude.{filter}
 use Rattle.duration_str.proofs.LawProofs.GreatestBreakdown.{breakdown_of, EndInOne, one_greatest}
@@ -9,13 +9,13 @@ use Rattle.duration_str.proofs.Sentences.AnswerLemmas.{sum_read}
 -- ---- The duration that is printed
 
 -- how many of the nanoseconds are printed in units of these lengths, in at most `most` parts
-abbrev shown : List ℕ → ℕ → ℕ → ℕ
+abbrev pub shown : List ℕ → ℕ → ℕ → ℕ
 shown lengths most nanos = weighted_sum lengths (counts_within lengths most nanos)
 
-divided : (c l rest : ℕ) → rest < l → ((c * l + rest) / l ≡ c) × ((c * l + rest) % l ≡ rest)
+pub divided : (c l rest : ℕ) → rest < l → ((c * l + rest) / l ≡ c) × ((c * l + rest) % l ≡ rest)
 divided c l rest h = search (rules, div-eq_of_lt-le)
 
-none_shown : (lengths : List ℕ) (most nanos : ℕ) → most ≡ 0 → shown lengths most nanos ≡ 0
+pub none_shown : (lengths : List ℕ) (most nanos : ℕ) → most ≡ 0 → shown lengths most nanos ≡ 0
 none_shown [] most nanos none = refl
 none_shown (l ∷ lengths) most nanos none = search (rules, none_shown lengths most nanos none)
 
@@ -24,7 +24,7 @@ own_counts : (lengths more : List ℕ) (most nanos : ℕ) → ArePositive length
 own_counts [] more most nanos h = refl
 own_counts (l ∷ lengths) more most nanos h = search (rules, none_shown, within_sum, own_counts lengths more, divided)
 
-within_again : (lengths : List ℕ) (most nanos : ℕ) → ArePositive lengths
+pub within_again : (lengths : List ℕ) (most nanos : ℕ) → ArePositive lengths
     → counts_within lengths most (shown lengths most nanos) ≡ counts_within lengths most nanos
 within_again [] most nanos h = refl
 within_again (l ∷ lengths) most nanos h = search (rules, divided, within_sum, within_again lengths)
@@ -95,21 +95,60 @@ reads default_unit o format counts text each small same =
       plus = rw are (units_plus (or_zero zero ps));
     }) (rw (are, sum_or_zero (rules_with o default_unit) zero ps, sum_kept default_unit o us counts)) small
 
-pub never_more_holds : NeverMore
-never_more_holds format nanos text p =
-    let lengths : List ℕ = lengths_within format in
+-- ---- The law
+
+abbrev pub shown_within : Format → ℕ → ℕ
+shown_within format nanos = shown (lengths_within format) format.parts nanos
+
+abbrev shown_counts : Format → ℕ → List ℕ
+shown_counts format nanos =
+    counts_within (lengths_within format) format.parts nanos
+    ++ counts_of (map nanos_of (shorter_units (units_within format))) 0
+
+split_lengths : (format : Format)
+    → map nanos_of (units_within format ++ shorter_units (units_within format))
+    ≡ lengths_within format ++ map nanos_of (shorter_units (units_within format))
+split_lengths format = map-append nanos_of (units_within format) (shorter_units (units_within format))
+
+pub keeps_shown : (format : Format) (nanos : ℕ)
+    → KeepsWithin format (shown_within format nanos) (shown_counts format nanos)
+keeps_shown format nanos =
     let us = units_within format in
     let more : List ℕ = map nanos_of (shorter_units us) in
     let whole : List ℕ = map nanos_of (us ++ shorter_units us) in
+    let counts : List ℕ = counts_within (lengths_within format) format.parts nanos in
+    let most : ℕ = shown_within format nanos in
+    let own : counts_of whole most ≡ shown_counts format nanos =
+    ap (λ ls. counts_of ls most) (split_lengths format)
+    ∙ own_counts (lengths_within format) more format.parts nanos (lengths_positive us) in
+    record {
+      breakdown = subst (λ cs. IsGreatestBreakdown whole most cs) own (breakdown_of whole most (with_shorter us));
+      few = rw (no_more_parts counts more) (within_few (lengths_within format) format.parts nanos);
+      whole = sum_of_front (lengths_within format) counts (counts_of more 0)
+          (within_each (lengths_within format) format.parts nanos);
+    }
+
+pub kept_within : (format : Format) (between nanos : ℕ) (counts : List ℕ)
+    → KeepsWithin format between counts → between ≤ nanos → between ≤ shown_within format nanos
+kept_within format between nanos counts kept up =
+    let us = units_within format in
+    let more : List ℕ = map nanos_of (shorter_units us) in
+    let whole : List ℕ = map nanos_of (us ++ shorter_units us) in
+    let are : counts ≡ counts_of (lengths_within format ++ more) between =
+    one_greatest whole between counts (counts_of whole between) kept.breakdown
+    (breakdown_of whole between (with_shorter us)) ∙ ap (λ ls. counts_of ls between) (split_lengths format) in
+    most_within (lengths_within format) more format.parts between nanos (lengths_positive us) up (rw are at kept.few)
+    (rw are at kept.whole)
+
+pub never_more_holds : NeverMore
+never_more_holds format nanos text p =
+    let lengths : List ℕ = lengths_within format in
     let counts : List ℕ = counts_within lengths format.parts nanos in
     let positive : ArePositive lengths = lengths_positive (units_within format) in
     let each = within_each lengths format.parts nanos in
     let same : text ≡ text_within format counts =
     p.2 ∙ ap (text_within format) (one_greatest_within format nanos p.0 p.1) in
-    let split : whole ≡ lengths ++ more = map-append nanos_of us (shorter_units us) in
-    let most : ℕ = shown lengths format.parts nanos in
-    let own : counts_of whole most ≡ counts ++ counts_of more 0 =
-    ap (λ ls. counts_of ls most) split ∙ own_counts lengths more format.parts nanos positive in (
+    let most : ℕ = shown_within format nanos in (
       most,
       record {
         again = (
@@ -119,21 +158,8 @@ never_more_holds format nanos text p =
         );
         read = λ default_unit o small. reads default_unit o format counts text each small same;
         never_more = within_sum lengths format.parts nanos;
-        own = (
-          counts ++ counts_of more 0,
-          record {
-            breakdown = subst (λ cs. IsGreatestBreakdown whole most cs) own
-                (breakdown_of whole most (with_shorter us));
-            few = rw (no_more_parts counts more) (within_few lengths format.parts nanos);
-            whole = sum_of_front lengths counts (counts_of more 0) each;
-          },
-        );
-        greatest = λ between others above up w.
-            let are : others ≡ counts_of (lengths ++ more) between =
-            one_greatest whole between others (counts_of whole between) w.breakdown
-            (breakdown_of whole between (with_shorter us)) ∙ ap (λ ls. counts_of ls between) split in
-            let few = rw are at w.few in
-            let sum = rw are at w.whole in
-            omega (arith, above, most_within lengths more format.parts between nanos positive up few sum);
+        own = (shown_counts format nanos, keeps_shown format nanos);
+        greatest = λ between others above up kept.
+            omega (arith, above, kept_within format between nanos others kept up);
       },
     )

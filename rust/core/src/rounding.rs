@@ -1,0 +1,104 @@
+// Made by tools/erase of crates/duration_str/src/rounding.rt.
+//! Durations rounded to those that print whole in a format.
+
+use crate::breakdown::longest;
+use crate::format::Format;
+use core::time::Duration;
+
+/// Which duration stands for one that does not print whole in a format, so that its printed text
+/// would leave something out.
+#[derive(Clone, Copy, Debug, PartialEq, Eq, Hash)]
+#[non_exhaustive]
+pub enum Rounding {
+    /// The greatest duration that prints whole and is not above the given one.
+    Down,
+    /// The nearest duration that prints whole: of two that are as near, the longer one.
+    Nearest,
+    /// The least duration that prints whole and is not below the given one.
+    Up,
+}
+
+/// Returns the duration, rounded to one that prints whole in this format: in the format's units and
+/// parts, without a rest. The format's style does not matter.
+///
+/// A duration that prints whole is returned as it is. `Rounding::Down` gives the duration whose text
+/// [`write_format`](crate::write_format) prints for the given one.
+///
+/// The result is `None` only for `Rounding::Up`, if no duration up to `Duration::MAX` prints whole
+/// and is not below the given one. That is so for 1ns in a format without units or parts.
+///
+/// ```
+/// use duration_str::{Format, Rounding, TimeUnit, round_to};
+/// use std::time::Duration;
+///
+/// let length = Duration::new(7_199, 0); // 1h 59min 59s
+/// let one_part = Format::whole().parts(1);
+/// let hours = |n: u64| Some(Duration::new(n * 3_600, 0));
+/// assert_eq!(round_to(&length, one_part, Rounding::Down), hours(1));
+/// assert_eq!(round_to(&length, one_part, Rounding::Nearest), hours(2));
+/// assert_eq!(round_to(&length, one_part, Rounding::Up), hours(2));
+/// ```
+#[must_use]
+pub fn round_to(d: &Duration, format: Format, rounding: Rounding) -> Option<Duration> {
+    let (down, up) = neighbors(*d, format);
+    match rounding {
+        Rounding::Down => Some(down),
+        Rounding::Nearest => match up {
+            Some(longer) if longer.as_nanos() - d.as_nanos() <= d.as_nanos() - down.as_nanos() =>
+                up,
+            _ => Some(down),
+        },
+        Rounding::Up => up,
+    }
+}
+
+/// Returns the greatest duration that prints whole and is not above this one, and the least that is
+/// not below it, if there is one up to `Duration::MAX`.
+fn neighbors(d: Duration, format: Format) -> (Duration, Option<Duration>) {
+    let nanos = d.as_nanos();
+    let (below, above) = distances(nanos, format);
+    let down = duration_of(nanos - below);
+    if nanos + above == TOO_LONG {
+        return (down, None);
+    }
+    (down, Some(duration_of(nanos + above)))
+}
+
+/// The least number of nanoseconds that is too large for a `Duration`.
+const TOO_LONG: u128 = 1_000_000_000 << 64;
+
+/// Returns how far the duration is from the two that [`neighbors`] returns. If there is only one,
+/// the second distance is the one to `TOO_LONG`.
+///
+/// The duration that prints whole and comes next after the given one has one count that is greater
+/// by one, and no parts after it. So for each unit it is compared with the one whose count of that
+/// unit is the next.
+fn distances(nanos: u128, format: Format) -> (u128, u128) {
+    let mut bits = u32::from(format.units.bits());
+    let mut most = format.parts;
+    let mut rest = nanos;
+    let mut above = TOO_LONG - nanos;
+    while let Some((row, others)) = longest(bits) {
+        if most == 0 || rest == 0 {
+            break;
+        }
+        let (count, left) = row.wide_division(rest);
+        above = above.min(u128::from(row.nanos) - left);
+        if count > 0 {
+            most -= 1;
+        }
+        rest = left;
+        bits = others;
+    }
+    if rest == 0 {
+        return (0, 0);
+    }
+    (rest, above)
+}
+
+fn duration_of(nanos: u128) -> Duration {
+    Duration::new(
+        (nanos / 1_000_000_000) as u64,
+        (nanos % 1_000_000_000) as u32,
+    )
+}
