@@ -36,6 +36,12 @@ class Documentation(unittest.TestCase):
                 getattr(duration_str, name).__doc__ or f"`{name}`" in duration_str.__doc__, name
             )
 
+    def test_names_no_module_of_its_own_in_pickles(self):
+        program = "import duration_str, pickle; print(pickle.dumps(duration_str.Duration))"
+        run = subprocess.run([sys.executable, "-c", program], capture_output=True, text=True)
+        self.assertIn("duration_str", run.stdout)
+        self.assertNotIn("duration_str._", run.stdout)
+
     def test_imports_what_takes_long_when_it_is_used(self):
         def printed(program):
             words = [sys.executable, "-c", f"import sys; before = {{*sys.modules}}; {program}"]

@@ -5,6 +5,8 @@ import pickle
 import random
 import re
 import string
+import subprocess
+import sys
 import typing
 import unittest
 
@@ -51,6 +53,16 @@ def check_breakdown(test, nanos, **words):
 
 
 class Printing(unittest.TestCase):
+    def test_breaks_down_if_a_mock_stands_in_place_of_the_types(self):
+        program = """
+import duration_str
+duration_str.Part = duration_str.Breakdown = None
+broken = duration_str.breakdown(60 * 10**9)
+assert repr(broken) == "Breakdown(parts=(Part(count=1, unit='min'),), rest_ns=0)", broken
+assert {type(each).__module__ for each in [broken, *broken.parts]} == {"duration_str"}
+"""
+        subprocess.run([sys.executable, "-c", program], check=True)
+
     def test_prints_the_vectors_and_breaks_them_down(self):
         for text, limits, short, long, secs, rest_ns in VECTORS["printed"]:
             value = length_of(text)

@@ -127,17 +127,14 @@ __all__ += [
 __version__ = "0.19.0"
 
 
-def _public(name: str, item: Any) -> Any:
+def _own(items: dict[str, Any]) -> None:
     """In errors, pickles and documentation, the public items belong to this module."""
-    item.__module__ = __name__
-    globals()[name] = item
-    return item
+    for name in {*__all__} & {*items}:
+        items[name].__module__ = __name__
 
 
-_public("format", format)
-for _name in {*__all__} & {*globals()}:
-    _public(_name, globals()[_name])
-del _name
+_own(globals())
+format.__module__ = __name__
 
 if not TYPE_CHECKING:
     # The items of these modules need the module typing, which takes longer to import than this
@@ -147,8 +144,9 @@ if not TYPE_CHECKING:
     def __getattr__(name):
         for module in _LATER if name in __all__ else ():
             items = vars(import_module(f"{__name__}.{module}"))
+            _own(items)
             if name in items:
-                return _public(name, items[name])
+                return globals().setdefault(name, items[name])
         raise AttributeError(f"module {__name__!r} has no attribute {name!r}")
 
     def __dir__():

@@ -621,12 +621,13 @@ static PyObject *member(const char *module, const char *name) {
 
 /* Keeps a type of the package. While it is taken, another thread may keep it, too. */
 static int keep_type(struct state *state, enum kept at, const char *name) {
-    PyObject *taken = state->kept[at] ? NULL : member("duration_str", name);
-    if (!state->kept[at])
-        state->kept[at] = taken;
-    else
-        Py_XDECREF(taken);
-    return state->kept[at] ? 0 : -1;
+    if (state->kept[at])
+        return 0;
+    PyObject *taken = member("duration_str._parts", name);
+    if (taken && !state->kept[at])
+        state->kept[at] = Py_NewRef(taken);
+    Py_XDECREF(taken);
+    return taken ? 0 : -1;
 }
 
 /* Takes over the reference to the items, which are a tuple. The type's own constructor is a

@@ -25,3 +25,7 @@ class Breakdown(NamedTuple):
     """The parts whose counts are not 0, the largest unit first."""
     rest_ns: int
     """The nanoseconds that no part has."""
+
+
+# `breakdown` takes them from here, since a program can put other objects into the package's names.
+Part.__module__ = Breakdown.__module__ = "duration_str"
