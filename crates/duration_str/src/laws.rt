@@ -131,11 +131,11 @@ pub fn never_more()
     ensures { NeverMore }
 {}
 
-/// For each way of rounding, at most one duration up to `Duration::MAX` is what a duration is rounded
-/// to, and one that prints whole is rounded to itself. No duration that prints whole is between
-/// those that another one is rounded down and up to. A duration is printed as what it is rounded
-/// down to. So 29 days in months and weeks are printed as `4w`, are rounded up to 1mon, and no
-/// duration between those prints whole.
+/// For each way of rounding, at most one duration up to `Duration::MAX` is what a duration is
+/// rounded to, and one that prints whole is rounded to itself. No duration that prints whole is
+/// between those that another one is rounded down and up to. A duration is printed as what it is
+/// rounded down to. So 29 days in months and weeks are printed as `4w`, are rounded up to 1mon, and
+/// no duration between those prints whole.
 #[tactic(auto, using(crate::proofs::LawProofs::Rounding::one_rounding_holds))]
 pub fn one_rounding()
     ensures { OneRounding }

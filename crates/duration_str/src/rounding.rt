@@ -23,8 +23,8 @@ pub enum Rounding {
 /// Returns the duration, rounded to one that prints whole in this format: in the format's units and
 /// parts, without a rest. The format's style does not matter.
 ///
-/// A duration that prints whole is returned as it is. `Rounding::Down` gives the duration whose text
-/// [`write_format`](crate::write_format) prints for the given one.
+/// A duration that prints whole is returned as it is. `Rounding::Down` gives the duration whose
+/// text [`write_format`](crate::write_format) prints for the given one.
 ///
 /// The result is `None` only for `Rounding::Up`, if no duration up to `Duration::MAX` prints whole
 /// and is not below the given one. That is so for 1ns in a format without units or parts.
