@@ -221,6 +221,13 @@ enum duration_str_style {
     DURATION_STR_STYLE_LONG = 2     /* `1 hour 30 minutes` */
 };
 
+/* How a duration is rounded to one that prints whole. */
+enum duration_str_rounding {
+    DURATION_STR_ROUNDING_DOWN = 0,    /* as it is printed */
+    DURATION_STR_ROUNDING_NEAREST = 1, /* of two as near, to the longer one */
+    DURATION_STR_ROUNDING_UP = 2
+};
+
 /* The answer to a text: its value, or why it is refused. A field that doesn't
  * apply is 0. */
 struct duration_str_answer {
@@ -325,6 +332,36 @@ bool duration_str_breakdown(
     uint64_t secs, uint32_t nanos, uint32_t units, uint32_t parts,
     uint64_t counts[DURATION_STR_AT_LEAST DURATION_STR_UNIT_COUNT],
     uint64_t *rest);
+
+/* Rounds a duration of `*secs` seconds and `*nanos` nanoseconds to one that
+ * prints whole in the units of the set `units` and at most `parts` parts, so
+ * that its text leaves nothing out. `rounding` is one of
+ * `enum duration_str_rounding`: down to the greatest such duration that is not
+ * longer, up to the least that is not shorter, or to the nearest.
+ *
+ * Returns true, and writes the rounded duration to `*secs` and `*nanos`. Print
+ * it by duration_str_format_with, in the same units and parts. For example,
+ * 7,199 seconds, which are 1h 59min 59s, are rounded down to 3,600 seconds in
+ * one part, and to the nearest or up to 7,200. This prints `2h`:
+ *
+ *     uint64_t secs = 7199;
+ *     uint32_t nanos = 0;
+ *     char text[DURATION_STR_FORMAT_WITH_BUFFER_SIZE];
+ *     if (duration_str_round(&secs, &nanos, DURATION_STR_UNITS_ALL, 1,
+ *                            DURATION_STR_ROUNDING_NEAREST)) {
+ *         duration_str_format_with(secs, nanos, DURATION_STR_UNITS_ALL, 1,
+ *                                  DURATION_STR_STYLE_SHORT, text);
+ *         puts(text);
+ *     }
+ *
+ * Returns false, and leaves `*secs` and `*nanos` unchanged, if `*nanos` is
+ * 1,000,000,000 or more, if `units` is the empty set or above
+ * DURATION_STR_UNITS_ALL, if `rounding` is above 2, or if nothing that prints
+ * whole is long enough to round up to. The last can be only if `parts` is 0,
+ * or above some 584 billion years. */
+DURATION_STR_MUST_USE DURATION_STR_NONNULL(1, 2)
+bool duration_str_round(uint64_t *secs, uint32_t *nanos, uint32_t units,
+                        uint32_t parts, uint32_t rounding);
 
 /* Reads a text under these options. Returns true if it is read. Writes to
  * `*answer` the value, or why the text is refused. */

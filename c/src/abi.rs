@@ -1,7 +1,7 @@
 //! Makes slices of C's pointers, and calls the proved functions of the same names. A pointer to
 //! write to is an `Option` if the header lets it be null.
 #![deny(clippy::no_mangle_with_rust_abi)]
-use crate::{answer::Answer, breakdown, format, message, unit};
+use crate::{answer::Answer, breakdown, format, message, rounding, unit};
 use core::mem::{MaybeUninit, offset_of, zeroed};
 use core::slice::from_raw_parts;
 
@@ -87,6 +87,17 @@ extern "C" fn duration_str_breakdown(
     breakdown::duration_str_breakdown(secs, nanos, units, parts, &mut each, &mut left)
         .then(|| (counts.write(each), rest.map(|rest| rest.write(left))))
         .is_some()
+}
+
+#[unsafe(no_mangle)]
+extern "C" fn duration_str_round(
+    secs: &mut u64,
+    nanos: &mut u32,
+    units: u32,
+    parts: u32,
+    rounding: u32,
+) -> bool {
+    rounding::duration_str_round(secs, nanos, units, parts, rounding)
 }
 
 #[unsafe(no_mangle)]

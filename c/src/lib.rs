@@ -16,6 +16,8 @@ pub mod format;
 #[forbid(unsafe_code)]
 pub mod message;
 #[forbid(unsafe_code)]
+pub mod rounding;
+#[forbid(unsafe_code)]
 pub mod unit;
 
 use crate::answer::Answer;

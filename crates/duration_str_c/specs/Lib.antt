@@ -2,4 +2,5 @@ pub mod Answers
 pub mod Breakdown
 pub mod Format
 pub mod Messages
+pub mod Rounding
 pub mod Units

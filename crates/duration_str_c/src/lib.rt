@@ -18,6 +18,7 @@ pub mod answer;
 pub mod breakdown;
 pub mod format;
 pub mod message;
+pub mod rounding;
 pub mod unit;
 
 use crate::answer::Answer;
