@@ -60,6 +60,8 @@ def in_javascript():
 export const UNITS = [{quoted(PRINTED)}];
 /** The styles, in the order of `enum duration_str_style`. */
 export const STYLES = [{quoted(STYLES)}];
+/** The ways of rounding, in the order of `enum duration_str_rounding`. */
+export const ROUNDINGS = [{quoted(ROUNDINGS)}];
 /** The codes of answers, at the places of their numbers. */
 export const CODES = [{quoted(CAUSES[:-1])}];
 /** Patterns of sentences: without options, with `noCalc`, with `requireUnit`, and with both. U
