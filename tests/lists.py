@@ -23,9 +23,15 @@ def found(pattern, name):
     return re.findall(pattern, (CRATES / name).read_text(encoding="utf-8"), re.M)
 
 
-# The styles are in the order of the source's enumeration, and the causes in that of their numbers.
-(variants,) = found(r"^pub enum Style \{([^}]*)\}", "duration_str/src/format.rt")
-STYLES = re.findall(r"^    (\w+),$", variants.lower(), re.M)
+def variants(name, source):
+    (body,) = found(rf"^pub enum {name} \{{([^}}]*)\}}", f"duration_str/src/{source}")
+    return re.findall(r"^    (\w+),$", body.lower(), re.M)
+
+
+# The styles and the ways of rounding are in the order of the source's enumerations, and the causes
+# in that of their numbers.
+STYLES = variants("Style", "format.rt")
+ROUNDINGS = variants("Rounding", "rounding.rt")
 constants = found(r"^const (\w+): u32 = \d+;$", "duration_str_c/src/answer.rt")
 CAUSES = ["READ", *constants[: constants.index("UNKNOWN_OPTION") + 1]]
 
@@ -54,6 +60,8 @@ def in_javascript():
 export const UNITS = [{quoted(PRINTED)}];
 /** The styles, in the order of `enum duration_str_style`. */
 export const STYLES = [{quoted(STYLES)}];
+/** The ways of rounding, in the order of `enum duration_str_rounding`. */
+export const ROUNDINGS = [{quoted(ROUNDINGS)}];
 /** The codes of answers, at the places of their numbers. */
 export const CODES = [{quoted(CAUSES[:-1])}];
 /** Patterns of sentences: without options, with `noCalc`, with `requireUnit`, and with both. U
@@ -88,6 +96,8 @@ Unit = Literal[{quoted(name for unit in UNITS for name in unit.names)}]
 PrintedUnit = Literal[{quoted(PRINTED)}]
 #: How a duration is printed: `1h 30min`, `1h30min`, `1 hour 30 minutes`
 Style = Literal[{quoted(STYLES)}]
+#: How a duration is rounded to one that prints whole
+Rounding = Literal[{quoted(ROUNDINGS)}]
 #: Patterns of sentences: without options, with `no_calc`, with `require_unit`, and with both. U
 #: stands for a unit.
 SENTENCES = [
@@ -106,9 +116,11 @@ def in_c_for_python():
 /* The names of the units as they are printed, in Latin-1, and as errors list them, in UTF-8 */
 static const char *const unit_names[] = {{{latin}}};
 static const char listed_units[] = "{listed}";
-/* The same for the styles */
+/* The same for the styles, and for the ways of rounding */
 static const char *const style_names[] = {{{quoted(STYLES)}}};
 static const char listed_styles[] = "{', '.join(STYLES)}";
+static const char *const rounding_names[] = {{{quoted(ROUNDINGS)}}};
+static const char listed_roundings[] = "{', '.join(ROUNDINGS)}";
 """
 
 
