@@ -377,52 +377,10 @@ def other_requirements():
         "Node": re.findall(r'"node": ">=(.*)"', read("js/package.json")),
     }
     for name in tracked_files("*.md"):
-        # JavaScript's package needs a library that Debian's Rust has only from a later version on.
-        text = re.sub(r"Debian's Rust\s+\S+", "", read(name))
-        for language, version in re.findall(r"(Rust|Python|Node)\s+([\d.]+) or\s+later", text):
+        needed = re.findall(r"(Rust|Python|Node)\s+([\d.]+) or\s+later", read(name))
+        for language, version in needed:
             if [version] != oldest[language]:
                 yield f"{name}: says {language} {version} or later, and not {oldest[language]}"
-    for language, (version,) in oldest.items():
-        if not f"{tried(language, min)}.".startswith(f"{version}."):
-            yield f"{TRIED}: has no system with {language} {version}, from which on all is promised"
-
-
-# ---- Versions that were tried
-
-TRIED = "tests/tried.json"
-VERSION = re.compile(r"\b([A-Z]?[A-Za-z]+(?: (?:make|sed))?) (\d+(?:\.\d+)*)")
-
-
-def tried(program, pick):
-    """The least or the newest version of a program in the systems that were tried."""
-    systems = json.loads(read(TRIED)).values()
-    versions = [system[program] for system in systems if program in system]
-    return pick(versions, key=lambda version: [*map(int, version.split("."))], default=None)
-
-
-def untried_versions():
-    for row in rows_of_tables(PROMISES):
-        for column, pick in ("least version", min), ("newest version", max):
-            for program, version in VERSION.findall(row.get(column, "")):
-                if program != "Debian" and version != (wanted := tried(program, pick)):
-                    yield f"{PROMISES}: {program} {version} is not the {column}, but {wanted}"
-        if "on" in row:
-            scripts = [pathlib.Path(each) for each in re.findall(r"`([\w/]+)", row["tried by"])]
-            files = tracked_files(*scripts, *(script.parent / "tests/*" for script in scripts))
-            code = "".join(map(read, files)).lower()
-            for runner in re.findall(r"`.+?`|Wine|Node|Chromium|Firefox|WebKit", row["on"]):
-                if runner.strip("`").lower() not in code:
-                    yield f"{PROMISES}: {row['tried by']} runs nothing on {runner}"
-    outside = re.sub(r"(?m)^\|.*\n", "", section(PROMISES, "## Where it runs"))
-    for program, version in VERSION.findall(outside):
-        if tried(program, min):
-            yield f"{PROMISES}: {program} {version} stands outside of the tables"
-    systems = " ".join(json.loads(read(TRIED)))
-    for name in tracked_files("*.md"):
-        releases = re.findall(r"Debian((?:,?\s(?:and |or )?(?:\d+|sid))+)", read(name))
-        for release in re.findall(r"\w+", re.sub("and|or", "", " ".join(releases))):
-            if f"Debian {release}" not in systems:
-                yield f"{name}: names Debian {release}, which is not in {TRIED}"
 
 
 # ---- Spelling and pictures
@@ -465,7 +423,6 @@ def problems():
         other_sentences_on_proofs,
         other_quotes,
         other_requirements,
-        untried_versions,
         other_helps,
         other_lines,
         other_answers,
