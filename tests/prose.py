@@ -1,14 +1,12 @@
 """Checks what the documents say, for tests/repository: links, names, tables of texts, promises,
-quotes, spelling and pictures.
+quotes, versions that are needed, and spelling.
 """
-import filecmp
 import itertools
 import json
 import pathlib
 import re
 import shutil
 import subprocess
-import tempfile
 
 import reference_parser
 
@@ -383,7 +381,7 @@ def other_requirements():
                 yield f"{name}: says {language} {version} or later, and not {oldest[language]}"
 
 
-# ---- Spelling and pictures
+# ---- Spelling
 
 
 def misspelt():
@@ -394,21 +392,6 @@ def misspelt():
     # Codespell takes a word of Rust and two macros of manual pages for mistakes.
     words = ["codespell", "--ignore-words-list", "crate,nd,fo", *files]
     return subprocess.run(words, cwd=ROOT, capture_output=True, text=True).stdout.splitlines()
-
-
-def other_pictures():
-    if subprocess.run(
-        ["/usr/bin/python3", "-c", "import railroad"], capture_output=True
-    ).returncode:
-        print("repository: pictures skipped, railroad-diagrams is missing (make setup all=yes)")
-        return
-    with tempfile.TemporaryDirectory() as room:
-        drawn = subprocess.run([ROOT / "tools/pictures", room], capture_output=True, text=True)
-        if drawn.returncode:
-            yield f"tools/pictures: {drawn.stderr.strip()}"
-        for picture in pathlib.Path(room).iterdir():
-            if not filecmp.cmp(picture, ROOT / "docs/images" / picture.name, shallow=False):
-                yield f"docs/images/{picture.name}: is not what tools/pictures draws"
 
 
 def problems():
@@ -431,6 +414,5 @@ def problems():
         untested_examples,
         wrong_names,
         misspelt,
-        other_pictures,
     ):
         yield from each()
