@@ -106,7 +106,6 @@ def options_in_javascript(descriptions, sentences):
 
 
 def callers():
-    """The callers in a crate that the gate proves."""
     library, crate, answers = "crates/duration_str", "crates/service", "proofs/timeout/Answers.antt"
     caller = read(f"{crate}/src/lib.rt").partition("\npub mod ")[0]
     yield f"{library}/CALLING.md", "and is not refused.\n\n```rust\n", "```", caller

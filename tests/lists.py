@@ -118,7 +118,6 @@ def in_rust():
 
 /// A short name of each unit, in ASCII.
 pub const UNITS: [&str; {len(UNITS)}] = [{quoted(ascii_names)}];
-/// The styles.
 pub const STYLES: [&str; {len(STYLES)}] = [{quoted(STYLES)}];
 /// Patterns of sentences: without options, without operators, with units required, and with both. U
 /// stands for a unit.
