@@ -1,7 +1,5 @@
 """Lays out words of docs/GRAMMAR.md for the packages' documentation, and callers in Rattle for
 documents. tests/repository compares the result with what stands there, and writes it.
-
-Each place is a file, the text before and after what is copied, and what must stand between them.
 """
 import re
 import textwrap
