@@ -1,4 +1,4 @@
-/* Made by tests/repository --write. */
+/* The lists are made by tests/repository --write. */
 
 /* The names of the units as they are printed, in Latin-1, and as errors list them, in UTF-8 */
 static const char *const unit_names[] = {"y", "q", "mon", "w", "d", "h", "min", "s", "ms", "\xb5s", "ns"};

@@ -1,4 +1,4 @@
-# Made by tests/repository --write.
+# The lists are made by tests/repository --write.
 from typing import Literal
 
 #: A unit by one of its names
