@@ -1,4 +1,5 @@
-//! Durations rounded to those that print whole in a format.
+//! Durations rounded to those that print whole in a format: that fit into its units and parts, so
+//! that their texts leave nothing out.
 ghost use Rattle.std.specs.Prelude.{◌≡◌, ◌+◌, ◌-◌, ◌≤◌, ◌↔◌, IfNone, IfSome, IsSome, ◌^◌, ◌*◌};
 ghost use Rattle.std.specs.Duration.{FitsDuration, as_nanos};
 ghost use Rattle.duration_str.specs.Rounding.{IsRounded, IsRoundedDown, IsRoundedUp, NoneAbove, OnlyZero};
@@ -8,8 +9,8 @@ use crate::breakdown::longest;
 use crate::format::Format;
 use std::time::Duration;
 
-/// Which duration stands for one that does not print whole in a format, so that its printed text
-/// would leave something out.
+/// To which duration another one is rounded. The result always prints whole: it fits into the units
+/// and parts of a format, so that its text leaves nothing out.
 #[derive(Clone, Copy, Debug, PartialEq, Eq, Hash)]
 pub enum Rounding {
     /// The greatest duration that prints whole and is not above the given one.
@@ -20,11 +21,13 @@ pub enum Rounding {
     Up,
 }
 
-/// Returns the duration, rounded to one that prints whole in this format: in the format's units and
-/// parts, without a rest. The format's style does not matter.
+/// Rounds the duration to one that prints whole in this format: one that fits into the format's
+/// units and parts, so that its text leaves nothing out. The format's style does not matter.
 ///
-/// A duration that prints whole is returned as it is. `Rounding::Down` gives the duration whose
-/// text [`write_format`](crate::write_format) prints for the given one.
+/// A duration that prints whole is returned as it is. For any other, [`write_format`] prints the
+/// text of what `Rounding::Down` gives.
+///
+/// [`write_format`]: crate::write_format
 ///
 /// The result is `None` only for `Rounding::Up`, if no duration up to `Duration::MAX` prints whole
 /// and is not below the given one. That is so for 1ns in a format without units or parts.

@@ -1,12 +1,13 @@
 // Made by tools/erase of crates/duration_str/src/rounding.rt.
-//! Durations rounded to those that print whole in a format.
+//! Durations rounded to those that print whole in a format: that fit into its units and parts, so
+//! that their texts leave nothing out.
 
 use crate::breakdown::longest;
 use crate::format::Format;
 use core::time::Duration;
 
-/// Which duration stands for one that does not print whole in a format, so that its printed text
-/// would leave something out.
+/// To which duration another one is rounded. The result always prints whole: it fits into the units
+/// and parts of a format, so that its text leaves nothing out.
 #[derive(Clone, Copy, Debug, PartialEq, Eq, Hash)]
 #[non_exhaustive]
 pub enum Rounding {
@@ -18,11 +19,13 @@ pub enum Rounding {
     Up,
 }
 
-/// Returns the duration, rounded to one that prints whole in this format: in the format's units and
-/// parts, without a rest. The format's style does not matter.
+/// Rounds the duration to one that prints whole in this format: one that fits into the format's
+/// units and parts, so that its text leaves nothing out. The format's style does not matter.
 ///
-/// A duration that prints whole is returned as it is. `Rounding::Down` gives the duration whose
-/// text [`write_format`](crate::write_format) prints for the given one.
+/// A duration that prints whole is returned as it is. For any other, [`write_format`] prints the
+/// text of what `Rounding::Down` gives.
+///
+/// [`write_format`]: crate::write_format
 ///
 /// The result is `None` only for `Rounding::Up`, if no duration up to `Duration::MAX` prints whole
 /// and is not below the given one. That is so for 1ns in a format without units or parts.

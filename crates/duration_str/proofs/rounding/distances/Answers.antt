@@ -1,4 +1,4 @@
-use Rattle.duration_str.proofs.Common.{[], ap, arith, false, FitsDuration, if◌then◌else◌, inl, inr, List, map, nanos_of, nat_tests, rules, subst, sym, units_of, units_within, ℕ, ◌+◌, ◌-◌, ◌<◌, ◌==◌, ◌%◌, ◌∙◌, ◌≡◌, ◌∷◌}
+use Rattle.duration_str.proofs.Common.{[], ap, arith, false, if◌then◌else◌, inl, inr, List, map, nanos_of, nat_tests, rules, subst, sym, units_of, units_within, ℕ, ◌+◌, ◌<◌, ◌==◌, ◌%◌, ◌∙◌, ◌≡◌, ◌∷◌}
 use Rattle.duration_str.proofs.LawProofs.Rounding.{after_none, after_part, first_step, gap, gap_over, gap_within, IsOver, larger, most_after, next_step, only_zero, rounded_down, rounded_up, shown_over, smaller}
 use Rattle.duration_str.specs.Rounding.{IsRoundedUp}
 use Rattle.duration_str.proofs.rounding.distances.Goals as goal

@@ -1,4 +1,4 @@
-use Rattle.duration_str.proofs.Common.{arith, as_nanos, cases_lt, FitsDuration, IfSome, inl, inr, IsSome, rules, None, Option, Some, ℕ, ◌*◌, ◌+◌, ◌^◌, ◌↔◌, ◌≡◌, ◌≤◌}
+use Rattle.duration_str.proofs.Common.{as_nanos, cases_lt, FitsDuration, IfSome, inl, inr, IsSome, rules, None, Option, Some, ℕ, ◌*◌, ◌+◌, ◌^◌, ◌↔◌, ◌≡◌, ◌≤◌}
 use Rattle.std.specs.Option.{IfNone}
 use Rattle.duration_str.proofs.LawProofs.Rounding.{none_above, zero_above, zero_down, zero_up}
 use Rattle.duration_str.proofs.rounding.neighbors.Goals as goal
