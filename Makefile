@@ -11,8 +11,8 @@
 #                      proved into proved.txt
 # make check           proves everything, if there is rt, and runs the tests; this can take over an
 #                      hour
-# make quick           runs what takes at most a minute of the processor, and names the other checks
-#                      that the changed files need
+# make quick           runs the short checks, and names the longer ones that the changed files need;
+#                      this takes a minute, or two if all packages have changed
 # make format          lays out Rust, Python, C, Go and shell scripts, by the usual tool of each
 #                      language
 # make install         installs the programs, the library, its header, manual pages and completions

@@ -36,7 +36,7 @@ VALUES = (
         "field": (1, 2, 3, 5),
         "delimiter": tuple(',,;:\t "-^]5'),
         "header": (0, 1, 1, 2, 9),
-        "parts": (1, 2, 3, 12, 255),
+        "parts": (1, 2, 3, 12, 2**64 - 1),
     }
     | dict.fromkeys(
         ("json", "quiet", "zero-terminated", "lowercase", "cn-unit", "require-unit", "pattern"),
@@ -45,8 +45,8 @@ VALUES = (
 )
 WITH_PATTERN = {"pattern", "lowercase", "cn-unit", "require-unit", "from", "zero-terminated"}
 WRONG_WORDS = """--to= --to=mins --to=年 --from=secs --largest=mo --round=half --decimals=10 --units=
---units=y,mins --parts=0 --parts=256 --parts=two --field=0 --field=65536 --field=-1 -dab -dé
---header= --header=x --none -x""".split()
+--units=y,mins --parts=0 --parts=+12 --parts=two --field=0 --field=+1 --field=-1 -dab -dé
+--header= --header=x --header=+1 --decimals=+5 --none -x""".split()
 # These are read only as a whole.
 NUMBERS = ("12.5", ".5", "1e-05", "2.5E+3", "0.5e0", "\t3.0 ", "1e-99999999999999999999")
 WORDS = """--to=ms --from=Hour --largest=µs --smallest=mon --units=y,d --style=long

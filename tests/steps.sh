@@ -14,6 +14,12 @@ trap clears EXIT
 # Incremental builds and debug symbols would only take time here.
 export CARGO_INCREMENTAL=0 CARGO_PROFILE_DEV_DEBUG=0
 
+# usage WORDS: ends the script, since it takes no other words than these
+usage() {
+    echo "usage: $steps/check $1" >&2
+    exit 2
+}
+
 # runs WHAT WORDS..: runs the words as a step, whose output is in $log. After a minute a line says
 # that the step still runs
 runs() {

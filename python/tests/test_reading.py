@@ -111,6 +111,31 @@ assert parse("90s") == datetime.timedelta(seconds=90)
 """
         subprocess.run([sys.executable, "-c", program], check=True)
 
+    def test_keeps_one_timedelta_of_a_digit(self):
+        # While the module datetime in Python multiplies, another call can make the same timedelta.
+        program = """
+import gc, sys
+sys.modules["_datetime"] = None
+from datetime import timedelta
+from duration_str import parse
+
+multiply = timedelta.__mul__
+
+def parse_meanwhile(value, count):
+    timedelta.__mul__ = multiply
+    parse("7s")
+    return multiply(value, count)
+
+def counted():
+    return sum(type(each) is timedelta for each in gc.get_objects())
+
+timedelta.__mul__ = parse_meanwhile
+before = counted()
+assert parse("7s") == timedelta(seconds=7)
+assert counted() - before == 1, counted() - before
+"""
+        subprocess.run([sys.executable, "-c", program], check=True)
+
     def test_counts_the_default_unit(self):
         for name in typing.get_args(Unit):
             # The micro sign's capital in Unicode is a Greek letter, which no unit's name has.

@@ -207,7 +207,7 @@ impl Run<'_> {
         let mut fields = line
             .split(divides)
             .filter(|field| delimiter.is_some() || !field.is_empty());
-        let field = fields.nth(usize::from(number) - 1)?;
+        let field = fields.nth(number - 1)?;
         let is_inside = |byte: &u8| !b" \t\r\n\"".contains(byte);
         let start = field.as_ptr().addr() - line.as_ptr().addr();
         let first = start + field.iter().position(is_inside).unwrap_or(0);

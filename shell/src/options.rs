@@ -2,7 +2,7 @@
 use crate::lists::{STYLES, UNITS};
 use clap::builder::{PossibleValuesParser, TypedValueParser};
 use clap::error::ErrorKind;
-use clap::{Command, CommandFactory, Parser, ValueEnum, value_parser};
+use clap::{Command, CommandFactory, Parser, ValueEnum};
 use clap_complete::Shell;
 use duration_str::{
     Breakdown, FORMAT_BUFFER_SIZE, Format, Options, Style, TimeUnit, Units, UnknownUnit,
@@ -11,6 +11,7 @@ use duration_str::{
 use std::borrow::Cow;
 use std::ffi::{OsStr, OsString};
 use std::os::unix::ffi::OsStrExt;
+use std::str::FromStr;
 use std::time::Duration;
 
 /// The options that say how to print for people. If one of them is given, clap doesn't report that
@@ -35,7 +36,7 @@ pub struct Choices {
     pub to: Option<TimeUnit>,
     /// Print N decimals, 0 to 9
     #[arg(long, value_name = "N", requires = "to", conflicts_with_all = SHAPES,
-        value_parser = value_parser!(u8).range(..=9))]
+        value_parser = up_to_nine)]
     decimals: Option<u8>,
     /// Round further decimals down, up, or to the nearest
     #[arg(long, value_name = "WAY", default_value = "down", requires = "to",
@@ -51,9 +52,8 @@ pub struct Choices {
             .try_map(|word| word.parse::<Style>()))]
     style: Style,
     /// Print at most N parts, and leave out the rest
-    #[arg(long, value_name = "N", default_value = "11",
-        value_parser = value_parser!(u8).range(1..))]
-    parts: u8,
+    #[arg(long, value_name = "N", default_value = "11", value_parser = positive)]
+    parts: usize,
     /// Count only these units, such as y,mon,d, in any order [default: all]
     #[arg(long, value_name = "UNITS", value_parser = list_of_units)]
     units: Option<UnitList>,
@@ -64,14 +64,14 @@ pub struct Choices {
     #[arg(long, value_name = "UNIT", default_value = "ns", value_parser = unit)]
     smallest: TimeUnit,
     /// Convert the Nth field of each line, and print the whole line; a refused field stays as it is
-    #[arg(long, value_name = "N", value_parser = value_parser!(u16).range(1..))]
-    pub field: Option<u16>,
+    #[arg(long, value_name = "N", value_parser = positive)]
+    pub field: Option<usize>,
     /// Divide fields at this ASCII character [default: runs of blanks]
     #[arg(short, long, value_name = "CHAR", requires = "field", value_parser = one_byte)]
     pub delimiter: Option<u8>,
     /// Print the first line, or the first N lines, unchanged
     #[arg(long, value_name = "N", num_args = ..=1, require_equals = true,
-        default_missing_value = "1", conflicts_with = "texts")]
+        default_missing_value = "1", conflicts_with = "texts", value_parser = whole::<u64>)]
     pub header: Option<u64>,
     /// Print a JSON object for each text, also for a refused one
     #[arg(long, conflicts_with_all = ["field", "delimiter", "header"])]
@@ -151,7 +151,7 @@ impl Choices {
         let format = Format::whole()
             .largest(self.largest)
             .smallest(self.smallest)
-            .parts(self.parts.into())
+            .parts(self.parts)
             .style(self.style);
         match &self.units {
             Some(UnitList(units)) => format.only(units),
@@ -196,6 +196,30 @@ pub fn in_unit(nanos: u64, unit: TimeUnit, decimals: Option<u8>, round: Round) -
         number.truncate(number.trim_end_matches('0').trim_end_matches('.').len());
     }
     number
+}
+
+/// Rust's `parse` would also take a plus sign.
+fn whole<N: FromStr>(word: &str) -> Result<N, &'static str> {
+    if word.is_empty() || !word.bytes().all(|byte| byte.is_ascii_digit()) {
+        return Err("not a whole number");
+    }
+    word.parse().map_err(|_| "too large")
+}
+
+fn positive(word: &str) -> Result<usize, &'static str> {
+    let number = whole(word)?;
+    if number == 0 {
+        return Err("less than 1");
+    }
+    Ok(number)
+}
+
+fn up_to_nine(word: &str) -> Result<u8, &'static str> {
+    let number = whole(word)?;
+    if number > 9 {
+        return Err("more than 9");
+    }
+    Ok(number)
 }
 
 fn one_byte(text: &str) -> Result<u8, &'static str> {

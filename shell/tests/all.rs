@@ -120,6 +120,16 @@ fn answers_each_line() {
 }
 
 #[test]
+fn takes_large_numbers() {
+    let most = usize::MAX.to_string();
+    assert_eq!(answer(&["--parts", &most, "90"]), "1min 30s\n");
+    let errors = run(&["--field", "70000", "1h"], b"").2;
+    assert_eq!(errors, "duration: argument 1, field 70000: no such field\n");
+    let errors = run(&["--parts", &format!("{most}0"), "90"], b"").2;
+    assert!(errors.contains("'--parts <N>': too large\n"), "{errors}");
+}
+
+#[test]
 fn refuses_wrong_usage() {
     for words in [
         &["--completions", "elvish"][..],
@@ -153,7 +163,23 @@ fn refuses_wrong_usage() {
         ),
         (
             ["--parts", "-1", "1h"],
-            "invalid value '-1' for '--parts <N>': invalid digit found in string",
+            "invalid value '-1' for '--parts <N>': not a whole number",
+        ),
+        (
+            ["--field", "+1", "1h"],
+            "invalid value '+1' for '--field <N>': not a whole number",
+        ),
+        (
+            ["--header=0x1", "--field=1", "--quiet"],
+            "invalid value '0x1' for '--header[=<N>]': not a whole number",
+        ),
+        (
+            ["--parts", "0", "1h"],
+            "invalid value '0' for '--parts <N>': less than 1",
+        ),
+        (
+            ["--to=s", "--decimals=10", "1h"],
+            "invalid value '10' for '--decimals <N>': more than 9",
         ),
     ] {
         // Clap 4.0 begins some of these with a capital letter, and later versions don't.

@@ -150,4 +150,5 @@ if not TYPE_CHECKING:
         raise AttributeError(f"module {__name__!r} has no attribute {name!r}")
 
     def __dir__():
-        return sorted({*globals(), *__all__})
+        hidden = [name for name in globals() if name.startswith("_")]
+        return sorted([*__all__, "format", *hidden])

@@ -328,14 +328,21 @@ static PyObject *parse_ns(
     return PyLong_FromUnsignedLongLong(nanos);
 }
 
-/* Returns the timedelta of a digit. The state owns it. */
+/* Returns the timedelta of a digit. The state owns it. While it is made, another thread may keep
+ * another one, if the module datetime is that in Python. */
 static PyObject *term_of(struct state *state, int place, uint64_t digit) {
     PyObject **term = &state->terms[place][digit];
-    if (!*term) {
-        PyObject *micros = PyLong_FromUnsignedLongLong(digit * counted[place]);
-        *term = micros ? PyNumber_Multiply(state->kept[A_MICROSECOND], micros) : NULL;
-        Py_XDECREF(micros);
-    }
+    if (*term)
+        return *term;
+    PyObject *micros = PyLong_FromUnsignedLongLong(digit * counted[place]);
+    PyObject *made = micros ? PyNumber_Multiply(state->kept[A_MICROSECOND], micros) : NULL;
+    Py_XDECREF(micros);
+    if (!made)
+        return NULL;
+    if (*term)
+        Py_DECREF(made);
+    else
+        *term = made;
     return *term;
 }
 

@@ -26,8 +26,8 @@ pub const MAX_PRINTED_LEN: usize = 60;
 pub const HUMAN_BUFFER_SIZE: usize = 64;
 
 /// Prints a duration to the start of a buffer, and returns the text. The buffer's old contents do
-/// not matter. The text has at most `MAX_PRINTED_LEN` bytes, and bytes after it may change too. The
-/// call allocates nothing and cannot fail.
+/// not matter. The text has at most 60 bytes, and bytes after it may change too. The call allocates
+/// nothing and cannot fail.
 ///
 /// ```
 /// use duration_str::{HUMAN_BUFFER_SIZE, write_human};
@@ -63,8 +63,8 @@ pub const FORMAT_BUFFER_SIZE: usize = 144;
 /// The format has the chosen units and the greatest number of parts. A format without units prints
 /// every duration as zero seconds, such as `0s`.
 ///
-/// The text has at most `MAX_PRINTED_LEN` bytes, or `MAX_LONG_LEN` in the long style. Bytes after
-/// it may change too. The call allocates nothing and cannot fail.
+/// The text has at most 60 bytes, or 134 in the long style. Bytes after it may change too. The call
+/// allocates nothing and cannot fail.
 ///
 /// ```
 /// use duration_str::{FORMAT_BUFFER_SIZE, Format, Style, TimeUnit, write_format};
