@@ -14,6 +14,8 @@ import unicodedata
 SECOND = 10**9
 DAY = 86_400 * SECOND
 LIMIT = 2**64
+# All durations are below this many nanoseconds.
+TOO_LONG = 2**64 * SECOND
 
 
 class Unit(typing.NamedTuple):
@@ -41,6 +43,7 @@ UNITS = (
 )
 
 STYLES = ("short", "compact", "long")
+ROUNDINGS = ("down", "nearest", "up")
 
 PLACES = {name: place for place, unit in enumerate(UNITS) for name in unit.names.split()}
 
@@ -511,9 +514,31 @@ def counts_within(nanos, lengths, parts):
     return max(quotients(nanos, lengths, each) for each in chosen)
 
 
+def whole_within(nanos, lengths, parts):
+    """What the text of a duration stands for, in nanoseconds."""
+    counts = counts_within(nanos, lengths, parts)
+    return sum(count * length for count, length in zip(counts, lengths))
+
+
+@functools.lru_cache(1 << 16)
+def whole_from(nanos, lengths, parts):
+    """The least duration that prints whole and is not below this one, or None if there is none. The
+    text of a longer duration never stands for less. So the first duration whose text stands for
+    this one or for more prints whole, and can be found by bisection.
+    """
+    low, high = nanos, TOO_LONG
+    while low < high:
+        middle = (low + high) // 2
+        if whole_within(middle, lengths, parts) < nanos:
+            low = middle + 1
+        else:
+            high = middle
+    return low if low < TOO_LONG else None
+
+
 def search_small_worlds():
     """Fails if `counts_within` is not the greatest of all lists of counts, for some small sets of
-    short lengths.
+    short lengths, or if `whole_from` is not the next duration that prints whole.
     """
     for lengths in ((7, 3, 1), (5, 4, 2), (6, 4), (3,), ()):
         for nanos, parts in itertools.product(range(24), range(len(lengths) + 2)):
@@ -525,6 +550,11 @@ def search_small_worlds():
                 and sum(count * length for count, length in zip(counts, lengths)) <= nanos
             ]
             assert counts_within(nanos, lengths, parts) == max(allowed), (lengths, nanos, parts)
+            whole = [each for each in range(60) if whole_within(each, lengths, parts) == each]
+            later = next((each for each in whole if each >= nanos), None)
+            assert whole_from(nanos, lengths, parts) == later, (lengths, nanos, parts)
+            earlier = max(each for each in whole if each <= nanos)
+            assert whole_within(nanos, lengths, parts) == earlier, (lengths, nanos, parts)
 
 
 def break_down(nanos, units, parts):
@@ -532,6 +562,19 @@ def break_down(nanos, units, parts):
     of_unit = dict(zip(units, counts))
     rest = nanos - sum(count * unit.length for unit, count in of_unit.items())
     return [of_unit.get(unit, 0) for unit in UNITS], rest
+
+
+def round_to(nanos, units, parts, way):
+    """The nearest duration that prints whole: below this one, above it, or either. The result is
+    None if nothing is long enough.
+    """
+    lengths = tuple(unit.length for unit in units)
+    below = whole_within(nanos, lengths, parts)
+    if way == "down" or below == nanos:
+        return below
+    above = whole_from(nanos, lengths, parts)
+    is_below = above is None or nanos - below < above - nanos
+    return below if way == "nearest" and is_below else above
 
 
 def print_part(count, unit, style):

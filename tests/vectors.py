@@ -11,6 +11,7 @@ from reference_parser import (
     BLANKS,
     CHOICES,
     PLACES,
+    ROUNDINGS,
     SECOND,
     STYLES,
     UNITS,
@@ -81,7 +82,16 @@ def spaces_of(text, answer):
 def durations():
     """The rows of printed durations, each with its nanoseconds, its units and its parts."""
     rows = tables()
-    for row in rows["printed"] + rows["printed_as_zero"]:
+    yield from read_durations(rows["printed"] + rows["printed_as_zero"])
+
+
+def rounded():
+    """The same for the rows of rounded durations."""
+    yield from read_durations(tables()["rounded"])
+
+
+def read_durations(rows):
+    for row in rows:
         text, limits = row[:2]
         whole = re.fullmatch(r"(\d+) s (\d+) ns", text)
         length = int(whole[1]) * SECOND + int(whole[2]) if whole else Choice().answer(text).value
@@ -119,6 +129,14 @@ def differing():
             yield row, wanted
         if (row in rows["printed"]) != bool(units and parts):
             yield row, "the other table for it"
+    for row, length, units, parts in rounded():
+        lengths = (reference_parser.round_to(length, units, parts, way) for way in ROUNDINGS)
+        wanted = [
+            None if length is None else reference_parser.print_within(length, units, parts)
+            for length in lengths
+        ]
+        if row[2:] != wanted:
+            yield row, row[:2] + wanted
     if rows["styles"] != [*STYLES]:
         yield rows["styles"], STYLES
 

@@ -101,6 +101,9 @@ struct Vectors {
     printed: Vec<Printed>,
     /// Rows for which no unit or no part is left.
     printed_as_zero: Vec<Printed>,
+    /// A duration, how it is printed, and its text in the short style if it is rounded down, to the
+    /// nearest and up. The last is `None` if nothing is long enough.
+    rounded: Vec<(String, Limits, String, String, Option<String>)>,
     refused: Vec<Refused>,
 }
 

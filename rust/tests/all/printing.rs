@@ -1,7 +1,7 @@
 use crate::{Limits, Printed, vectors};
 use duration_str::{
-    Format, FormattedDuration, HumanDuration, HumanFormat, Options, Style, TimeUnit,
-    format_duration, parse_with, write_format, write_human,
+    Format, FormattedDuration, HumanDuration, HumanFormat, Options, Rounding, Style, TimeUnit,
+    format_duration, parse_with, round_to, write_format, write_human,
 };
 #[cfg(any(feature = "chrono", feature = "time"))]
 use proptest::prelude::*;
@@ -79,6 +79,26 @@ fn prints_the_vectors_and_breaks_them_down() {
         }
         if format == Format::whole() {
             prints_whole(length, short);
+        }
+    }
+}
+
+#[test]
+fn rounds_as_the_vectors_say() {
+    for (text, limits, down, nearest, up) in vectors().rounded {
+        let (units, first, last, parts) = limits.all();
+        let format = Format::whole().only(&units).largest(first);
+        let format = format.smallest(last).parts(parts);
+        let length = length_of(&text);
+        let longer = round_to(&length, format, Rounding::Up);
+        assert_eq!(longer.is_some(), up.is_some(), "{text}");
+        // Without a longer duration, `rounding` rounds down.
+        let up = up.unwrap_or_else(|| down.clone());
+        for printed in in_each_order(length, &limits, Style::Short) {
+            let rounded = |rounding| printed.rounding(rounding).to_string();
+            assert_eq!(rounded(Rounding::Down), down, "{text}");
+            assert_eq!(rounded(Rounding::Nearest), nearest, "{text}");
+            assert_eq!(rounded(Rounding::Up), up, "{text}");
         }
     }
 }
