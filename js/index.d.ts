@@ -85,8 +85,8 @@ export type Unit =
 // Made by tests/repository --write.
 export type PrintedUnit = "y" | "q" | "mon" | "w" | "d" | "h" | "min" | "s" | "ms" | "µs" | "ns";
 
-/** Which units are counted, and how many parts. A format must be a plain object, and only the
- * object's own properties count. */
+/** Which units are counted, how many parts, and how the duration is rounded. A format must be a
+ * plain object, and only the object's own properties count. */
 interface Counted<Name extends Unit> {
     /**
      * Only these units, in any order. A unit that is named twice counts once. With `["y", "d"]`,
@@ -100,6 +100,13 @@ interface Counted<Name extends Unit> {
     largest?: Name | undefined;
     /** The smallest unit. With `min`, 90 seconds are `1min`. */
     smallest?: Name | undefined;
+    /**
+     * How a duration is rounded if its text leaves something out: `down`, the default, or to the
+     * `nearest`, or `up`. The rounded duration is one whose text leaves nothing out. Of two that
+     * are as near, `nearest` takes the longer one. With `min` as the smallest unit, 90 seconds are
+     * `1min`, and rounded to the nearest they are `2min`.
+     */
+    rounding?: "down" | "nearest" | "up" | undefined;
 }
 
 /**
@@ -347,7 +354,7 @@ export function pattern(options?: Options): string;
  * less than 1e-10 ns below it may be rounded up too.
  *
  * @throws RangeError if the number is negative, 2^64 nanoseconds or more, NaN or infinite. It is
- * also thrown if the name of a unit or of the style is unknown, if `parts` is neither a whole
+ * also thrown if the name of a unit, a rounding or a style is unknown, if `parts` is neither a whole
  * number from 1 on nor `Infinity`, if the largest unit is shorter than the smallest, or if `units`
  * is empty or has no unit from the largest to the smallest.
  * @throws TypeError if the duration is not a number, if the format is not a plain object, or if an
@@ -372,7 +379,8 @@ export function formatNs(nanoseconds: bigint, format?: Format): string;
  * The parts are those that the printed text has, so a duration of 0 has none. The counts, each
  * times the length of its unit, and the rest are together the duration.
  *
- * A number with a fraction is rounded first, as by `format`.
+ * If you round to the `nearest` or `up`, the parts are those of the rounded duration, and the rest
+ * is 0. A number with a fraction is rounded to nanoseconds first, as by `format`.
  *
  * ```js
  * const { parts, restNs } = breakdown(193_029, { parts: 2 });

@@ -1,7 +1,5 @@
 """Lays out words of docs/GRAMMAR.md for the packages' documentation, and callers in Rattle for
 documents. tests/repository compares the result with what stands there, and writes it.
-
-Each place is a file, the text before and after what is copied, and what must stand between them.
 """
 import re
 import textwrap
@@ -106,7 +104,6 @@ def options_in_javascript(descriptions, sentences):
 
 
 def callers():
-    """The callers in a crate that the gate proves."""
     library, crate, answers = "crates/duration_str", "crates/service", "proofs/timeout/Answers.antt"
     caller = read(f"{crate}/src/lib.rt").partition("\npub mod ")[0]
     yield f"{library}/CALLING.md", "and is not refused.\n\n```rust\n", "```", caller

@@ -1,14 +1,12 @@
 """Checks what the documents say, for tests/repository: links, names, tables of texts, promises,
-quotes, spelling and pictures.
+quotes, versions that are needed, and spelling.
 """
-import filecmp
 import itertools
 import json
 import pathlib
 import re
 import shutil
 import subprocess
-import tempfile
 
 import reference_parser
 
@@ -31,9 +29,10 @@ def tracked_files(*patterns):
 # ---- Links, paths and names
 
 LINK = re.compile(r"\]\(([^)\s]+)\)|(?:src|srcset)=\"([^\"]+)\"")
-NAMED = re.compile(r"`(?:\w+::)*([A-Za-z]\w{3,})`")
-# Names that documents take from the toolchain and from Rust.
-FOREIGN = {"VecDeque", "Cursor"}
+NAMED = re.compile(r"`(?:\w+::)*([A-Za-z][\w-]{3,})`")
+# Names that documents take from Rust and from Debian's lintian.
+FOREIGN = {"Cursor", "VecDeque", "x86_64-unknown-none"}
+FOREIGN |= {"hardening-no-fortify-functions", "no-symbols-control-file"}
 # These documents name other libraries and earlier versions.
 ABOUT_OTHERS = {"CHANGELOG.md", "docs/MIGRATING.md"}
 
@@ -55,34 +54,11 @@ def wrong_links(name):
             yield f"{name}: leads nowhere: {target}"
 
 
-def named_path(name, path):
-    near = (ROOT, (ROOT / name).parent, CRATE, CRATE / "src", ROOT / "rust/core/src")
-    return next((folder / path for folder in near if (folder / path).exists()), None)
-
-
 def wrong_paths(name, folders):
+    near = (ROOT, (ROOT / name).parent, CRATE)
     for path in re.findall(rf"`((?:{'|'.join(folders)})/[\w./-]*)`", prose(name)):
-        if not named_path(name, path):
+        if not any((folder / path).exists() for folder in near):
             yield f"{name}: names a path that is not there: {path}"
-
-
-def names_elsewhere(name):
-    placed = r"((?:`[\w:]+`(?:,| and)? )+)(?:of `\w+` )?in `([\w./-]+)`"
-    for names, path in re.findall(placed, " ".join(prose(name).split())):
-        place = named_path(name, path)
-        if not place and not re.search("[./]", path):
-            continue
-        files = tracked_files(str(place.relative_to(ROOT))) if place else []
-        words = "".join((ROOT / file).read_text("utf-8", errors="replace") for file in files)
-        for each in set(re.findall(r"\w+", names.replace(" and ", " "))):
-            if not re.search(rf"\b{each}\b", words):
-                yield f"{name}: names {each} in {path}, which does not have it or is not there"
-
-
-def code_in_prose(name):
-    for code in re.findall(r"`([^`\n]+)`", prose(name)):
-        if re.search(r"\w\([^)]|;|\w -[\w-]+ .*\w", code):
-            yield f"{name}: has code in its prose, which nothing runs: {code}"
 
 
 def sentences_of(text):
@@ -309,8 +285,6 @@ def cases(column):
 
 
 def wrong_promises():
-    names = tracked_files("crates/*.rt", "crates/*.antt", "tests/*", "*.edits", "*.edit")
-    known = set(re.findall(r"\w+(?:-\w+)*", " ".join([*names, *map(read, names)])))
     heads = [["promise", "shown by", "hardest case", each] for each in ("answer", "printed")]
     for line in section(PROMISES, "## What is proved").splitlines():
         if re.match(r"$|### |\|-", line):
@@ -324,10 +298,6 @@ def wrong_promises():
             yield f"{PROMISES}: has not one sentence and what shows it: {line}"
         elif not TEXT_CASE.fullmatch(cells[2]) and not NAMED_CASE.fullmatch(cells[2]):
             yield f"{PROMISES}: has no text, test, row or wrong body: {cells[2]}"
-        elif NAMED_CASE.fullmatch(cells[2]):
-            cells[1] += cells[2]
-        if unknown := set(re.findall("`([^`]+)`", cells[1])) - known:
-            yield f"{PROMISES}: names what is nowhere: {', '.join(unknown)}"
 
 
 def other_sentences_on_proofs():
@@ -365,7 +335,8 @@ def wrong_names():
         for name in tracked_files()
     )
     texts = (text for text in sources if not text.split()[0].endswith((".md", ".svg")))
-    words = {word for text in texts for word in re.findall(r"\w+", text)}
+    forms = (r"\w+", r"\w+(?:-\w+)+")
+    words = {word for text in texts for form in forms for word in re.findall(form, text)}
     for name in set(tracked_files("*.md")) - ABOUT_OTHERS:
         for word in sorted(set(NAMED.findall(prose(name))) - words - FOREIGN):
             yield f"{name}: names what stands in no source: {word}"
@@ -374,6 +345,7 @@ def wrong_names():
 # ---- What the packages need
 
 
+# Users choose by these versions, and nothing else notices a document that has another one.
 def other_requirements():
     oldest = {
         "Rust": re.findall(r'^rust-version = "(.*)"', read("rust/Cargo.toml"), re.M),
@@ -381,55 +353,13 @@ def other_requirements():
         "Node": re.findall(r'"node": ">=(.*)"', read("js/package.json")),
     }
     for name in tracked_files("*.md"):
-        # JavaScript's package needs a library that Debian's Rust has only from a later version on.
-        text = re.sub(r"Debian's Rust\s+\S+", "", read(name))
-        for language, version in re.findall(r"(Rust|Python|Node)\s+([\d.]+) or\s+later", text):
+        needed = re.findall(r"(Rust|Python|Node)\s+([\d.]+) or\s+later", read(name))
+        for language, version in needed:
             if [version] != oldest[language]:
                 yield f"{name}: says {language} {version} or later, and not {oldest[language]}"
-    for language, (version,) in oldest.items():
-        if not f"{tried(language, min)}.".startswith(f"{version}."):
-            yield f"{TRIED}: has no system with {language} {version}, from which on all is promised"
 
 
-# ---- Versions that were tried
-
-TRIED = "tests/tried.json"
-VERSION = re.compile(r"\b([A-Z]?[A-Za-z]+(?: (?:make|sed))?) (\d+(?:\.\d+)*)")
-
-
-def tried(program, pick):
-    """The least or the newest version of a program in the systems that were tried."""
-    systems = json.loads(read(TRIED)).values()
-    versions = [system[program] for system in systems if program in system]
-    return pick(versions, key=lambda version: [*map(int, version.split("."))], default=None)
-
-
-def untried_versions():
-    for row in rows_of_tables(PROMISES):
-        for column, pick in ("least version", min), ("newest version", max):
-            for program, version in VERSION.findall(row.get(column, "")):
-                if program != "Debian" and version != (wanted := tried(program, pick)):
-                    yield f"{PROMISES}: {program} {version} is not the {column}, but {wanted}"
-        if "on" in row:
-            scripts = [pathlib.Path(each) for each in re.findall(r"`([\w/]+)", row["tried by"])]
-            files = tracked_files(*scripts, *(script.parent / "tests/*" for script in scripts))
-            code = "".join(map(read, files)).lower()
-            for runner in re.findall(r"`.+?`|Wine|Node|Chromium|Firefox|WebKit", row["on"]):
-                if runner.strip("`").lower() not in code:
-                    yield f"{PROMISES}: {row['tried by']} runs nothing on {runner}"
-    outside = re.sub(r"(?m)^\|.*\n", "", section(PROMISES, "## Where it runs"))
-    for program, version in VERSION.findall(outside):
-        if tried(program, min):
-            yield f"{PROMISES}: {program} {version} stands outside of the tables"
-    systems = " ".join(json.loads(read(TRIED)))
-    for name in tracked_files("*.md"):
-        releases = re.findall(r"Debian((?:,?\s(?:and |or )?(?:\d+|sid))+)", read(name))
-        for release in re.findall(r"\w+", re.sub("and|or", "", " ".join(releases))):
-            if f"Debian {release}" not in systems:
-                yield f"{name}: names Debian {release}, which is not in {TRIED}"
-
-
-# ---- Spelling and pictures
+# ---- Spelling
 
 
 def misspelt():
@@ -442,34 +372,16 @@ def misspelt():
     return subprocess.run(words, cwd=ROOT, capture_output=True, text=True).stdout.splitlines()
 
 
-def other_pictures():
-    if subprocess.run(
-        ["/usr/bin/python3", "-c", "import railroad"], capture_output=True
-    ).returncode:
-        print("repository: pictures skipped, railroad-diagrams is missing (make setup all=yes)")
-        return
-    with tempfile.TemporaryDirectory() as room:
-        drawn = subprocess.run([ROOT / "tools/pictures", room], capture_output=True, text=True)
-        if drawn.returncode:
-            yield f"tools/pictures: {drawn.stderr.strip()}"
-        for picture in pathlib.Path(room).iterdir():
-            if not filecmp.cmp(picture, ROOT / "docs/images" / picture.name, shallow=False):
-                yield f"docs/images/{picture.name}: is not what tools/pictures draws"
-
-
 def problems():
-    folders = sorted({name.split("/")[0] for name in tracked_files("*/**")})
+    folders = {name.split("/")[0] for name in tracked_files("*/**")} | {"proofs", "specs", "src"}
     for name in tracked_files("*.md"):
         yield from wrong_links(name)
         yield from wrong_paths(name, folders)
-        yield from names_elsewhere(name)
-    yield from code_in_prose("docs/MIGRATING.md")
     for each in (
         wrong_promises,
         other_sentences_on_proofs,
         other_quotes,
         other_requirements,
-        untried_versions,
         other_helps,
         other_lines,
         other_answers,
@@ -478,6 +390,5 @@ def problems():
         untested_examples,
         wrong_names,
         misspelt,
-        other_pictures,
     ):
         yield from each()

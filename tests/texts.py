@@ -12,7 +12,14 @@ import random
 import sys
 
 sys.dont_write_bytecode = True
-from reference_parser import LIMIT, NEAR_WORDS, SECOND, SMALL_WORDS, UNITS  # noqa: E402
+from reference_parser import (  # noqa: E402
+    LIMIT,
+    NEAR_WORDS,
+    SECOND,
+    SMALL_WORDS,
+    TOO_LONG,
+    UNITS,
+)
 
 
 # Characters of each kind: of numbers, of names, between words, and some that only look like those.
@@ -133,8 +140,21 @@ class Texts:
         return text
 
     def duration(self):
+        if self.random.random() < 0.5:
+            return self.near_half()
         secs = self.random.randrange(2 ** self.random.randint(1, 64))
         return secs, self.choice((0, 1, 999_999_999, self.random.randrange(SECOND)))
+
+    def near_half(self):
+        """A duration near the end or the middle of a unit, where it begins to be rounded otherwise,
+        or near the longest one.
+        """
+        count, halves = self.random.randrange(
+            2 ** self.random.randint(0, 62)
+        ), self.random.randrange(4)
+        nanos = count * self.choice(UNITS).length + halves * self.choice(UNITS).length // 2
+        nanos += self.random.randint(-1, 1)
+        return divmod(min(max(nanos, 0), TOO_LONG - 1), SECOND)
 
     def printed(self):
         """A duration, the number of a set of units, and the greatest number of parts."""

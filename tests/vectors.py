@@ -24,7 +24,6 @@ KINDS = (*reference_parser.KINDS, "end")
 
 
 def tables():
-    """Reads the tables anew, since tests/repository may have written some of them just now."""
     return json.loads((pathlib.Path(__file__).resolve().parent.parent / FILE).read_text("utf-8"))
 
 

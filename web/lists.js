@@ -1,4 +1,4 @@
-// Made by tests/repository --write.
+// The lists are made by tests/repository --write.
 
 /** All units, the longest first. Each has its names, of which the last two are the singular and the
  * plural, then the names that `cn_unit` adds, and words for which an error suggests the unit. */

@@ -4,8 +4,8 @@ import {
     ANSWER, calls, fields, loneSurrogateIn, output, start, TEXT, write, WRITTEN,
 } from "./memory.js";
 import {
-    ALL_UNITS, bitsOf, COUNTED_UNITS, countOf, formatOf, PARTS, READS_NUMBERS, styleOf, typeOf,
-    unitsLeft,
+    ALL_UNITS, bitsOf, COUNTED_UNITS, countOf, formatOf, PARTS, READS_NUMBERS, roundingOf, styleOf,
+    typeOf, unitsLeft,
 } from "./options.js";
 import { DurationError, faultOf, loneSurrogateAt } from "./refusals.js";
 
@@ -137,6 +137,22 @@ export function parse(value, options) {
 
 // ---- Printing
 
+/** Rounds a duration, as the option says. The call refuses nothing, since there is a unit and a
+ * part, and a duration below 2^64 ns can be rounded up in all of them. */
+function rounded({ low, high, nanos }, left, parts, name) {
+    const rounding = roundingOf(name);
+    if (rounding === 0) return { low, high, nanos };
+    fields.setInt32(WRITTEN, low, true);
+    fields.setInt32(WRITTEN + 4, high, true);
+    fields.setInt32(WRITTEN + 8, nanos, true);
+    calls.duration_str_round(WRITTEN, WRITTEN + 8, left, parts, rounding);
+    return {
+        low: fields.getInt32(WRITTEN, true),
+        high: fields.getInt32(WRITTEN + 4, true),
+        nanos: fields.getInt32(WRITTEN + 8, true),
+    };
+}
+
 /** Prints the duration at ANSWER. */
 function print(options) {
     if (options === undefined) {
@@ -146,11 +162,14 @@ function print(options) {
     }
     // The duration is taken before the options are looked at, since an option may have a getter
     // that calls this package.
-    const { low, high, nanos } = secondsAndNanos();
+    let { low, high, nanos } = secondsAndNanos();
     const chosen = formatOf(options, true);
     const { left } = unitsLeft(chosen, ALL_UNITS, "y");
     const parts = countOf(chosen.parts);
     const style = styleOf(chosen.style);
+    if (chosen.rounding !== undefined) {
+        ({ low, high, nanos } = rounded({ low, high, nanos }, left, parts, chosen.rounding));
+    }
     const length = calls.duration_str_format_with(low, high, nanos, left, parts, style, WRITTEN);
     return output(length);
 }
@@ -185,13 +204,17 @@ function breakDown(value, options, all, longest) {
         throw new TypeError(`a duration is ${wanted}, not ${typeOf(value)}`);
     }
     put(value);
-    const { low, high, nanos } = secondsAndNanos();
+    let { low, high, nanos } = secondsAndNanos();
     const chosen = formatOf(options, false);
     const { left, named } = unitsLeft(chosen, all, longest);
     // `breakdown` counts all units, and `parts` all except the quarter.
     if (named & ~all) throw new RangeError("parts has no quarters");
     const most = countOf(chosen.parts);
-    // The call refuses nothing, since the duration is below 2^64 ns.
+    if (chosen.rounding !== undefined) {
+        ({ low, high, nanos } = rounded({ low, high, nanos }, left, most, chosen.rounding));
+    }
+    // The call refuses nothing, since no count reaches 2^64. The duration is below 2^64 ns, and if
+    // rounding changes it, the longest unit is longer than a nanosecond.
     calls.duration_str_breakdown(low, high, nanos, left, most, WRITTEN, ANSWER);
     return left;
 }

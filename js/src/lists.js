@@ -1,9 +1,11 @@
-// Made by tests/repository --write.
+// The lists are made by tests/repository --write.
 
 /** The printed names of the units, in the order of `enum duration_str_time_unit`. */
 export const UNITS = ["y", "q", "mon", "w", "d", "h", "min", "s", "ms", "µs", "ns"];
 /** The styles, in the order of `enum duration_str_style`. */
 export const STYLES = ["short", "compact", "long"];
+/** The ways of rounding, in the order of `enum duration_str_rounding`. */
+export const ROUNDINGS = ["down", "nearest", "up"];
 /** The codes of answers, at the places of their numbers. */
 export const CODES = ["READ", "EMPTY", "SYNTAX", "NUMBER_TOO_LARGE", "OVERFLOW", "MIXED", "OUT_OF_RANGE", "NOT_TEXT"];
 /** Patterns of sentences: without options, with `noCalc`, with `requireUnit`, and with both. U

@@ -5,7 +5,7 @@ import { instance } from "instance";
 const PAGE = 65_536;
 const LONE_SURROGATE = /[\ud800-\udfff]/gu;
 
-/** The size of the buffer that the module writes to. The longest report fits. */
+/** The longest report fits. */
 const WRITTEN_SIZE = 867;
 /** A text to read is short if it has at most this many UTF-16 units. */
 const SHORT_TEXT = 40;

@@ -1,4 +1,4 @@
-import { STYLES, UNITS } from "./lists.js";
+import { ROUNDINGS, STYLES, UNITS } from "./lists.js";
 import { calls, start, TEXT, write } from "./memory.js";
 
 /** The names of the units in `parts`, which has no quarters. */
@@ -103,14 +103,18 @@ export function bitsOf(options) {
 
 // ---- Formats
 
-export function styleOf(name) {
+/** The position of an option's name in the list of those that there are. */
+function placeOf(option, name, names) {
     if (typeof name !== "string") {
-        throw new TypeError(`the option style must be a string, not ${typeOf(name)}`);
+        throw new TypeError(`the option ${option} must be a string, not ${typeOf(name)}`);
     }
-    const number = STYLES.indexOf(name);
-    if (number >= 0) return number;
-    throw new RangeError(`the option style must be one of ${STYLES.join(", ")}, not ${name}`);
+    const place = names.indexOf(name);
+    if (place >= 0) return place;
+    throw new RangeError(`the option ${option} must be one of ${names.join(", ")}, not ${name}`);
 }
+
+export const styleOf = (name) => placeOf("style", name, STYLES);
+export const roundingOf = (name) => placeOf("rounding", name, ROUNDINGS);
 
 function unitsOf(names) {
     if (!Array.isArray(names)) {
@@ -134,11 +138,11 @@ export function countOf(parts) {
 }
 
 /** The names of the options for printing. For counting there is no style. */
-const FORMAT = ["units", "largest", "smallest", "parts", "style"];
+const FORMAT = ["units", "largest", "smallest", "parts", "rounding", "style"];
 
 export function formatOf(options, hasStyle) {
     checkPlain(options);
-    let units, largest, smallest = "ns", parts = Infinity, style = "short";
+    let units, largest, smallest = "ns", parts = Infinity, rounding, style = "short";
     for (const name of Object.keys(options)) {
         if (!FORMAT.includes(name)) throw unknown(name);
         const value = options[name];
@@ -147,10 +151,11 @@ export function formatOf(options, hasStyle) {
         else if (name === "largest") largest = value;
         else if (name === "smallest") smallest = value;
         else if (name === "parts") parts = value;
+        else if (name === "rounding") rounding = value;
         else if (hasStyle) style = value;
         else throw unknown(name);
     }
-    return { units, largest, smallest, parts, style };
+    return { units, largest, smallest, parts, rounding, style };
 }
 
 /** `left` has the units that a format allows. `named` also has all others that its options name. If

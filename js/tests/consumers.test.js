@@ -169,6 +169,7 @@ test("prints in plain JavaScript as in WebAssembly", async () => {
         for (const value of [(1n << bits) - 1n, (0xfedcba9876543210n >> (64n - bits))]) {
             for (const options of [
                 undefined, { style: "compact" }, { style: "long", largest: "d", parts: 2 },
+                { parts: 1, rounding: "nearest" }, { smallest: "y", rounding: "up" },
             ]) {
                 assert.equal(plain.formatNs(value, options), compiled.formatNs(value, options));
             }

@@ -1,12 +1,17 @@
 // `node durstr.js [OPTION..]` answers each line of the standard input. It writes the nanoseconds
 // and the printed duration, or why the line is refused. Options are named as in vectors.json, such
 // as `no_calc` or `default_unit=ms`. The status is 0 if all lines are read, and otherwise 1.
+//
+// `node durstr.js rounded` prints durations that are rounded down, to the nearest and up. Each line
+// has the nanoseconds, the number of a set of units, and the greatest number of parts.
 import { readFileSync, writeFileSync } from "node:fs";
 
 import { formatNs, tryParseNs } from "duration-str";
+import { ROUNDINGS, UNITS } from "../src/lists.js";
 import { optionsOf } from "./vectors.js";
 
-const options = optionsOf(process.argv.slice(2));
+const isRounded = process.argv[2] === "rounded";
+const options = isRounded ? undefined : optionsOf(process.argv.slice(2));
 const strict = new TextDecoder("utf-8", { fatal: true, ignoreBOM: true });
 
 function answer(line) {
@@ -20,9 +25,19 @@ function answer(line) {
     return ok ? [`${value} ${formatNs(value)}`, true] : [String(fault), false];
 }
 
+function rounded(line) {
+    const [nanos, bits, parts] = line.split(" ");
+    const units = UNITS.filter((_, place) => bits >> place & 1);
+    const texts = ROUNDINGS.map((rounding) =>
+        formatNs(BigInt(nanos), { units, parts: Number(parts), rounding }));
+    return [texts.join(", "), true];
+}
+
 // The last line may lack its line feed.
 const lines = readFileSync(0, "latin1").split("\n");
 if (lines.at(-1) === "") lines.pop();
-const answers = lines.map((line) => answer(Buffer.from(line, "latin1")));
+const answers = lines.map(
+    (line) => isRounded ? rounded(line) : answer(Buffer.from(line, "latin1")),
+);
 writeFileSync(1, answers.map(([output]) => `${output}\n`).join(""));
 process.exitCode = answers.every(([, read]) => read) ? 0 : 1;

@@ -39,6 +39,45 @@ test("prints the vectors, and breaks them down", () => {
     }
 });
 
+test("rounds as the vectors say", () => {
+    for (const [text, limits, ...texts] of VECTORS.rounded) {
+        if (!tryParseNs(text).ok) continue;
+        const value = parseNs(text);
+        for (const [place, rounding] of ["down", "nearest", "up"].entries()) {
+            const printed = texts[place];
+            const options = { ...limits, rounding };
+            assert.equal(formatNs(value, options), printed, text);
+            const compact = printed.replaceAll(" ", "");
+            assert.equal(formatNs(value, { ...options, style: "compact" }), compact, text);
+            const { parts: counted, restNs } = breakdown(value, options);
+            const joined = counted.map(({ count, unit }) => `${count}${unit}`).join(" ");
+            assert.equal(joined, printed.startsWith("0") ? "" : printed, text);
+            if (rounding === "down") continue;
+            assert.equal(restNs, 0n);
+            const total = counted.reduce((sum, { count, unit }) => sum + count * LENGTHS[unit], 0n);
+            if (total < 2n ** 64n) assert.equal(formatNs(total, limits), printed);
+        }
+    }
+});
+
+test("rounds milliseconds, and the counts for Intl", () => {
+    const nearest = { smallest: "min", rounding: "nearest" };
+    assert.equal(format(5_429_999.5, nearest), "1h 30min");
+    assert.equal(format(5_430_000, nearest), "1h 31min");
+    assert.deepEqual(parts(5_430_000, nearest), { hours: 1, minutes: 31 });
+    assert.deepEqual(parts(29_999, nearest), { minutes: 0 });
+    assert.deepEqual(parts(7_199_000, { parts: 1, rounding: "up" }), { hours: 2 });
+    assert.deepEqual(parts(7_199_000, { parts: 1, rounding: "down" }), { hours: 1 });
+    // Without quarters 4mon come after 3mon, and 1mon after 4w.
+    const weeks = { units: ["mon", "w"], parts: 1, rounding: "up" };
+    assert.deepEqual(parts(91n * DAY, weeks), { months: 4 });
+    assert.deepEqual(parts(29n * DAY, weeks), { months: 1 });
+    const years = { units: ["y"], rounding: "up" };
+    assert.deepEqual(breakdown(2n ** 64n - 1n, years), {
+        parts: [{ count: 585n, unit: "y" }], restNs: 0n,
+    });
+});
+
 test("prints texts of each length", () => {
     // The counts differ, so that none can stand in the place of another.
     const counts = {
@@ -63,7 +102,7 @@ test("prints texts of each length", () => {
 });
 
 test("leaves out options that are undefined, in each call", () => {
-    const names = ["units", "largest", "smallest", "parts", "style"];
+    const names = ["units", "largest", "smallest", "parts", "rounding", "style"];
     const options = Object.fromEntries(names.map((name) => [name, undefined]));
     for (const call of [format, formatNs, breakdown, parts]) {
         const value = call === format ? 90_061_000 : 90_061_000_000_000n;
@@ -136,6 +175,11 @@ test("refuses formats that there are not", () => {
         ],
         [{ style: "wide" }, new RangeError(`${style} wide`)],
         [{ style: 1 }, new TypeError("the option style must be a string, not number")],
+        [
+            { rounding: "Up" },
+            new RangeError("the option rounding must be one of down, nearest, up, not Up"),
+        ],
+        [{ rounding: null }, new TypeError("the option rounding must be a string, not null")],
         [{ parts: "2" }, new TypeError("the option parts must be a number, not string")],
         // None of these names a unit if all options are off.
         ...["x", "", "d 6d", "1d", " d", "d*1d", "分", "__proto__"].map(
@@ -247,11 +291,14 @@ test("knows whole names only", () => {
             assert.equal(formatNs(value, Object.assign({}, ...limits)), `7${NAMES[place]}`);
         }
     }
-    for (const style of near(VECTORS.styles)) {
-        if (VECTORS.styles.includes(style)) continue;
-        refuses("RangeError", { style }, (words) => format(5, words));
+    const roundings = ["down", "nearest", "up"];
+    for (const [option, known] of [["style", VECTORS.styles], ["rounding", roundings]]) {
+        for (const word of near(known)) {
+            if (known.includes(word)) continue;
+            refuses("RangeError", { [option]: word }, (words) => format(5, words));
+        }
     }
-    const formats = ["units", "largest", "smallest", "parts", "style"];
+    const formats = ["units", "largest", "smallest", "parts", "rounding", "style"];
     const options = ["noCalc", "lowercase", "cnUnit", "requireUnit", "defaultUnit"];
     for (const name of near([...formats, ...options])) {
         const words = { [name]: undefined };
@@ -300,7 +347,7 @@ test("prints milliseconds", () => {
 
 test("reads each option once", () => {
     const values = {
-        units: ["h", "min"], largest: "h", smallest: "min", parts: 1, style: "long",
+        units: ["h", "min"], largest: "h", smallest: "min", parts: 1, rounding: "up", style: "long",
     };
     for (const call of [format, breakdown, parts]) {
         const read = [];

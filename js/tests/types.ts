@@ -27,7 +27,9 @@ function chosen(unit: Unit | undefined, isRequired: boolean | undefined): Option
     return [{ defaultUnit: unit }, { requireUnit: isRequired }, { noCalc: isRequired }];
 }
 const milliseconds: number = parse("1m 30s", {});
-const asked: Format = { parts: 2, largest: "d", smallest: "us", style: "long" };
+const asked: Format = {
+    parts: 2, largest: "d", smallest: "us", rounding: "nearest", style: "long",
+};
 const texts: string[] = [
     formatNs(nanoseconds),
     format(milliseconds),
@@ -37,10 +39,12 @@ const texts: string[] = [
     pattern(options),
     pattern({ defaultUnit: "ms", cnUnit: true }),
 ];
-const counting: PartFormat = { largest: "y", units: ["years", "d"], style: undefined };
+const counting: PartFormat = {
+    largest: "y", units: ["years", "d"], rounding: "up", style: undefined,
+};
 const counted: Parts = parts(nanoseconds, counting);
 const hours: number = counted.hours ?? 0;
-const broken: Breakdown = breakdown(nanoseconds, { largest: "days", smallest: "us", parts: 2 });
+const broken: Breakdown = breakdown(nanoseconds, { largest: "days", rounding: "up" });
 const rest: bigint = broken.restNs + breakdown(milliseconds, { style: undefined }).restNs;
 const words: Record<PrintedUnit, string> = {
     y: "a", q: "b", mon: "c", w: "d", d: "e", h: "f", min: "g", s: "h", ms: "i", µs: "j", ns: "k",
@@ -113,6 +117,8 @@ formatNs(1n, { units: "d" });
 format(1, { unit: "d" });
 // @ts-expect-error: no style
 formatNs(1n, { style: "wide" });
+// @ts-expect-error: no rounding
+formatNs(1n, { rounding: "half" });
 // @ts-expect-error: a breakdown has no style
 breakdown(1n, { style: "long" });
 // @ts-expect-error: a breakdown has no style, and this format can have one

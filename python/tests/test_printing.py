@@ -14,6 +14,7 @@ from duration_str import (
     Breakdown,
     DurationError,
     Part,
+    Rounding,
     Style,
     Unit,
     breakdown,
@@ -44,12 +45,16 @@ LENGTHS = {unit: parse_ns(f"1{unit}") for unit in UNITS}
 
 
 def check_breakdown(test, nanos, **words):
-    """The parts must be those that are printed. With the rest they must add up to the duration."""
+    """The parts must be those that are printed. With the rest they must add up to the duration.
+    Returns that sum."""
     parts, rest_ns = breakdown(nanos, **words)
     printed = format(nanos, **words)
     joined = " ".join(f"{count}{unit}" for count, unit in parts)
     test.assertEqual(joined, "" if printed.startswith("0") else printed)
-    test.assertEqual(sum(count * LENGTHS[unit] for count, unit in parts) + rest_ns, nanos)
+    total = sum(count * LENGTHS[unit] for count, unit in parts) + rest_ns
+    if words.get("rounding", "down") == "down":
+        test.assertEqual(total, nanos)
+    return total
 
 
 class Printing(unittest.TestCase):
@@ -88,6 +93,33 @@ assert {type(each).__module__ for each in [broken, *broken.parts]} == {"duration
                 with self.subTest(text=text, **limits):
                     self.assertRaises(ValueError, call, length_of(text), **limits)
         self.assertRaises(OverflowError, format, 2**64 * SECOND)
+
+    def test_rounds_as_the_vectors_say(self):
+        for text, limits, *texts in VECTORS["rounded"]:
+            value = length_of(text)
+            self.assertEqual(format(value, **limits), texts[0])
+            for rounding, printed in zip(typing.get_args(Rounding), texts):
+                words = {**limits, "rounding": rounding}
+                with self.subTest(text=text, **words):
+                    if printed is None:
+                        line = "seconds is long enough for rounding='up'$"
+                        for call in [format, breakdown]:
+                            self.assertRaisesRegex(ValueError, line, call, value, **words)
+                        with self.assertRaisesRegex(ValueError, f"^at index 1: no .* {line}"):
+                            format_many([0, value], **words)
+                        continue
+                    self.assertEqual(format(value, **words), printed)
+                    compact = printed.replace(" ", "")
+                    self.assertEqual(format(value, style="compact", **words), compact)
+                    self.assertEqual(format_many([value, None], **words), [printed, None])
+                    total = check_breakdown(self, value, **words)
+                    if rounding != "down":
+                        self.assertEqual(breakdown(value, **words).rest_ns, 0)
+                        # A text that is printed whole is what it stands for.
+                        self.assertEqual(format(total, **limits), printed)
+                    if value % 1000 == 0 and value < 2**64:
+                        length = datetime.timedelta(microseconds=value // 1000)
+                        self.assertEqual(format(length, **words), printed)
 
     def test_prints_a_timedelta(self):
         for value in [
@@ -152,6 +184,18 @@ assert {type(each).__module__ for each in [broken, *broken.parts]} == {"duration
             for style in ("Long", "")
         ]
         rows += [({"style": style}, TypeError, "^style must be one of") for style in (None, 2)]
+        rows += [
+            (
+                {"rounding": rounding},
+                ValueError,
+                f"^rounding must be one of down, nearest, up, not {rounding!r}$",
+            )
+            for rounding in ("Up", "half", "")
+        ]
+        rows += [
+            ({"rounding": rounding}, TypeError, "^rounding must be one of")
+            for rounding in (None, True)
+        ]
         rows += [
             ({"parts": value}, TypeError, "parts must be a whole number")
             for value in (1.0, 1.5, "2", None, True)
@@ -220,7 +264,7 @@ assert {type(each).__module__ for each in [broken, *broken.parts]} == {"duration
                 call(*values, **words)
 
         small = str.maketrans(string.ascii_uppercase, string.ascii_lowercase)
-        units, styles = typing.get_args(Unit), typing.get_args(Style)
+        units = typing.get_args(Unit)
         for word in near(units):
             if word.translate(small) in units:
                 nanos = parse_ns(f"7{word}")
@@ -230,8 +274,10 @@ assert {type(each).__module__ for each in [broken, *broken.parts]} == {"duration
             for limits in ({"largest": word}, {"smallest": word}, {"units": [word]}):
                 refuses(word, ValueError, format, 5, **limits)
             refuses(word, ValueError, parse_ns, "5", default_unit=word)
-        for word in near(styles) - {*styles}:
-            refuses(word, ValueError, format, 5, style=word)
+        for keyword, kind in (("rounding", Rounding), ("style", Style)):
+            words = typing.get_args(kind)
+            for word in near(words) - {*words}:
+                refuses(word, ValueError, format, 5, **{keyword: word})
         for call, value in ((parse_ns, "5"), (format, 5), (breakdown, 5)):
             names = {*inspect.signature(call).parameters}
             for word in near(names) - names:

@@ -37,12 +37,14 @@ part: duration_str.Part = duration_str.breakdown(numpy.timedelta64(5, "s")).part
 assert_type(part.unit, duration_str.PrintedUnit)
 count, printed = part
 assert_type(duration_str.format(count, largest=printed), str)
+assert_type(duration_str.breakdown(5, rounding="up"), duration_str.Breakdown)
 duration_str.breakdown(5, style="long")  # type: ignore[call-arg]
 duration_str.breakdown(5, largest="mins")  # type: ignore[arg-type]
 duration_str.breakdown("1m")  # type: ignore[arg-type]
 unit: duration_str.Unit = "h"
 style: duration_str.Style = "long"
-assert_type(duration_str.format(5, largest=unit, style=style), str)
+rounding: duration_str.Rounding = "nearest"
+assert_type(duration_str.format(5, largest=unit, rounding=rounding, style=style), str)
 assert_type(duration_str.format(5, units=["years", "d"]), str)
 assert_type(duration_str.parse("1500", default_unit="ms"), datetime.timedelta)
 assert_type(duration_str.parse_many(["1500"], default_unit="ms"), array[int])
@@ -59,6 +61,8 @@ duration_str.format(5, units=["mins"])  # type: ignore[list-item]
 duration_str.format(5, units=5)  # type: ignore[arg-type]
 duration_str.format(5, largest="mins")  # type: ignore[arg-type]
 duration_str.format(5, style="words")  # type: ignore[arg-type]
+duration_str.format(5, rounding="half")  # type: ignore[arg-type]
+duration_str.format_many([5], rounding="half")  # type: ignore[arg-type]
 duration_str.format(5, parts=1.5)  # type: ignore[arg-type]
 duration_str.format_many([5], smallest="secs")  # type: ignore[arg-type]
 duration_str.format("1m")  # type: ignore[arg-type]

@@ -301,6 +301,22 @@ impl RoundedDuration {
         self.0.get_ref()
     }
 
+    /// Returns the text that [`ToString`](alloc::string::ToString) would return, faster, as
+    /// [`FormattedDuration::to_string`] does.
+    ///
+    /// ```
+    /// use duration_str::{Rounding, format_duration};
+    /// use std::time::Duration;
+    ///
+    /// let build = format_duration(Duration::from_secs(7_199)).parts(1);
+    /// assert_eq!(build.rounding(Rounding::Nearest).to_string(), "2h");
+    /// ```
+    #[expect(clippy::inherent_to_string_shadow_display, reason = "the same text")]
+    #[must_use]
+    pub fn to_string(&self) -> String {
+        self.0.to_string()
+    }
+
     /// Returns the parts as numbers, as [`FormattedDuration::breakdown`] does.
     ///
     /// ```

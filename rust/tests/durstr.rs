@@ -1,11 +1,32 @@
 //! For tests/compare: prints the value and the duration of each line of the input, or the line of
 //! the refusal. The words are those of the program durstr, `require_unit`, and a default unit, such
 //! as `default_unit=ms`. The status is 0 if all lines are read, and 1 if some are refused.
+//!
+//! With the word `rounded` it prints durations that are rounded down, to the nearest and up. Each
+//! line has the nanoseconds, the number of a set of units, and the greatest number of parts.
 #![forbid(unsafe_code)]
 
-use duration_str::{Options, TimeUnit, format_duration, parse_with_default_unit};
+use duration_str::{Options, Rounding, TimeUnit, format_duration, parse_with_default_unit};
 use std::io::Read;
 use std::process::ExitCode;
+use std::time::Duration;
+
+fn print_rounded(line: &str) {
+    let numbers: Vec<u128> = line.split(' ').map(|each| each.parse().unwrap()).collect();
+    let chosen = |place: usize| numbers[1] >> place & 1 == 1;
+    let units = TimeUnit::ALL.iter().enumerate();
+    let units: Vec<TimeUnit> = units
+        .filter(|(place, _)| chosen(*place))
+        .map(|(_, unit)| *unit)
+        .collect();
+    let secs = (numbers[0] / 1_000_000_000).try_into().unwrap();
+    let nanos = (numbers[0] % 1_000_000_000).try_into().unwrap();
+    let printed = format_duration(Duration::new(secs, nanos)).only(&units);
+    let printed = printed.parts(numbers[2].try_into().unwrap());
+    let rounded = |rounding| printed.rounding(rounding).to_string();
+    let [down, nearest, up] = [Rounding::Down, Rounding::Nearest, Rounding::Up].map(rounded);
+    println!("{down}, {nearest}, {up}");
+}
 
 fn main() -> ExitCode {
     let is_on = |name: &str| std::env::args().skip(1).any(|word| word == name);
@@ -23,6 +44,13 @@ fn main() -> ExitCode {
     };
     let mut input = Vec::new();
     std::io::stdin().read_to_end(&mut input).expect("an input");
+    if is_on("rounded") {
+        String::from_utf8(input)
+            .unwrap()
+            .lines()
+            .for_each(print_rounded);
+        return ExitCode::SUCCESS;
+    }
     let mut refusals = 0;
     for line in input.split_inclusive(|byte| *byte == b'\n') {
         let line = line.strip_suffix(b"\n").unwrap_or(line);

@@ -1,8 +1,7 @@
-// Made by tests/repository --write.
+// The lists are made by tests/repository --write.
 
 /// A short name of each unit, in ASCII.
 pub const UNITS: [&str; 11] = ["y", "q", "mon", "w", "d", "h", "min", "s", "ms", "us", "ns"];
-/// The styles.
 pub const STYLES: [&str; 3] = ["short", "compact", "long"];
 /// Patterns of sentences: without options, without operators, with units required, and with both. U
 /// stands for a unit.

@@ -181,7 +181,6 @@ def line_of(text, *options):
 
 
 def one_of_each(rows, kind):
-    """The first row of each kind."""
     return list({kind(row): row for row in reversed(rows)}.values())
 
 

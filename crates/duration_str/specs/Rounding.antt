@@ -54,3 +54,7 @@ IsRounded Up = IsRoundedUp
 -- Each duration up to `Duration::MAX` that prints whole is below `nanos`.
 abbrev pub NoneAbove : Format → ℕ → Type 0
 NoneAbove format nanos = (other : ℕ) → FitsDuration other → PrintsWhole format other → other < nanos
+
+-- No duration but 0 prints whole.
+abbrev pub OnlyZero : Format → Type 0
+OnlyZero format = (other : ℕ) → PrintsWhole format other → other ≡ 0

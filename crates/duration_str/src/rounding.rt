@@ -1,7 +1,7 @@
 //! Durations rounded to those that print whole in a format.
 ghost use Rattle.std.specs.Prelude.{◌≡◌, ◌+◌, ◌-◌, ◌≤◌, ◌↔◌, IfNone, IfSome, IsSome, ◌^◌, ◌*◌};
 ghost use Rattle.std.specs.Duration.{FitsDuration, as_nanos};
-ghost use Rattle.duration_str.specs.Rounding.{IsRounded, IsRoundedDown, IsRoundedUp, NoneAbove};
+ghost use Rattle.duration_str.specs.Rounding.{IsRounded, IsRoundedDown, IsRoundedUp, NoneAbove, OnlyZero};
 ghost use Rattle.duration_str.specs.declared.rounding.Rounding.TheVariants.{Up};
 
 use crate::breakdown::longest;
@@ -60,65 +60,62 @@ pub fn round_to(d: &Duration, format: Format, rounding: Rounding) -> Option<Dura
 
 /// Returns the greatest duration that prints whole and is not above this one, and the least that is
 /// not below it, if there is one up to `Duration::MAX`.
+#[inline(always)]
 fn neighbors(d: Duration, format: Format) -> (Duration, Option<Duration>)
     ensures down { IsRoundedDown format (as_nanos d) (as_nanos result.0) }
     ensures some { IfSome result.1 (λ up. IsRoundedUp format (as_nanos d) (as_nanos up)) }
     ensures none { IfNone result.1 (NoneAbove format (as_nanos d)) }
 {
-    let nanos = d.as_nanos();
-    let (below, above) = distances(nanos, format);
-    let down = duration_of(nanos - below);
-    if nanos + above == TOO_LONG {
-        return (down, None);
-    }
-    (down, Some(duration_of(nanos + above)))
+    let Some((below, above)) = distances(d.as_nanos(), format) else {
+        return (Duration::ZERO, zero(d));
+    };
+    let down = d.saturating_sub(Duration::from_nanos(below));
+    (down, d.checked_add(Duration::from_nanos(above)))
 }
 
-/// The least number of nanoseconds that is too large for a `Duration`.
-const TOO_LONG: u128 = 1_000_000_000 << 64;
+fn zero(d: Duration) -> Option<Duration>
+    ensures some { IfSome result (λ zero. (as_nanos zero ≡ 0) × (as_nanos d ≡ 0)) }
+    ensures none { IfNone result (1 ≤ as_nanos d) }
+{
+    if d.is_zero() { Some(d) } else { None }
+}
 
-/// Returns how far the duration is from the two that [`neighbors`] returns. If there is only one,
-/// the second distance is the one to `TOO_LONG`.
+/// Returns how far the duration is from the two that [`neighbors`] returns, or `None` if the format
+/// has no units or no parts, so that only a duration of 0 prints whole.
 ///
 /// The duration that prints whole and comes next after the given one has one count that is greater
 /// by one, and no parts after it. So for each unit it is compared with the one whose count of that
-/// unit is the next.
-fn distances(nanos: u128, format: Format) -> (u128, u128)
-    requires fits { FitsDuration nanos }
-    ensures below { result.0 ≤ nanos }
-    ensures down { IsRoundedDown format nanos (nanos - result.0) }
-    ensures above { result.1 ≤ 2 ^ 64 * 1_000_000_000 - nanos }
-    ensures up { FitsDuration (nanos + result.1) → IsRoundedUp format nanos (nanos + result.1) }
-    ensures none { nanos + result.1 ≡ 2 ^ 64 * 1_000_000_000 → NoneAbove format nanos }
+/// unit is the next. What the longest unit leaves has 64 bits.
+fn distances(nanos: u128, format: Format) -> Option<(u64, u64)>
+    ensures below { IfSome result (λ each. each.0 ≤ nanos) }
+    ensures down { IfSome result (λ each. IsRoundedDown format nanos (nanos - each.0)) }
+    ensures up { IfSome result (λ each. IsRoundedUp format nanos (nanos + each.1)) }
+    ensures none { IfNone result (OnlyZero format) }
 {
-    let mut bits = u32::from(format.units.bits());
+    let (first, mut bits) = longest(u32::from(format.units.bits()))?;
+    if format.parts == 0 {
+        return None;
+    }
+    let (count, left) = first.wide_division(nanos);
     let mut most = format.parts;
-    let mut rest = nanos;
-    let mut above = TOO_LONG - nanos;
+    if count > 0 {
+        most -= 1;
+    }
+    let mut rest = left as u64;
+    let mut above = first.nanos - rest;
     while let Some((row, others)) = longest(bits) {
         if most == 0 || rest == 0 {
             break;
         }
-        let (count, left) = row.wide_division(rest);
-        above = above.min(u128::from(row.nanos) - left);
-        if count > 0 {
+        if row.nanos <= rest {
             most -= 1;
+            rest = row.division(rest).1;
         }
-        rest = left;
+        above = above.min(row.nanos - rest);
         bits = others;
     }
     if rest == 0 {
-        return (0, 0);
+        return Some((0, 0));
     }
-    (rest, above)
-}
-
-fn duration_of(nanos: u128) -> Duration
-    requires { FitsDuration nanos }
-    ensures { as_nanos result ≡ nanos }
-{
-    Duration::new(
-        (nanos / 1_000_000_000) as u64,
-        (nanos % 1_000_000_000) as u32,
-    )
+    Some((rest, above))
 }

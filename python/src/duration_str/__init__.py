@@ -52,14 +52,14 @@ To read a text:
 To print an int of nanoseconds or a timedelta:
 
 format(value, /, *, parts=11, units=None, largest="y", smallest="ns",
-       style="short")
+       rounding="down", style="short")
 
 To get the counts of such a duration, for a text of your own, call `breakdown`
 with the same options except `style`. It returns a `Breakdown`.
 
 `format` is not in `__all__`, so `from duration_str import *` doesn't hide
-Python's own `format`. `Unit` and `Style` are types of options, and
-`PrintedUnit` is the type of a `Part`'s unit.
+Python's own `format`. `Unit`, `Rounding` and `Style` are types of options,
+and `PrintedUnit` is the type of a `Part`'s unit.
 
 For a column:
 
@@ -95,7 +95,7 @@ if TYPE_CHECKING:
 
     from ._arrays import format_many, to_timedelta
     from ._columns import parse_many
-    from ._lists import PrintedUnit, Style, Unit
+    from ._lists import PrintedUnit, Rounding, Style, Unit
     from ._models import Duration, DurationField, DurationRequireUnit
     from ._parts import Breakdown, Part
     from ._pattern import pattern
@@ -111,6 +111,7 @@ __all__ = [
     "Expected",
     "Part",
     "PrintedUnit",
+    "Rounding",
     "Style",
     "Unit",
 ]

@@ -11,7 +11,7 @@ from typing import TYPE_CHECKING, Any, overload
 
 from . import _native
 from ._columns import Errors, raises_errors, stand_in, type_name, values_of, zeros
-from ._lists import Style, Unit
+from ._lists import Rounding, Style, Unit
 from ._texts import UNNAMED, UNSAID, nanos_a_step, nanos_of, type_error_of
 
 if TYPE_CHECKING:
@@ -243,6 +243,7 @@ def format_many(
     units: Iterable[Unit] | None = None,
     largest: Unit = "y",
     smallest: Unit = "ns",
+    rounding: Rounding = "down",
     style: Style = "short",
 ) -> Any:
     """Prints a column of durations, each as `format` does. A duration is an
@@ -264,7 +265,12 @@ def format_many(
     ['90s', None]
     """
     limits = _native.limits(
-        parts=parts, units=units, largest=largest, smallest=smallest, style=style
+        parts=parts,
+        units=units,
+        largest=largest,
+        smallest=smallest,
+        rounding=rounding,
+        style=style,
     )
     if isinstance(values, (str, bytes, bytearray)):
         raise TypeError(f"the durations must be a sequence, not one {type(values).__name__}")

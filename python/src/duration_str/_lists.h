@@ -1,8 +1,10 @@
-/* Made by tests/repository --write. */
+/* The lists are made by tests/repository --write. */
 
 /* The names of the units as they are printed, in Latin-1, and as errors list them, in UTF-8 */
 static const char *const unit_names[] = {"y", "q", "mon", "w", "d", "h", "min", "s", "ms", "\xb5s", "ns"};
 static const char listed_units[] = "y, q, mon, w, d, h, min, s, ms, \xc2\xb5s or us, ns";
-/* The same for the styles */
+/* The same for the styles, and for the ways of rounding */
 static const char *const style_names[] = {"short", "compact", "long"};
 static const char listed_styles[] = "short, compact, long";
+static const char *const rounding_names[] = {"down", "nearest", "up"};
+static const char listed_roundings[] = "down, nearest, up";

@@ -1,4 +1,4 @@
-# Made by tests/repository --write.
+# The lists are made by tests/repository --write.
 from typing import Literal
 
 #: A unit by one of its names
@@ -7,6 +7,8 @@ Unit = Literal["y", "year", "years", "q", "quarter", "quarters", "mon", "month",
 PrintedUnit = Literal["y", "q", "mon", "w", "d", "h", "min", "s", "ms", "µs", "ns"]
 #: How a duration is printed: `1h 30min`, `1h30min`, `1 hour 30 minutes`
 Style = Literal["short", "compact", "long"]
+#: How a duration is rounded to one that prints whole
+Rounding = Literal["down", "nearest", "up"]
 #: Patterns of sentences: without options, with `no_calc`, with `require_unit`, and with both. U
 #: stands for a unit.
 SENTENCES = [

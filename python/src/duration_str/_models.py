@@ -13,7 +13,7 @@ from ._texts import DurationError, DurationTypeError
 
 
 def _read(value: Any, options: dict[str, Any]) -> Any:
-    """Reads a value. A timedelta that is not negative is returned as it is."""
+    """A timedelta that is not negative is returned as it is."""
     core = import_module("pydantic_core")
     if isinstance(value, datetime.timedelta):
         if value < datetime.timedelta(0):

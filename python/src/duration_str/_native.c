@@ -37,6 +37,7 @@ enum kept {
     UNITS,
     LARGEST,
     SMALLEST,
+    ROUNDING,
     STYLE,
     DAYS,
     SECONDS,
@@ -59,7 +60,7 @@ enum kept {
 /* The objects before ERROR are these names, in this order. From PART on they are the package's
  * objects that are taken at the first call of `breakdown`, since they need the module typing. */
 static const char *const kept_names[] = {"no_calc", "lowercase", "cn_unit", "require_unit",
-    "default_unit", "parts", "units", "largest", "smallest", "style", "days", "seconds",
+    "default_unit", "parts", "units", "largest", "smallest", "rounding", "style", "days", "seconds",
     "microseconds"};
 
 /* timedelta64's NaT as a number, and a count of days that a timedelta64 of nanoseconds can hold
@@ -392,11 +393,12 @@ static PyObject *parse_seconds(
 struct limits {
     uint32_t units; /* a set of units */
     uint32_t parts;
+    uint32_t rounding;
     uint32_t style;
 };
 
-static const struct limits no_limits = {
-    DURATION_STR_UNITS_ALL, DURATION_STR_UNIT_NANOSECOND + 1, DURATION_STR_STYLE_SHORT};
+static const struct limits no_limits = {DURATION_STR_UNITS_ALL, DURATION_STR_UNIT_NANOSECOND + 1,
+    DURATION_STR_ROUNDING_DOWN, DURATION_STR_STYLE_SHORT};
 
 static int take_parts(PyObject *value, uint32_t *parts) {
     int overflow;
@@ -417,12 +419,13 @@ static int take_parts(PyObject *value, uint32_t *parts) {
     return 0;
 }
 
-static int take_style(PyObject *name, uint32_t *style) {
-    const uint32_t count = sizeof style_names / sizeof *style_names;
-    for (*style = 0; PyUnicode_Check(name) && *style < count; ++*style)
-        if (!PyUnicode_CompareWithASCIIString(name, style_names[*style]))
+/* Gets the position of the name in a list of three names. `listed` has them for an error. */
+static int take_one_of(PyObject *name, const char *keyword, const char *const names[3],
+    const char *listed, uint32_t *number) {
+    for (*number = 0; PyUnicode_Check(name) && *number < 3; ++*number)
+        if (!PyUnicode_CompareWithASCIIString(name, names[*number]))
             return 0;
-    raise_name(name, "style", listed_styles);
+    raise_name(name, keyword, listed);
     return -1;
 }
 
@@ -471,8 +474,10 @@ static int take_limit(struct state *state, int keyword, PyObject *value, struct 
     case SMALLEST:
         *smallest = unit_of(state, value, "smallest");
         return *smallest < 0 ? -1 : 0;
+    case ROUNDING:
+        return take_one_of(value, "rounding", rounding_names, listed_roundings, &limits->rounding);
     case STYLE:
-        return take_style(value, &limits->style);
+        return take_one_of(value, "style", style_names, listed_styles, &limits->style);
     }
     return -1;
 }
@@ -574,6 +579,17 @@ static inline int take_duration(
     return failed ? -1 : !is_missing;
 }
 
+/* Rounds the duration as the limits say. (What is printed is rounded down without this.) */
+static int round_duration(struct duration *duration, const struct limits *limits) {
+    if (limits->rounding == DURATION_STR_ROUNDING_DOWN ||
+        duration_str_round(
+            &duration->secs, &duration->nanos, limits->units, limits->parts, limits->rounding))
+        return 0;
+    PyErr_SetString(
+        PyExc_ValueError, "no duration below 2**64 seconds is long enough for rounding='up'");
+    return -1;
+}
+
 /* The call without limits is faster, but takes only durations below 2^64 nanoseconds. */
 static PyObject *text_of(const struct duration *duration, const struct limits *limits) {
     char buffer[DURATION_STR_FORMAT_WITH_BUFFER_SIZE];
@@ -586,13 +602,15 @@ static PyObject *text_of(const struct duration *duration, const struct limits *l
     return PyUnicode_FromStringAndSize(buffer, (Py_ssize_t)length);
 }
 
-static PyObject *text_of_value(
+static inline PyObject *text_of_value(
     struct state *state, PyObject *value, PyObject *function, const struct limits *limits) {
     struct duration duration;
     const int is_there = take_duration(state, value, function, &duration);
-    if (is_there < 0)
+    if (!is_there)
+        return Py_NewRef(Py_None);
+    if (is_there < 0 || round_duration(&duration, limits))
         return NULL;
-    return is_there ? text_of(&duration, limits) : Py_NewRef(Py_None);
+    return text_of(&duration, limits);
 }
 
 static PyObject *format(
@@ -697,24 +715,25 @@ static PyObject *breakdown(
     struct duration duration;
     if (!has_one("breakdown", count))
         return NULL;
-    if (take_limits(state, "breakdown", SMALLEST, arguments + 1, keywords, &limits))
+    if (take_limits(state, "breakdown", ROUNDING, arguments + 1, keywords, &limits))
         return NULL;
     if (keep_type(state, PART, "Part") || keep_type(state, BREAKDOWN, "Breakdown"))
         return NULL;
     /* nanos_of never returns None, so no value is missing here. */
-    if (take_duration(state, arguments[0], state->kept[NANOS_OF], &duration) != 1)
+    if (take_duration(state, arguments[0], state->kept[NANOS_OF], &duration) != 1 ||
+        round_duration(&duration, &limits))
         return NULL;
     return breakdown_of(state, &duration, &limits);
 }
 
-/* limits(*, parts, units, largest, smallest, style): returns the limits in the form that
+/* limits(*, parts, units, largest, smallest, rounding, style): returns the limits in the form that
  * format_list takes */
 static PyObject *limits(
     PyObject *self, PyObject *const *arguments, Py_ssize_t count, PyObject *keywords) {
     struct limits limits;
     if (take_limits(PyModule_GetState(self), "format", STYLE, arguments + count, keywords, &limits))
         return NULL;
-    return Py_BuildValue("(III)", limits.units, limits.parts, limits.style);
+    return Py_BuildValue("(IIII)", limits.units, limits.parts, limits.rounding, limits.style);
 }
 
 /* After this many values of a column, other threads may run, and a signal may end the call. */
@@ -733,8 +752,8 @@ static int end_turn(void) {
 static PyObject *format_list(PyObject *self, PyObject *arguments) {
     PyObject *values, *function, *texts;
     struct limits limits;
-    if (!PyArg_ParseTuple(arguments, "O!OO!(III)", &PyList_Type, &values, &function, &PyList_Type,
-            &texts, &limits.units, &limits.parts, &limits.style))
+    if (!PyArg_ParseTuple(arguments, "O!OO!(IIII)", &PyList_Type, &values, &function, &PyList_Type,
+            &texts, &limits.units, &limits.parts, &limits.rounding, &limits.style))
         return NULL;
     for (Py_ssize_t at = 0; at < PyList_Size(values); at++) {
         PyObject *value = Py_NewRef(PyList_GetItem(values, at));
@@ -939,8 +958,8 @@ PyDoc_STRVAR(parse_seconds_doc,
     "Returns the value of a text in seconds, rounded to the nearest float.\n\n"
     "`parse_ns` returns the exact value, and has the same options and errors.");
 PyDoc_STRVAR(format_doc,
-    "format($module, value, /, *, parts=11, units=None, largest='y', smallest='ns', style='short')"
-    "\n--\n\n"
+    "format($module, value, /, *, parts=11, units=None, largest='y', smallest='ns', "
+    "rounding='down', style='short')\n--\n\n"
     "Prints a duration: an int of nanoseconds, or a timedelta (also NumPy's).\n\n"
     "  parts     the greatest number of parts\n"
     "  units     only these units, such as `('y', 'mon', 'd')`, in any order\n"
@@ -948,6 +967,9 @@ PyDoc_STRVAR(format_doc,
     "            `ms`, `\xc2\xb5s` or `us`, `ns`, or another name that is read\n"
     "            without `cn_unit`\n"
     "  smallest  the smallest unit\n"
+    "  rounding  `down`, `nearest` or `up`: if the text leaves something out, the\n"
+    "            duration is rounded to one whose text doesn't. Of two durations\n"
+    "            that are as near, `nearest` takes the longer one\n"
     "  style     `short` (`1h 30min`), `compact` (`1h30min`) or `long`\n"
     "            (`1 hour 30 minutes`)\n\n"
     "The text has as many of the largest chosen unit as fit into the duration, then\n"
@@ -957,20 +979,23 @@ PyDoc_STRVAR(format_doc,
     "chosen unit, such as `0 hours` or `0h`, or of seconds if that unit is shorter\n"
     "than a second.\n\n"
     "Raises ValueError if the duration is negative or NumPy's NaT, if `parts` is\n"
-    "below 1, if the name of a unit or of the style is unknown, or if no units are\n"
-    "left. Raises OverflowError if the duration is 2**64 seconds or more. Raises\n"
+    "below 1, if the name of a unit, of the rounding or of the style is unknown, if\n"
+    "no units are left, or if nothing below 2**64 seconds is long enough to round up\n"
+    "to. Raises OverflowError if the duration is 2**64 seconds or more. Raises\n"
     "TypeError if it is neither an int nor a timedelta, if it is a timedelta64 that\n"
     "counts a unit not from weeks to nanoseconds, or if an option has the wrong\n"
     "type, such as a text for `units`.\n\n"
     ">>> duration_str.format(193_029_000_000, parts=2)\n"
     "'3min 13s'\n"
+    ">>> duration_str.format(193_029_000_000, parts=1, rounding='up')\n"
+    "'4min'\n"
     ">>> duration_str.format(193_029_000_000, style='long')\n"
     "'3 minutes 13 seconds 29 milliseconds'\n"
     ">>> duration_str.format(500 * 86_400 * 10**9, units=('y', 'mon', 'd'))\n"
     "'1y 4mon 15d'");
 PyDoc_STRVAR(breakdown_doc,
-    "breakdown($module, value, /, *, parts=11, units=None, largest='y', smallest='ns')"
-    "\n--\n\n"
+    "breakdown($module, value, /, *, parts=11, units=None, largest='y', smallest='ns', "
+    "rounding='down')\n--\n\n"
     "Breaks a duration down into counts of units. The duration is an int of\n"
     "nanoseconds, or a timedelta (also NumPy's).\n\n"
     "Returns a named tuple of the `parts` and of the nanoseconds that no part has,\n"
@@ -979,7 +1004,9 @@ PyDoc_STRVAR(breakdown_doc,
     "The parts are those that the printed text has, so a duration of 0 has none. The\n"
     "counts, each times the length of its unit, and the rest are together the\n"
     "duration.\n\n"
-    "The options and the errors are those of `format`, which also has a style.\n\n"
+    "The options and the errors are those of `format`, which also has a style. If\n"
+    "`rounding` is `nearest` or `up`, the parts are those of the rounded duration,\n"
+    "and the rest is 0.\n\n"
     ">>> parts, rest_ns = duration_str.breakdown(193_029_000_000, parts=2)\n"
     ">>> parts\n"
     "(Part(count=3, unit='min'), Part(count=13, unit='s'))\n"

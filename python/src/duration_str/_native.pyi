@@ -3,7 +3,7 @@ from collections.abc import Callable, Iterable
 from datetime import timedelta
 from typing import Any, Literal, Protocol, SupportsIndex, overload, type_check_only
 
-from ._lists import Style, Unit
+from ._lists import Rounding, Style, Unit
 from ._parts import Breakdown
 
 @type_check_only
@@ -86,6 +86,7 @@ def format(
     units: Iterable[Unit] | None = None,
     largest: Unit = "y",
     smallest: Unit = "ns",
+    rounding: Rounding = "down",
     style: Style = "short",
 ) -> str: ...
 def breakdown(
@@ -96,6 +97,7 @@ def breakdown(
     units: Iterable[Unit] | None = None,
     largest: Unit = "y",
     smallest: Unit = "ns",
+    rounding: Rounding = "down",
 ) -> Breakdown: ...
 def reading(
     *,
@@ -106,13 +108,19 @@ def reading(
     default_unit: Unit = "s",
 ) -> tuple[int, bool]: ...
 def limits(
-    *, parts: int, units: Iterable[Unit] | None, largest: Unit, smallest: Unit, style: Style
-) -> tuple[int, int, int]: ...
+    *,
+    parts: int,
+    units: Iterable[Unit] | None,
+    largest: Unit,
+    smallest: Unit,
+    rounding: Rounding,
+    style: Style,
+) -> tuple[int, int, int, int]: ...
 def format_list(
     values: list[Any],
     function: Callable[[Any], int | None],
     texts: list[str | None],
-    limits: tuple[int, int, int],
+    limits: tuple[int, int, int, int],
     /,
 ) -> None: ...
 def read_list(

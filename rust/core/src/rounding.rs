@@ -54,51 +54,50 @@ pub fn round_to(d: &Duration, format: Format, rounding: Rounding) -> Option<Dura
 
 /// Returns the greatest duration that prints whole and is not above this one, and the least that is
 /// not below it, if there is one up to `Duration::MAX`.
+#[inline(always)]
 fn neighbors(d: Duration, format: Format) -> (Duration, Option<Duration>) {
-    let nanos = d.as_nanos();
-    let (below, above) = distances(nanos, format);
-    let down = duration_of(nanos - below);
-    if nanos + above == TOO_LONG {
-        return (down, None);
-    }
-    (down, Some(duration_of(nanos + above)))
+    let Some((below, above)) = distances(d.as_nanos(), format) else {
+        return (Duration::ZERO, zero(d));
+    };
+    let down = d.saturating_sub(Duration::from_nanos(below));
+    (down, d.checked_add(Duration::from_nanos(above)))
 }
 
-/// The least number of nanoseconds that is too large for a `Duration`.
-const TOO_LONG: u128 = 1_000_000_000 << 64;
+fn zero(d: Duration) -> Option<Duration> {
+    if d.is_zero() { Some(d) } else { None }
+}
 
-/// Returns how far the duration is from the two that [`neighbors`] returns. If there is only one,
-/// the second distance is the one to `TOO_LONG`.
+/// Returns how far the duration is from the two that [`neighbors`] returns, or `None` if the format
+/// has no units or no parts, so that only a duration of 0 prints whole.
 ///
 /// The duration that prints whole and comes next after the given one has one count that is greater
 /// by one, and no parts after it. So for each unit it is compared with the one whose count of that
-/// unit is the next.
-fn distances(nanos: u128, format: Format) -> (u128, u128) {
-    let mut bits = u32::from(format.units.bits());
+/// unit is the next. What the longest unit leaves has 64 bits.
+fn distances(nanos: u128, format: Format) -> Option<(u64, u64)> {
+    let (first, mut bits) = longest(u32::from(format.units.bits()))?;
+    if format.parts == 0 {
+        return None;
+    }
+    let (count, left) = first.wide_division(nanos);
     let mut most = format.parts;
-    let mut rest = nanos;
-    let mut above = TOO_LONG - nanos;
+    if count > 0 {
+        most -= 1;
+    }
+    let mut rest = left as u64;
+    let mut above = first.nanos - rest;
     while let Some((row, others)) = longest(bits) {
         if most == 0 || rest == 0 {
             break;
         }
-        let (count, left) = row.wide_division(rest);
-        above = above.min(u128::from(row.nanos) - left);
-        if count > 0 {
+        if row.nanos <= rest {
             most -= 1;
+            rest = row.division(rest).1;
         }
-        rest = left;
+        above = above.min(row.nanos - rest);
         bits = others;
     }
     if rest == 0 {
-        return (0, 0);
+        return Some((0, 0));
     }
-    (rest, above)
-}
-
-fn duration_of(nanos: u128) -> Duration {
-    Duration::new(
-        (nanos / 1_000_000_000) as u64,
-        (nanos % 1_000_000_000) as u32,
-    )
+    Some((rest, above))
 }

@@ -1,8 +1,8 @@
 -- Lemmas about the distances to the durations that print whole.
-use Rattle.duration_str.proofs.Common.{[], ap, arith, cases_Bool, cases_lt, counts_within, div-add-mod', eqb-true, false, FitsDuration, Format, if◌then◌else◌, inl, inr, lengths_within, List, nat_tests, IsPrintedWithin, OneRounding, refl, rules, subst, sym, text_within, units_within, ℕ, ◌%◌, ◌*◌, ◌+◌, ◌-◌, ◌/◌, ◌<◌, ◌==◌, ◌^◌, ◌∙◌, ◌∷◌, ◌≡◌, ◌≤◌, ◌⊎◌}
+use Rattle.duration_str.proofs.Common.{[], map, nanos_of, TimeUnit, Year, ap, arith, cases_Bool, cases_lt, counts_within, div-add-mod', eqb-true, false, FitsDuration, Format, if◌then◌else◌, inl, inr, lengths_within, List, nat_tests, IsPrintedWithin, OneRounding, refl, rules, subst, sym, text_within, units_within, ℕ, ◌%◌, ◌*◌, ◌+◌, ◌-◌, ◌/◌, ◌<◌, ◌==◌, ◌^◌, ◌∙◌, ◌∷◌, ◌≡◌, ◌≤◌, ◌⊎◌}
 use Rattle.duration_str.proofs.LawProofs.GreatestWithin.{ArePositive, greatest_within, left_whole, lengths_positive, one_greatest_within, within_sum}
 use Rattle.duration_str.proofs.LawProofs.NeverMore.{divided, kept_within, keeps_shown, none_shown, shown, shown_within, within_again}
-use Rattle.duration_str.specs.Rounding.{distance, IsNearest, IsRounded, IsRoundedDown, IsRoundedUp, NoneAbove, PrintsWhole}
+use Rattle.duration_str.specs.Rounding.{distance, IsNearest, IsRounded, IsRoundedDown, IsRoundedUp, NoneAbove, OnlyZero, PrintsWhole}
 use Rattle.duration_str.specs.declared.rounding.Rounding.{Rounding}
 use Rattle.duration_str.specs.declared.rounding.Rounding.TheVariants.{Down, Nearest, Up}
 use Rattle.std.proofs.Math.Nat.{mul-le-mul_right}
@@ -183,18 +183,41 @@ rounded_down format nanos below same =
       greatest = λ other kept up. omega (arith, kept_within format other nanos kept.0 kept.1 up);
     }
 
+-- Each length of a unit is below this limit.
 abbrev pub gap_within : Format → ℕ → ℕ
-gap_within format nanos = gap (lengths_within format) format.parts nanos (2 ^ 64 * 1000000000 - nanos)
+gap_within format nanos = gap (lengths_within format) format.parts nanos (nanos_of Year + 1)
 
-pub rounded_up : (format : Format) (nanos : ℕ) → FitsDuration (nanos + gap_within format nanos)
-    → IsRoundedUp format nanos (nanos + gap_within format nanos)
-rounded_up format nanos fits =
+gap_below : (l : ℕ) (lengths : List ℕ) (most rest limit : ℕ) → 1 ≤ most → l < limit
+    → gap (l ∷ lengths) most rest limit < limit
+gap_below l lengths most rest limit some less = elim (cases_Bool (rest == 0)) [
+  | inl none ↦ rw none (omega arith)
+  | inr more ↦
+      let positive : 1 ≤ rest = grind (arith, nat_tests) in
+      omega (
+        arith,
+        gap_step l lengths most rest limit some positive,
+        gap_at_most lengths (most_after l most rest) (rest % l) (min limit (l - rest % l)),
+      )
+]
+
+year_longest : (u : TimeUnit) → nanos_of u ≤ nanos_of Year
+year_longest u = search rules
+
+gap_within_below : (format : Format) (nanos : ℕ) (u : TimeUnit) (us : List TimeUnit) → 1 ≤ format.parts
+    → units_within format ≡ u ∷ us → gap_within format nanos < nanos_of Year + 1
+gap_within_below format nanos u us some same =
+    rw same (gap_below (nanos_of u) (map nanos_of us) format.parts nanos (nanos_of Year + 1) some
+    (omega (arith, year_longest u)))
+
+pub rounded_up : (format : Format) (nanos : ℕ) (u : TimeUnit) (us : List TimeUnit) → 1 ≤ format.parts
+    → units_within format ≡ u ∷ us → IsRoundedUp format nanos (nanos + gap_within format nanos)
+rounded_up format nanos u us some same =
     let lengths = lengths_within format in
-    let limit : ℕ = 2 ^ 64 * 1000000000 - nanos in
+    let limit : ℕ = nanos_of Year + 1 in
     let positive : ArePositive lengths = lengths_positive (units_within format) in
     record {
       whole = elim (gap_whole lengths format.parts nanos limit positive) [
-        | inl most ↦ absurd (omega arith)
+        | inl most ↦ absurd (omega (arith, most, gap_within_below format nanos u us some same))
         | inr whole ↦ shown_is_whole format (nanos + gap_within format nanos) whole
       ];
       not_below = omega arith;
@@ -202,21 +225,115 @@ rounded_up format nanos fits =
           gap_least lengths format.parts nanos limit other positive (whole_is_shown format other kept) up;
     }
 
-pub none_above : (format : Format) (nanos : ℕ) → nanos + gap_within format nanos ≡ 2 ^ 64 * 1000000000
+-- ---- One pass over the units
+
+-- What is left of the duration after some units, with the units, the parts and the distance that are
+-- left.
+pub record Left (format : Format) (nanos : ℕ) (us : List TimeUnit) (most rest limit : ℕ) : Type 0 where
+  pub below : rest + shown_within format nanos ≡ nanos + shown (map nanos_of us) most rest
+  pub above : gap (map nanos_of us) most rest limit ≡ gap_within format nanos
+  pub no_more : rest ≤ nanos
+
+pub after_part : (l most nanos : ℕ) → 0 < nanos / l → most_after l most nanos ≡ most - 1
+after_part l most nanos some = search (rules, nat_tests)
+
+pub after_none : (l most nanos : ℕ) → nanos / l ≡ 0 → most_after l most nanos ≡ most
+after_none l most nanos none = rw none refl
+
+pub smaller : (l nanos : ℕ) → nanos < l → (nanos / l ≡ 0) × (nanos % l ≡ nanos)
+smaller l nanos less = search rules
+
+pub larger : (l nanos : ℕ) → 1 ≤ l → l ≤ nanos → 0 < nanos / l
+larger l nanos h more = search rules
+
+gap_from : (l : ℕ) (lengths : List ℕ) (most rest limit most' rest' limit' : ℕ) → 1 ≤ most → 1 ≤ rest
+    → most' ≡ most_after l most rest → rest' ≡ rest % l → limit' ≡ min limit (l - rest % l)
+    → gap (l ∷ lengths) most rest limit ≡ gap lengths most' rest' limit'
+gap_from l lengths most rest limit most' rest' limit' some positive after left least =
+    rw (after, left, least) (gap_step l lengths most rest limit some positive)
+
+gap_zero : (lengths : List ℕ) (most rest limit : ℕ) → rest ≡ 0 → gap lengths most rest limit ≡ 0
+gap_zero [] most rest limit none = rw none refl
+gap_zero (l ∷ lengths) most rest limit none = rw none refl
+
+pub first_step : (format : Format) (nanos : ℕ) (u : TimeUnit) (us : List TimeUnit) (most rest : ℕ)
+    → units_within format ≡ u ∷ us → 1 ≤ format.parts → most ≡ most_after (nanos_of u) format.parts nanos
+    → rest ≡ nanos % nanos_of u → Left format nanos us most rest (nanos_of u - rest)
+first_step format nanos u us most rest same some after left =
+    let l = nanos_of u in
+    let whole : nanos / l * l + rest ≡ nanos = omega (arith, left, div-add-mod' nanos l) in
+    let shown_first : shown_within format nanos ≡ nanos / l * l + shown (map nanos_of us) most rest =
+    rw (same, after, left) (shown_step l (map nanos_of us) format.parts nanos some) in
+    record {
+      below = omega (arith, whole, shown_first);
+      above = elim (cases_lt 0 nanos) [
+        | inl positive ↦
+            let limit : l - rest ≡ min (nanos_of Year + 1) (l - nanos % l) = omega (arith, left, year_longest u) in
+            rw same (sym (gap_from l (map nanos_of us) format.parts nanos (nanos_of Year + 1) most rest (l - rest) some
+            positive after left limit))
+        | inr zero ↦
+            gap_zero (map nanos_of us) most rest (l - rest) (omega (arith, whole))
+            ∙ sym (gap_zero (lengths_within format) format.parts nanos (nanos_of Year + 1) (omega arith))
+      ];
+      no_more = omega (arith, whole);
+    }
+
+pub next_step : (format : Format) (nanos : ℕ) (u : TimeUnit) (us : List TimeUnit) (most rest above most' rest' : ℕ)
+    → Left format nanos (u ∷ us) most rest above → 1 ≤ most → 1 ≤ rest
+    → most' ≡ most_after (nanos_of u) most rest → rest' ≡ rest % nanos_of u
+    → Left format nanos us most' rest' (min above (nanos_of u - rest'))
+next_step format nanos u us most rest above most' rest' before some positive after left =
+    let l = nanos_of u in
+    let whole : rest / l * l + rest' ≡ rest = omega (arith, left, div-add-mod' rest l) in
+    let shown_next : shown (map nanos_of (u ∷ us)) most rest ≡ rest / l * l + shown (map nanos_of us) most' rest' =
+    rw (after, left) (shown_step l (map nanos_of us) most rest some) in
+    record {
+      below = omega (arith, whole, shown_next, before.below);
+      above = rw (after, left) (sym (gap_step l (map nanos_of us) most rest above some positive) ∙ before.above);
+      no_more = omega (arith, whole, before.no_more);
+    }
+
+-- What is rounded up to is too long for a `Duration`.
+pub none_above : (format : Format) (nanos up : ℕ) → IsRoundedUp format nanos up → 2 ^ 64 * 1000000000 ≤ up
     → NoneAbove format nanos
-none_above format nanos most other fits kept = elim (cases_lt other nanos) [
+none_above format nanos up is_up long other fits kept = elim (cases_lt other nanos) [
   | inl less ↦ less
-  | inr up ↦
-      let lengths = lengths_within format in
-      let positive : ArePositive lengths = lengths_positive (units_within format) in
-      let least = gap_least lengths format.parts nanos (2 ^ 64 * 1000000000 - nanos) other positive
-      (whole_is_shown format other kept) up in absurd (omega arith)
+  | inr more ↦ absurd (omega (arith, is_up.least other kept more))
 ]
 
--- ---- The end of the loop
+-- ---- Formats without units or parts
 
 abbrev pub IsOver : List ℕ → ℕ → ℕ → Type 0
 IsOver lengths most rest = (lengths ≡ []) ⊎ ((most ≡ 0) ⊎ (rest ≡ 0))
+
+pub only_zero : (format : Format) → IsOver (lengths_within format) format.parts 1 → OnlyZero format
+only_zero format over other kept = elim over [
+  | inl none ↦ search (rules, whole_is_shown format other kept)
+  | inr (inl nothing) ↦ nothing_whole (lengths_within format) format.parts other nothing (whole_is_shown format other kept)
+  | inr (inr one) ↦ absurd (omega arith)
+]
+
+zero_whole : (format : Format) → PrintsWhole format 0
+zero_whole format = shown_is_whole format 0 (nothing_shown (lengths_within format) format.parts)
+
+pub zero_down : (format : Format) (nanos : ℕ) → OnlyZero format → IsRoundedDown format nanos 0
+zero_down format nanos only = record {
+  whole = zero_whole format;
+  not_above = omega arith;
+  greatest = λ other kept up. omega (arith, only other kept);
+}
+
+pub zero_up : (format : Format) → IsRoundedUp format 0 0
+zero_up format = record {
+  whole = zero_whole format;
+  not_below = omega arith;
+  least = λ other kept up. omega arith;
+}
+
+pub zero_above : (format : Format) (nanos : ℕ) → OnlyZero format → 1 ≤ nanos → NoneAbove format nanos
+zero_above format nanos only more other fits kept = omega (arith, only other kept)
+
+-- ---- The end of the loop
 
 pub shown_over : (lengths : List ℕ) (most rest : ℕ) → IsOver lengths most rest → shown lengths most rest ≡ 0
 shown_over lengths most rest (inl none) = rw none refl
