@@ -114,9 +114,9 @@ interface Counted<Name extends Unit> {
  *
  * The text has as many of the largest chosen unit as fit into the duration, then as many of the
  * next one as fit into the rest, and so on. Counts of 0 are left out. A count with its unit is a
- * part. After the greatest number of parts, the rest is left out, and nothing is rounded up. If
- * there are no parts, the text is a zero of the smallest chosen unit, such as `0 hours` or `0h`, or
- * of seconds if that unit is shorter than a second.
+ * part. After the greatest number of parts, the rest is left out. If there are no parts, the text
+ * is a zero of the smallest chosen unit, such as `0 hours` or `0h`, or of seconds if that unit is
+ * shorter than a second.
  */
 export interface Format extends Counted<Unit> {
     /**

@@ -31,7 +31,7 @@ VALUES = (
     dict.fromkeys(("to", "from", "largest", "smallest"), list(LENGTHS))
     | {
         "style": reference.STYLES,
-        "round": ("down", "up", "nearest"),
+        "round": reference.ROUNDINGS,
         "decimals": range(10),
         "field": (1, 2, 3, 5),
         "delimiter": tuple(',,;:\t "-^]5'),
@@ -73,13 +73,22 @@ def printed(nanos, options):
         return number_in(
             nanos, options["to"], options.get("decimals"), options.get("round", "down")
         )
+    units, parts = units_of(options), options.get("parts", 11)
     return reference.print_within(
-        nanos, units_of(options), options.get("parts", 11), options.get("style", "short")
+        rounded(nanos, options), units, parts, options.get("style", "short")
     )
 
 
+def rounded(nanos, options):
+    """The duration that is printed. Without rounding it stays as it is, and has a rest."""
+    way = options.get("round", "down")
+    if way == "down":
+        return nanos
+    return reference.round_to(nanos, units_of(options), options.get("parts", 11), way)
+
+
 def parts_of(nanos, options):
-    units = units_of(options)
+    nanos, units = rounded(nanos, options), units_of(options)
     lengths = tuple(unit.length for unit in units)
     counts = reference.counts_within(nanos, lengths, options.get("parts", 11))
     parts = [(count, unit.printed) for count, unit in zip(counts, units) if count]
@@ -218,11 +227,8 @@ def wanted(options, texts, data):
 
 def is_wrong(options, texts):
     names = set(options)
-    numbers = (
-        names & {"style", "parts", "units", "largest", "smallest"}
-        if "to" in names
-        else names & {"decimals", "round"}
-    )
+    shapes = {"style", "parts", "units", "largest", "smallest"}
+    numbers = names & (shapes if "to" in names else {"decimals"})
     fields = (
         "json" in names
         and names & {"field", "header"}
@@ -288,7 +294,17 @@ class Commands(Texts):
                 // 10 ** options.get("decimals", 9)
                 // 2
             )
+        if "round" in options and self.chance(50):
+            return b"%dns" % self.near_a_unit(units_of(options))
         return self.bare_number() if "from" in options and self.chance(60) else self.text()
+
+    def near_a_unit(self, units):
+        """A duration near a half or a whole number of a unit, and perhaps of a longer one, too."""
+        lengths = [unit.length for unit in units] or [reference.SECOND]
+        halves = sum(
+            self.random.randrange(9) * self.choice(lengths) for _ in range(self.choice((1, 2)))
+        )
+        return max(0, halves // 2 + self.choice((-1, 0, 0, 1)))
 
     def line(self, options):
         fields = [
@@ -374,9 +390,11 @@ def vector_commands():
             items[tuple(given)].append(text)
     for (unit, text, *_), way in itertools.product(vectors.tables()["from"], VALUES["round"]):
         items[("from", unit), ("to", "ns"), ("round", way)].append(text)
-    for (row, nanos, *_), style in itertools.product(vectors.durations(), reference.STYLES):
-        limits = row[1] | {name: ",".join(row[1][name]) for name in row[1].keys() & {"units"}}
-        items[*limits.items(), ("style", style)].append(f"{nanos}ns")
+    tables = {"style": vectors.durations(), "round": vectors.rounded()}
+    for name, table in tables.items():
+        for (row, nanos, *_), value in itertools.product(table, VALUES[name]):
+            limits = row[1] | {each: ",".join(row[1][each]) for each in row[1].keys() & {"units"}}
+            items[*limits.items(), (name, value)].append(f"{nanos}ns")
     items[("from", "s"),] += itertools.chain.from_iterable(map(near, NUMBERS))
     for given, texts in items.items():
         data = "".join(f"{text}\0" for text in texts if "\0" not in text)
@@ -395,16 +413,16 @@ def is_option(word):
 
 
 def check_words(program):
-    def is_taken(word, beside):
-        ended = subprocess.run([program, *beside, word, "90061s"], capture_output=True)
+    def is_taken(word):
+        ended = subprocess.run([program, word, "90061s"], capture_output=True)
         return ended.returncode == 0
 
-    words = {(each, ("--to=m",) * ("round" in word)) for word in WORDS for each in near(word)}
+    words = {each for word in WORDS for each in near(word)}
     with multiprocessing.pool.ThreadPool() as pool:
-        for (word, _), taken in zip(words, pool.starmap(is_taken, words)):
+        for word, taken in zip(words, pool.map(is_taken, words)):
             if taken != is_option(word):
                 sys.exit(f"duration_model: {word!r} is {'taken' if taken else 'refused'}")
-    print(f"duration_model: {len(words)} words, {sum(is_option(word) for word, _ in words)} taken")
+    print(f"duration_model: {len(words)} words, {sum(map(is_option, words))} taken")
 
 
 def compare(words, must, options, data, cuts=()):

@@ -221,6 +221,59 @@ static void check_breakdowns(void) {
         "a count or a rest of 2^64");
 }
 
+struct rounded {
+    uint64_t secs;
+    uint32_t nanos, units, parts, rounding;
+    uint64_t wanted_secs;
+    uint32_t wanted_nanos;
+};
+
+static bool rounds(const struct rounded *row, bool is_rounded) {
+    uint64_t secs = row->secs;
+    uint32_t nanos = row->nanos;
+    return duration_str_round(&secs, &nanos, row->units, row->parts, row->rounding) == is_rounded &&
+           secs == row->wanted_secs && nanos == row->wanted_nanos;
+}
+
+static void check_rounding(void) {
+    const uint32_t down = DURATION_STR_ROUNDING_DOWN, nearest = DURATION_STR_ROUNDING_NEAREST,
+                   up = DURATION_STR_ROUNDING_UP, all = DURATION_STR_UNITS_ALL,
+                   year = DURATION_STR_UNITS(DURATION_STR_UNIT_YEAR),
+                   second = DURATION_STR_UNITS(DURATION_STR_UNIT_SECOND);
+    const uint32_t months_and_weeks =
+        DURATION_STR_UNITS(DURATION_STR_UNIT_MONTH) | DURATION_STR_UNITS(DURATION_STR_UNIT_WEEK);
+    /* 584,942,417,355 years. One more would be more than 2^64 seconds. */
+    const uint64_t last_year = 18446744073707280000u;
+    const struct rounded rows[] = {
+        {7199, 0, all, 1, down, 3600, 0},
+        {7199, 0, all, 1, nearest, 7200, 0},
+        {7199, 0, all, 2, down, 7140, 0},
+        {7199, 0, all, 2, up, 7200, 0},
+        {59, 900000000, second, 11, down, 59, 0},
+        {59, 900000000, second, 11, nearest, 60, 0},
+        {0, 1001500, all, 2, down, 0, 1001000},
+        {0, 1001500, all, 2, nearest, 0, 1002000},
+        {5, 7, all, 11, up, 5, 7},
+        {29 * 86400, 0, months_and_weeks, 2, nearest, 30 * 86400, 0},
+        {5, 7, all, 0, down, 0, 0},
+        {last_year - 1, 1, year, 1, up, last_year, 0},
+        {UINT64_MAX, 999999999, year, 1, nearest, last_year, 0},
+        {UINT64_MAX, 999999999, all, 11, up, UINT64_MAX, 999999999},
+    };
+    for (size_t at = 0; at < sizeof rows / sizeof *rows; at++)
+        expect(rounds(&rows[at], true), "a rounded duration");
+    const struct rounded refused[] = {
+        {5, 1000000000, all, 1, down, 5, 1000000000},
+        {5, 7, 0, 1, down, 5, 7},
+        {5, 7, all + 1, 1, down, 5, 7},
+        {5, 7, all, 1, up + 1, 5, 7},
+        {0, 1, all, 0, up, 0, 1},
+        {UINT64_MAX, 0, year, 1, up, UINT64_MAX, 0},
+    };
+    for (size_t at = 0; at < sizeof refused / sizeof *refused; at++)
+        expect(rounds(&refused[at], false), "a duration that is not rounded");
+}
+
 static void check_unit_names(void) {
     expect(duration_str_unit("y", 1) == DURATION_STR_UNIT_YEAR, "the first unit");
     expect(duration_str_unit("NANOSECONDS", 11) == DURATION_STR_UNIT_NANOSECOND, "the last unit");
@@ -254,6 +307,7 @@ int main(void) {
     check_refusals();
     check_printing();
     check_breakdowns();
+    check_rounding();
     check_unit_names();
     check_lines();
     check_null_texts();

@@ -172,13 +172,14 @@ PRINTED_IN = "printed in these units"
 
 def claimed_printed():
     """What the tables say of printed durations: the document, the duration's text and nanoseconds,
-    the units and the number of parts, and the printed text.
+    the units and the number of parts, the printed text, and how the duration is rounded.
     """
     printed = [unit.printed for unit in reference_parser.UNITS]
 
-    def claim(name, length, names, parts, text):
+    def claim(name, length, names, parts, text, way="down"):
         units = tuple(unit for unit in reference_parser.UNITS if unit.printed in names)
-        return name, length, reference_parser.Choice().answer(length).value, units, parts, text
+        nanos = reference_parser.Choice().answer(length).value
+        return name, length, nanos, units, parts, text, way
 
     for row in rows_of_tables("docs/GRAMMAR.md"):
         if PRINTED_IN not in row:
@@ -189,7 +190,9 @@ def claimed_printed():
         elif " to " in row[PRINTED_IN]:
             names = printed[printed.index(names[0]) : printed.index(names[1]) + 1]
         parts = len(printed) if row["parts"] == "all" else int(row["parts"])
-        yield claim("docs/GRAMMAR.md", length, names, parts, row["text"])
+        texts = {way: row[way] for way in reference_parser.ROUNDINGS if way in row}
+        for way, text in (texts or {"down": row["text"]}).items():
+            yield claim("docs/GRAMMAR.md", length, names, parts, text, way)
     for length, names, text in cases("printed"):
         given = dict(name.split("=") for name in names)
         units = given.get("units", ",".join(printed)).split(",")
@@ -197,10 +200,11 @@ def claimed_printed():
 
 
 def other_printed():
-    for name, length, nanos, units, parts, claim in claimed_printed():
-        text = reference_parser.print_within(nanos, units, parts)
+    for name, length, nanos, units, parts, claim, way in claimed_printed():
+        rounded = reference_parser.round_to(nanos, units, parts, way)
+        text = reference_parser.print_within(rounded, units, parts)
         if f"`{text}`" != re.match("`.*?`|$", claim)[0]:
-            yield f"{name}: {length} prints as `{text}`, and not as {claim}"
+            yield f"{name}: {length}, rounded {way}, prints as `{text}`, and not as {claim}"
 
 
 def untested_examples():

@@ -279,9 +279,9 @@ size_t duration_str_format(
  * The text has as many of the largest chosen unit as fit into the duration,
  * then as many of the next one as fit into the rest, and so on. Counts of 0
  * are left out. A count with its unit is a part. After the greatest number of
- * parts, the rest is left out, and nothing is rounded up. If there are no
- * parts, the text is a zero of the smallest chosen unit, such as `0 hours` or
- * `0h`, or of seconds if that unit is shorter than a second.
+ * parts, the rest is left out. If there are no parts, the text is a zero of
+ * the smallest chosen unit, such as `0 hours` or `0h`, or of seconds if that
+ * unit is shorter than a second.
  *
  * For example, 90,061 seconds in two parts are `1d 1h`, and 180 days in all
  * units without the quarter and the week are `6mon`.

@@ -5,8 +5,8 @@ use clap::error::ErrorKind;
 use clap::{Command, CommandFactory, Parser, ValueEnum};
 use clap_complete::Shell;
 use duration_str::{
-    Breakdown, FORMAT_BUFFER_SIZE, Format, Options, Style, TimeUnit, Units, UnknownUnit,
-    parse_duration, write_format,
+    Breakdown, FORMAT_BUFFER_SIZE, Format, Options, Rounding, Style, TimeUnit, Units, UnknownUnit,
+    parse_duration, round_to, write_format,
 };
 use std::borrow::Cow;
 use std::ffi::{OsStr, OsString};
@@ -15,7 +15,7 @@ use std::str::FromStr;
 use std::time::Duration;
 
 /// The options that say how to print for people. If one of them is given, clap doesn't report that
-/// `--decimals` or `--round` lacks its `--to`. So each of them conflicts with both options.
+/// `--decimals` lacks its `--to`. So each of them conflicts with `--decimals`, too.
 const SHAPES: [&str; 5] = ["style", "parts", "units", "largest", "smallest"];
 
 /// Read durations such as 1h 30m, and print them for people or as numbers
@@ -38,9 +38,8 @@ pub struct Choices {
     #[arg(long, value_name = "N", requires = "to", conflicts_with_all = SHAPES,
         value_parser = up_to_nine)]
     decimals: Option<u8>,
-    /// Round further decimals down, up, or to the nearest
-    #[arg(long, value_name = "WAY", default_value = "down", requires = "to",
-        conflicts_with_all = SHAPES)]
+    /// Round durations that can't be printed exactly: down, to the nearest, or up
+    #[arg(long, value_name = "WAY", default_value = "down")]
     pub round: Round,
     /// Read a number without a unit in this unit; a text that is only a number may be 12.5 or
     /// 1e-05. Unless the unit is s, + and * are not read
@@ -51,7 +50,7 @@ pub struct Choices {
         PossibleValuesParser::new(STYLES)
             .try_map(|word| word.parse::<Style>()))]
     style: Style,
-    /// Print at most N parts, and leave out the rest
+    /// Print at most N parts
     #[arg(long, value_name = "N", default_value = "11", value_parser = positive)]
     parts: usize,
     /// Count only these units, such as y,mon,d, in any order [default: all]
@@ -104,11 +103,21 @@ pub struct Choices {
 #[derive(Clone)]
 struct UnitList(Vec<TimeUnit>);
 
-#[derive(Clone, Copy, ValueEnum)]
+#[derive(Clone, Copy, PartialEq, ValueEnum)]
 pub enum Round {
     Down,
-    Up,
     Nearest,
+    Up,
+}
+
+impl From<Round> for Rounding {
+    fn from(round: Round) -> Rounding {
+        match round {
+            Round::Down => Rounding::Down,
+            Round::Nearest => Rounding::Nearest,
+            Round::Up => Rounding::Up,
+        }
+    }
 }
 
 const AFTER_HELP: &str = "\
@@ -119,6 +128,7 @@ Examples:
   $ sleep \"$(duration --to s '1m 30s')\"
   $ duration --from s --parts 2 93784.5  # 1d 2h
   $ duration --units y,mon,d 500d  # 1y 4mon 15d
+  $ duration --parts 1 --round nearest 119m  # 2h
   $ duration -d, --field 2 --header --to s <jobs.csv";
 
 impl Choices {
@@ -159,8 +169,20 @@ impl Choices {
         }
     }
 
+    /// Returns the duration that is printed for people. Printing rounds down by itself, so then the
+    /// duration stays as it is, and has a rest.
+    fn rounded(&self, nanos: u64) -> Duration {
+        let duration = Duration::from_nanos(nanos);
+        if self.round == Round::Down {
+            return duration;
+        }
+        // A duration of up to 584 years is rounded up to 585 years at most.
+        round_to(&duration, self.format(), self.round.into())
+            .expect("there is a unit, and more than 0 parts")
+    }
+
     pub fn breakdown(&self, nanos: u64) -> Breakdown {
-        Breakdown::new(&Duration::from_nanos(nanos), self.format())
+        Breakdown::new(&self.rounded(nanos), self.format())
     }
 
     pub fn printed<'b>(
@@ -171,7 +193,7 @@ impl Choices {
         if let Some(unit) = self.to {
             return in_unit(nanos, unit, self.decimals, self.round).into();
         }
-        write_format(&Duration::from_nanos(nanos), self.format(), buffer).into()
+        write_format(&self.rounded(nanos), self.format(), buffer).into()
     }
 }
 

@@ -61,6 +61,35 @@ fn answers_each_argument() {
 }
 
 #[test]
+fn rounds_what_is_printed() {
+    for (words, wanted) in [
+        ("--parts 1 1h59m59s", "1h\n"),
+        ("--parts 1 --round down 1h59m59s", "1h\n"),
+        ("--parts 1 --round nearest 1h29m 1h30m", "1h\n2h\n"),
+        ("--parts 2 --round up 1h59m1ns", "2h\n"),
+        ("--units mon,w --round up --style long 29d", "1 month\n"),
+        ("--smallest h --round up 0s", "0h\n"),
+        // 2^64 - 1 nanoseconds are 584 years and some months.
+        ("--parts 1 --round up 18446744073709551615ns", "585y\n"),
+        ("--from s --parts 1 --round up 1.0000000001", "2s\n"),
+        ("--to min --decimals 0 --round nearest 30s 29s", "1\n0\n"),
+    ] {
+        assert_eq!(
+            answer(&words.split(' ').collect::<Vec<_>>()),
+            wanted,
+            "{words}"
+        );
+    }
+    let json = |way| answer(&["--json", "--parts", "1", "--round", way, "119s"]);
+    let down = r#""1min","parts":[{"count":1,"unit":"min"}],"rest_ns":"59000000000"}"#;
+    let nearest = r#""2min","parts":[{"count":2,"unit":"min"}],"rest_ns":"0"}"#;
+    for (way, wanted) in [("down", down), ("nearest", nearest), ("up", nearest)] {
+        let length = r#"{"text":"119s","nanoseconds":"119000000000","seconds":119"#;
+        assert_eq!(json(way), format!("{length},\"printed\":{wanted}\n"));
+    }
+}
+
+#[test]
 fn takes_a_minus_for_a_text() {
     for words in [
         &["-5m", "--to", "s", "1m"][..],

@@ -56,9 +56,9 @@ pub const FORMAT_BUFFER_SIZE: usize = 144;
 ///
 /// The text has as many of the largest chosen unit as fit into the duration, then as many of the
 /// next one as fit into the rest, and so on. Counts of 0 are left out. A count with its unit is a
-/// part. After the greatest number of parts, the rest is left out, and nothing is rounded up. If
-/// there are no parts, the text is a zero of the smallest chosen unit, such as `0 hours` or `0h`,
-/// or of seconds if that unit is shorter than a second.
+/// part. After the greatest number of parts, the rest is left out. If there are no parts, the text
+/// is a zero of the smallest chosen unit, such as `0 hours` or `0h`, or of seconds if that unit is
+/// shorter than a second.
 ///
 /// The format has the chosen units and the greatest number of parts. A format without units prints
 /// every duration as zero seconds, such as `0s`.
