@@ -1,11 +1,9 @@
-"""Prints times from Python: the name of the call, a tab, and the nanoseconds for a text or a value.
-The time is the least of several rounds, in which the calls take turns. Except for Dask, it is the
-processor's time."""
+"""Prints times from Python: the name of the call, a tab, and the nanoseconds for a text. The time is
+the processor's, and the least of several rounds, in which the calls take turns."""
 
 import random
 import time
 
-import dask.dataframe
 import duration_str
 import pandas
 import pytimeparse
@@ -16,10 +14,9 @@ ROUNDS = 11
 
 
 def nanos_a_text(call, texts):
-    clock = time.perf_counter_ns if call is in_processes else time.process_time_ns
-    start = clock()
+    start = time.process_time_ns()
     call(texts)
-    return (clock() - start) / len(texts)
+    return (time.process_time_ns() - start) / len(texts)
 
 
 def in_a_loop(call):
@@ -29,15 +26,9 @@ def in_a_loop(call):
 def refuse_each(texts):
     for text in texts:
         try:
-            duration_str.parse_ns(text)
+            duration_str.parse(text)
         except duration_str.DurationError:
             pass
-
-
-def in_processes(texts):
-    parts = dask.dataframe.from_pandas(texts, npartitions=4)
-    read = parts.map_partitions(duration_str.to_timedelta, meta=(None, "timedelta64[ns]"))
-    return read.compute(scheduler="processes", num_workers=4)
 
 
 def main():
@@ -50,8 +41,7 @@ def main():
         f"{seed.randrange(24)}h {seed.randrange(60)}m {seed.randrange(60)}s" for _ in range(FEW)
     ]
     series = pandas.Series(texts)
-    lengths = duration_str.to_timedelta(series)
-    if not lengths.equals(pandas.to_timedelta(series)):
+    if not duration_str.to_timedelta(series).equals(pandas.to_timedelta(series)):
         raise SystemExit("columns: pandas reads the texts otherwise")
     if duration_str.parse_many(whole).tolist() != [
         pytimeparse.parse(text) * 10**9 for text in whole
@@ -61,25 +51,18 @@ def main():
     same = [f"{1}h {30}m" for _ in range(FEW)]
 
     timed = [
-        ("`parse_ns` of `1h 30m`, called one by one", in_a_loop(duration_str.parse_ns), same),
         ("`parse` of `1h 30m`, called one by one", in_a_loop(duration_str.parse), same),
         (
-            "`parse_ns` refuses `1m 3-5`, and makes the `DurationError`",
+            "`parse` refuses `1m 3-5`, and makes the `DurationError`",
             refuse_each,
             ["1m 3-5"] * FEW,
         ),
-        ("`format_many` of a Series of timedelta64", duration_str.format_many, lengths[:FEW]),
         (
             "`to_timedelta` of a Series of texts such as `3m 13s 29ms`",
             duration_str.to_timedelta,
             series,
         ),
         ("`pandas.to_timedelta` of such a Series", pandas.to_timedelta, series[:FEW]),
-        (
-            "`to_timedelta` of such a Series by Dask, in four processes, elapsed time",
-            in_processes,
-            series,
-        ),
         (
             "pytimeparse of texts such as `3h 13m 29s`, called one by one",
             in_a_loop(pytimeparse.parse),
@@ -91,6 +74,4 @@ def main():
         print(f"{what}\t{min(taken):.0f}")
 
 
-# Worker processes import this file too.
-if __name__ == "__main__":
-    main()
+main()

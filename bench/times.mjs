@@ -1,26 +1,17 @@
-// Prints times of the package for JavaScript, some of them over the lines of the standard input.
-// There is a line for each call, with its name, a tab, and the nanoseconds. These are the least of
-// many rounds, which are short, so that some run undisturbed.
-import { existsSync, readFileSync } from "node:fs";
+// Prints times of the package for JavaScript. There is a line for each call, with its name, a tab,
+// and the nanoseconds. These are the least of many rounds, which are short, so that some run
+// undisturbed.
 import { createRequire } from "node:module";
 
-import { DurationError, format, formatNs, parseNs, parse } from "../js/dist/duration-str.js";
+import { DurationError, format, parse } from "../js/dist/duration-str.js";
 import { parse as parsePlain } from "../js/dist/plain.js";
 
 const ROUNDS = 2_500;
 const HALF_HOUR = 1_800_000;
-const MILLIS = { defaultUnit: "ms" };
-const UNITS = { units: ["h", "min"] };
-const DOWN_TO_HOURS = { smallest: "h" };
-/** Debian's package node-ms. If it is missing, its lines are left out. */
-const MS = "/usr/share/nodejs/ms/index.js";
-
-const texts = readFileSync(0, "utf8").trimEnd().split("\n");
-const values = texts.map((text) => parseNs(text));
 
 function refuse(text) {
     try {
-        parseNs(text);
+        parse(text);
     } catch (error) {
         if (error instanceof DurationError) return error;
     }
@@ -31,28 +22,23 @@ const counts = Array.from({ length: 1000 }, (_, count) => count);
 const oneTerm = counts.map((count) => `${count % 60} ${["s", "min", "h", "d"][count % 4]}`);
 const hours = Array(1000).fill("1h");
 const halfHours = counts.map((count) => (1 + count % 47) * HALF_HOUR);
-const ms = existsSync(MS) ? createRequire(import.meta.url)(MS) : undefined;
+/** It is Debian's package node-ms. */
+const ms = createRequire(import.meta.url)("/usr/share/nodejs/ms/index.js");
 
 const calls = [
-    ["`parseNs`", (text) => parseNs(text), texts],
-    ["`parse`", (text) => parse(text), texts],
-    ["`parse` of `duration-str/plain`", (text) => parsePlain(text), texts],
-    ["`formatNs`, over their values", formatNs, values],
-    [
-        "`parseNs` refuses `1m 3-5`, and makes the `DurationError`",
-        refuse,
-        Array(100).fill("1m 3-5"),
-    ],
     ["`parse` of `1h`", (text) => parse(text), hours],
     ["`ms` of `1h`", (text) => ms(text), hours],
     ["`parse` of one term, such as `5 min`", (text) => parse(text), oneTerm],
+    ["`parse` of one term, by `duration-str/plain`", (text) => parsePlain(text), oneTerm],
     ["`ms` of one term", (text) => ms(text), oneTerm],
-    ["`parse` of a number such as `150`, as milliseconds", (value) => parse(value, MILLIS), counts],
+    [
+        "`parse` refuses `1m 3-5`, and makes the `DurationError`",
+        refuse,
+        Array(100).fill("1m 3-5"),
+    ],
     ["`format` of half hours, such as `13h 30min`", (length) => format(length), halfHours],
-    ["`format` of half hours, in hours and minutes", (length) => format(length, UNITS), halfHours],
-    ["`format` of half hours, down to hours", (length) => format(length, DOWN_TO_HOURS), halfHours],
     ["`ms` of half hours, which it rounds to a unit", (length) => ms(length), halfHours],
-].filter(([what]) => ms || !what.startsWith("`ms`"));
+];
 
 function nanosecondsACall(call, inputs) {
     const start = process.hrtime.bigint();

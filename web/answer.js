@@ -3,11 +3,10 @@ import { markedParts, notesOn, offersFor, sentence } from "./advice.js";
 import {
     changedOptions, choose, chosenFormat, chosenOptions, switches,
 } from "./choices.js";
-import { LANGUAGES } from "./code.js";
 import { button, element, make, MOST_LINES, parts, text, write } from "./elements.js";
 import { AROUND, lineOf } from "./sentences.js";
 import { LONG } from "./units.js";
-import { counts, decimal, groupDigits, iso, seconds, termRows } from "./values.js";
+import { counts, decimal, groupDigits, iso, seconds } from "./values.js";
 
 /** The texts that the copy buttons copy, by the ids of elements. */
 export const copied = {};
@@ -115,21 +114,9 @@ function showValue(line) {
     show("iso", iso(value));
     const counted = counts(value, chosenFormat());
     show("counts", counted, counted.replace(/[0-9]+/g, groupDigits));
-    const rows = termRows(text.value, chosenOptions());
-    element("terms").hidden = rows.length === 0;
-    fill(element("terms"), rows);
     const { sentences, offers } = remarksOn(line);
     element("notes").replaceChildren(...sentences.map((each) => make("p", ...parts(each))));
     showOffers(offers);
-}
-
-function showCode(isShown) {
-    element("no-code").hidden = isShown;
-    for (const id of ["how", "codes"]) element(id).hidden = !isShown;
-    for (const [id, [, , written]] of Object.entries(LANGUAGES)) {
-        show(id, isShown ? written(text.value, chosenOptions(), chosenFormat()) : "");
-        element(`${id}-code`).hidden = copied[id] === "";
-    }
 }
 
 // ---- Several lines
@@ -194,7 +181,6 @@ export function showAnswer() {
     element("lines").hidden = isOne;
     text.setAttribute("aria-invalid", String(!isRead && text.value !== ""));
     showMarks(lines.flatMap((each) => markedParts(each, options)));
-    showCode(isOne && isRead && text.value.length <= LONG);
     for (const id of ["sentence", "line"]) element(id).replaceChildren();
     if (!isOne || isRead) text.removeAttribute("aria-describedby");
     else text.setAttribute("aria-describedby", "sentence");

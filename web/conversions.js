@@ -44,15 +44,6 @@ const COMMON = new Map([
     ...UNITS.flatMap(({ near, printed }) => near.map((word) => [word, printed])),
     ...byWord({ ms: "millisec millisecs", µs: "microsec microsecs", ns: "nanosec nanosecs" }),
 ]);
-const FOREIGN = byWord({
-    y: "年間",
-    mon: "个月 か月 개월",
-    w: "woche wochen semaine semaines semana semanas неделя недели недель 星期 週間",
-    d: "tag tage jour jours día días день дня дней 日間",
-    h: "stunde stunden std heure heures hora horas час часа часов 小时 時間 시간",
-    min: "minuten minuto minutos минута минуты минут 分钟 分間",
-    sec: "sekunde sekunden seconde secondes segundo segundos секунда секунды секунд 秒钟 秒間",
-});
 
 /** Whether the words are equal, or one becomes the other if one letter is added, removed or
  * changed, or if two neighbours are swapped. */
@@ -79,9 +70,9 @@ function correction(word) {
 function unitName(word) {
     const small = word.toLowerCase();
     if (unitOf(word)) return word;
-    // `Mo` means megabytes, and `tag` without a capital is a label.
-    if (/^mos?$/.test(small) && word !== small || small === "tag" && word !== "Tag") return null;
-    return COMMON.get(small) ?? FOREIGN.get(small) ?? correction(small);
+    // `Mo` means megabytes.
+    if (/^mos?$/.test(small) && word !== small) return null;
+    return COMMON.get(small) ?? correction(small);
 }
 
 /** `3 x 5min` and `5min x 3` */
@@ -95,13 +86,12 @@ export function clean(text) {
 
 // ---- Readings
 
-/** The count is the digits times ten to the power, divided by the divisor. Returns its nanoseconds,
- * or null if they are not whole. */
-function nanosOf([digits, power, divisor = 1n], { nanos }) {
+/** The count is the digits times ten to the power. Returns its nanoseconds, or null if they are not
+ * whole. */
+function nanosOf([digits, power], { nanos }) {
     const ten = 10n ** BigInt(Math.abs(power));
-    const above = digits * nanos * (power > 0 ? ten : 1n);
-    const below = divisor * (power < 0 ? ten : 1n);
-    return above % below === 0n ? above / below : null;
+    if (power >= 0) return digits * nanos * ten;
+    return digits * nanos % ten === 0n ? digits * nanos / ten : null;
 }
 
 /** The text counts this unit, and those smaller units that are a day or shorter. */
@@ -269,11 +259,9 @@ const DIGIT = oneOf(WORDS.slice(0, 10));
 const BELOW_HUNDRED = `(?:${oneOf(TENS)})(?:[-\\s](?:${DIGIT}))?|${oneOf(WORDS)}`;
 const HUNDREDS = `(?:${DIGIT}) hundred(?: (?:and )?(?:${BELOW_HUNDRED}))?`;
 const WORD = `${HUNDREDS}|${BELOW_HUNDRED}|an?|half(?: an?)?`;
-const VULGAR = "¼½¾⅐⅑⅒⅓⅔⅕⅖⅗⅘⅙⅚⅛⅜⅝⅞";
-const FRACTION = String.raw`(?:[0-9]+\s*)?[${VULGAR}]|(?:[0-9]+\s+)?[0-9]+\/[0-9]+`;
 // A point right after a letter ends an abbreviation.
 const NUMBER = String.raw`(?:(?<!\p{L})\.)?[0-9](?:[.,_'’\u00a0\u202f]?[0-9])*(?:e[+\-]?[0-9]+)?`;
-const COUNT_OF_TERM = String.raw`(${FRACTION})\s*|(${NUMBER})\s*|(${WORD})\s+`;
+const COUNT_OF_TERM = String.raw`(${NUMBER})\s*|(${WORD})\s+`;
 const TERM = new RegExp(String.raw`(?:${COUNT_OF_TERM})(\p{L}+)(?:\.(?=\s|$))?`, "iuy");
 const JOINED = /\s*,\s*(?:and\s+)?|\s+and\s+|\s*[+&:]\s*|\s*/iy;
 const GROUPS = String.raw`[1-9][0-9]{0,2}(?:([.,_'’\u00a0\u202f])[0-9]{3})(?:\2[0-9]{3})*`;
@@ -319,69 +307,17 @@ function wordOf(words, name) {
     return { counts: [count], sentence: say`Write numbers in digits.` };
 }
 
-const IN_LINE = /^(?:([0-9]+)\s+)?([0-9]{1,2})\/([0-9]{1,2})$/;
-
-/** A fraction that is not in lowest terms may be two numbers, as in `5/10 minutes`. */
-function fractionOf(words, name) {
-    const inLine = (vulgar) => ` ${vulgar.normalize("NFKD").replace("⁄", "/")}`;
-    const ascii = words.replace(/[^0-9\s/]/, inLine).trim();
-    const [, whole = "", ...parts] = IN_LINE.exec(ascii) ?? [];
-    const [top, bottom] = parts.map(Number);
-    if (!(top > 0 && top < bottom)) return null;
-    for (let divisor = 2; divisor <= top; divisor++) {
-        if (top % divisor === 0 && bottom % divisor === 0) return null;
-    }
-    if (!whole && ascii === words && (isPlural(name) || !unitOf(name))) return null;
-    const count = BigInt(whole) * BigInt(bottom) + BigInt(top);
-    return { counts: [[count, 0, BigInt(bottom)]], sentence: say`Fractions can't be read.` };
-}
-
-function anyNumberOf(fraction, numeral, words, name) {
-    if (fraction) return fractionOf(fraction, name);
-    return numeral ? numberOf(numeral) : wordOf(words, name);
-}
-
-function termOf(fraction, numeral, words, name) {
-    const number = anyNumberOf(fraction, numeral, words, name);
-    // Before a foreign word, the language decides what groups digits and what begins a decimal.
-    if (number?.counts.length === 2 && FOREIGN.has(name.toLowerCase())) return null;
+function termOf(numeral, words, name) {
+    const number = numeral ? numberOf(numeral) : wordOf(words, name);
     if (number && /^fortnights?$/i.test(name)) {
         const weeks = number.counts.map(([digits, ...rest]) => [2n * digits, ...rest]);
-        return { ...number, counts: weeks, unit: WEEK, isForeign: true };
+        return { ...number, counts: weeks, unit: WEEK, isOther: true };
     }
     const unit = unitOf(unitName(name) ?? "");
     // A quarter may be one of an hour, or of a year.
     const isVague = words && unit?.names[0] === "q";
     if (!number || !unit || isVague || unit.chinese.includes(name)) return null;
-    return { ...number, unit, isForeign: !unitOf(name) };
-}
-
-const OF_TERM = /^(?:(?:(?:a|one) )?quarter(?: of an?)?|(three) quarters of an?)[ -](\p{L}+)$/iu;
-const COUNTED = `(${WORD}|[0-9]+)`;
-const HALF_AFTER_UNIT = `${COUNTED} (\\p{L}{3,}) and a half`;
-const HALF_BEFORE_UNIT = `${COUNTED} and a half (\\p{L}{3,})`;
-const AND_HALF = new RegExp(`^(?:${HALF_AFTER_UNIT}|${HALF_BEFORE_UNIT})$`, "iu");
-
-/** `an hour and a half`, `one and a half hours`, `quarter hour` and `three quarters of an hour` */
-function halves(text) {
-    const [, three, name] = OF_TERM.exec(text) ?? [];
-    const ofUnit = unitOf(name ?? "");
-    const sentence = say`Write numbers in digits.`;
-    if (ofUnit && ofUnit.nanos <= WEEK.nanos && !isPlural(name)) {
-        return meaning(text, [reading(ofUnit.nanos * (three ? 3n : 1n) / 4n, ofUnit)], sentence);
-    }
-    const [, count, before, wholes, after] = AND_HALF.exec(text) ?? [];
-    const words = count ?? wholes;
-    if (!words || /^half/i.test(words)) return null;
-    if (after && (!isPlural(after) || /^an?$/i.test(words))) return null;
-    // After `one and a half` the unit is in the plural, but its name is looked up in the singular.
-    const singular = after?.slice(0, -1);
-    const unit = before ?? (/^one$/i.test(words) ? singular : after);
-    const [numeral, word] = /^[0-9]/.test(words) ? [words] : [undefined, words];
-    const term = termOf(undefined, numeral, word, unit);
-    if (!term) return null;
-    const [[digits]] = term.counts;
-    return meaning(text, [reading((2n * digits + 1n) * term.unit.nanos / 2n, term.unit)], sentence);
+    return { ...number, unit, isOther: !unitOf(name) };
 }
 
 function termsOfSum(text) {
@@ -402,7 +338,7 @@ function termsOfSum(text) {
 }
 
 function wrongIn(sum) {
-    const isWrong = ({ sentence, isForeign, joined }) => sentence || isForeign || joined.trim();
+    const isWrong = ({ sentence, isOther, joined }) => sentence || isOther || joined.trim();
     return sum.find(isWrong)?.sentence ?? null;
 }
 
@@ -472,7 +408,6 @@ const REFUSED = [
 /** The first function that knows the text decides. */
 const CONVERSIONS = [
     afterKey, withinQuotes, clock, clockWithUnit, iso8601, primes, groupedByBlanks, sumOfTerms,
-    halves,
 ];
 
 /** The result is null if the notation is unknown. Its sentence is null if the library's line is

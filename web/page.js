@@ -4,7 +4,6 @@ import {
     choose, chosenOptions, defaultUnit, printing, REFUSED, SECOND, showNoCalc, switches, unitBoxes,
     WHOLE,
 } from "./choices.js";
-import { LANGUAGES } from "./code.js";
 import { button, element, make, text, write } from "./elements.js";
 import { readLink, showUnknown, writeLink } from "./link.js";
 import { STYLES } from "./lists.js";
@@ -15,7 +14,7 @@ import { UNITS } from "./units.js";
 const PAUSE = 500;
 /** How long the page says that something was copied or selected, in milliseconds. */
 const SHOWN = 4_000;
-const EXAMPLES = ["90m + 45s", "1h 30", "1.5h", "5 mins", "PT5M", "3m-1s"];
+const EXAMPLES = ["90m + 45s", "1d 12h", "1m * 90", "1h 30", "1.5h", "3m-1s"];
 
 let pause;
 let shownCopy;
@@ -102,21 +101,6 @@ function showPrinting() {
     }
 }
 
-function placeForCode([id, [title, got]]) {
-    const said = `the code in ${title}`;
-    const code = Object.assign(make("pre"), { id, tabIndex: 0, role: "group", ariaLabel: said });
-    const unseen = Object.assign(make("span", ` ${said}`), { className: "unseen" });
-    const copies = button(() => copy(id), "Copy", unseen);
-    copies.dataset.copies = id;
-    const heading = make("h3", `${title} `, make("code", got));
-    const shown = Object.assign(make("div", code, copies), { className: "code" });
-    return Object.assign(make("div", heading, shown), { id: `${id}-code` });
-}
-
-function showLanguages() {
-    element("codes").replaceChildren(...Object.entries(LANGUAGES).map(placeForCode));
-}
-
 /** Digits are copied without groups. A text that can't be copied is selected. */
 async function copy(id) {
     if (id === "link-note") copied[id] = writeLink();
@@ -149,13 +133,8 @@ showPrinting();
 for (const one of document.querySelectorAll("[data-copies]")) {
     one.addEventListener("click", () => copy(one.dataset.copies));
 }
-showLanguages();
 text.addEventListener("input", read);
 for (const box of Object.values(switches)) box.addEventListener("change", read);
-element("get").addEventListener("click", () => {
-    element("programs").scrollIntoView();
-    element("rust").focus({ preventScroll: true });
-});
 addEventListener("hashchange", open);
 if (location.hash) {
     open();

@@ -1,8 +1,7 @@
-import { breakdown, parseNs, parts } from "../js/dist/duration-str.js";
+import { breakdown, parts } from "../js/dist/duration-str.js";
 import { defaultUnitOf, terms, UNITS, unitOf } from "./units.js";
 
 const [MINUTE, SECOND] = ["m", "s"].map((name) => unitOf(name).nanos);
-const SHOWN = 20;
 
 /** `193,029` */
 export function groupDigits(digits) {
@@ -55,38 +54,4 @@ export function iso(nanos) {
     if (rest) clock += `${seconds(rest)}S`;
     if (clock) return `${date}T${clock}`;
     return days ? date : "PT0S";
-}
-
-const inSeconds = (nanos) => `${groupDigits(seconds(nanos))} s`;
-
-/** The steps of a product, in the library's order: first the later terms from left to right, and
- * then the first term. */
-function steps(values) {
-    const rows = [];
-    const multiply = (one, other) => {
-        const product = one * other / SECOND;
-        const factors = [one, other].map((each) => groupDigits(seconds(each)));
-        rows.push([factors.join(" × "), inSeconds(product)]);
-        return product;
-    };
-    const [first, second, ...others] = values;
-    multiply(first, others.reduce(multiply, second));
-    return rows;
-}
-
-/** A single term has no rows. If there are more than SHOWN terms, the last row says so in place of
- * the sum or the steps. */
-export function termRows(text, options) {
-    const found = [];
-    for (const term of terms(text, options)) if (found.push(term) > SHOWN) break;
-    if (found.length < 2) return [];
-    const values = found.slice(0, SHOWN).map(({ words }) => parseNs(words, options));
-    const rows = values.map((value, place) => {
-        const { operator, words } = found[place];
-        const before = place === 0 ? "" : `${operator || "+"} `;
-        return [before + words.replace(/\s+/g, " "), inSeconds(value)];
-    });
-    if (found.length > SHOWN) return [...rows, ["and more terms", ""]];
-    if (found[1].operator === "*") return [...rows, ...steps(values)];
-    return [...rows, ["together", inSeconds(values.reduce((a, b) => a + b))]];
 }

@@ -5,19 +5,14 @@
 //! - `calls SIDE nothing COUNT`: runs only the loop.
 //! - `calls SIDE read COUNT`, `calls SIDE print COUNT`: reads `3m 13s 29ms`, or prints its duration
 //!   into a buffer.
-//! - `calls SIDE print NANOS COUNT`, `calls crate parts PARTS NANOS COUNT`: prints a duration into
-//!   a buffer, whole or in at most PARTS parts.
-//! - `calls SIDE units COUNT`: reads `3m 13s 29ms`, with units required.
-//! - `calls SIDE millis TEXT COUNT`: reads a text, with milliseconds as the default unit.
-//! - `calls crate as-humantime TEXT COUNT`, `calls crate print-as-humantime NANOS COUNT`: reads a
-//!   text, or prints a duration into a `String`, by the module `humantime`.
-//! - `calls crate print-string COUNT`: prints the duration of `3m 13s 29ms` into a `String`.
+//! - `calls crate parts PARTS COUNT`: prints this duration into a buffer, in at most PARTS parts.
+//! - `calls crate print-string COUNT`: prints it into a `String`.
+//! - `calls crate as-humantime TEXT COUNT`, `calls crate print-as-humantime COUNT`: reads a text, or
+//!   prints the duration into a `String`, by the module `humantime`.
 //! - `calls SIDE with OPTIONS TEXT COUNT`: reads a text under OPTIONS, a sum of 1 for `no_calc`, 2
 //!   for `lowercase` and 4 for `cn_unit`.
-//! - `calls SIDE text BYTES COUNT`: reads a text of BYTES bytes.
-//! - `calls SIDE read-expressions COUNT`, `.. print-expressions ..`, `.. print-below-day ..`: reads
-//!   the 1,000 expressions of `texts.rs`, prints their values into a buffer, or prints the part of
-//!   each value below a day.
+//! - `calls SIDE read-expressions COUNT`, `calls SIDE print-expressions COUNT`: reads the 1,000
+//!   expressions of `texts.rs`, or prints their values into a buffer.
 //! - `calls SIDE refuse NAME COUNT`: reads a refused text, and writes the error's line into a
 //!   buffer. `texts.rs` has the names.
 //! - `calls crate error NAME COUNT`, `calls crate printed-error NAME COUNT`: reads a refused text

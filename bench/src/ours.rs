@@ -1,12 +1,10 @@
 //! The calls that are measured: the calls of the Rust crate, and those of the archive through C.
-use crate::texts::{EXPRESSION, below_day, expressions, long_text, refusal, repeat};
+use crate::texts::{EXPRESSION, expressions, refusal, repeat};
 use duration_str::{
     DurationError, FORMAT_BUFFER_SIZE, Format, HUMAN_BUFFER_SIZE, HumanFormat,
-    ONE_LINE_BUFFER_SIZE, Options, TimeUnit,
+    ONE_LINE_BUFFER_SIZE, Options,
 };
-use duration_str::{
-    parse, parse_duration, parse_in, parse_require_unit, parse_with, write_format, write_human,
-};
+use duration_str::{parse, parse_duration, parse_with, write_format, write_human};
 use std::hint::black_box;
 use std::time::Duration;
 
@@ -17,12 +15,6 @@ pub trait Library {
     fn reading(text: &str) -> Self::Value;
     /// The options are bits of `duration_str.h`.
     fn reading_with(text: &str, options: u32) -> Self::Value;
-    fn reading_units(_: &str) -> Self::Value {
-        unimplemented!()
-    }
-    fn reading_millis(_: &str) -> Self::Value {
-        unimplemented!()
-    }
     fn reading_as_humantime(_: &str) -> Duration {
         unimplemented!()
     }
@@ -64,14 +56,6 @@ impl Library for Crate {
             },
         )
         .expect("a text that is read")
-    }
-
-    fn reading_units(text: &str) -> Duration {
-        parse_require_unit(text).expect("a text that is read")
-    }
-
-    fn reading_millis(text: &str) -> Duration {
-        parse_in(text, TimeUnit::MilliSecond).expect("a text that is read")
     }
 
     fn reading_as_humantime(text: &str) -> Duration {
@@ -171,14 +155,6 @@ impl Library for Archive {
         answer.nanos
     }
 
-    fn reading_units(text: &str) -> u64 {
-        Archive::reading_with(text, 8)
-    }
-
-    fn reading_millis(text: &str) -> u64 {
-        Archive::reading_with(text, 0x9_0001)
-    }
-
     fn printing(length: Duration) -> usize {
         let nanos = length.as_secs() * 1_000_000_000 + u64::from(length.subsec_nanos());
         let mut buffer = [0; HUMAN_BUFFER_SIZE];
@@ -206,24 +182,9 @@ impl Library for Archive {
     }
 }
 
-/// It is a function of its own, so that it doesn't change how the other calls are compiled.
-#[inline(never)]
-fn print_all<L: Library>(count: u64, of: fn(Duration) -> Duration) {
-    let lengths: Vec<Duration> = expressions()
-        .iter()
-        .map(|text| of(Crate::reading(text)))
-        .collect();
-    repeat(count, || {
-        lengths.iter().for_each(|length| {
-            black_box(L::printing(black_box(*length)));
-        })
-    });
-}
-
 /// The first lines of `calls.rs` describe the words.
 pub fn calls<L: Library>(words: &[&str], count: u64) {
     let length = Duration::new(193, 29_000_000);
-    let of_nanos = |nanos: &str| Duration::from_nanos(nanos.parse().expect("nanoseconds"));
     match words {
         ["nothing"] => repeat(count, || {
             black_box(black_box(EXPRESSION));
@@ -231,32 +192,17 @@ pub fn calls<L: Library>(words: &[&str], count: u64) {
         ["read"] => repeat(count, || {
             black_box(L::reading(black_box(EXPRESSION)));
         }),
-        ["units"] => repeat(count, || {
-            black_box(L::reading_units(black_box(EXPRESSION)));
-        }),
-        ["millis", text] => repeat(count, || {
-            black_box(L::reading_millis(black_box(text)));
-        }),
         ["as-humantime", text] => repeat(count, || {
             black_box(L::reading_as_humantime(black_box(text)));
         }),
-        ["print-as-humantime", nanos] => {
-            let length = of_nanos(nanos);
-            repeat(count, || {
-                black_box(L::printing_as_humantime(black_box(length)));
-            });
-        }
+        ["print-as-humantime"] => repeat(count, || {
+            black_box(L::printing_as_humantime(black_box(length)));
+        }),
         ["print"] => repeat(count, || {
             black_box(L::printing(black_box(length)));
         }),
-        ["print", nanos] => {
-            let length = of_nanos(nanos);
-            repeat(count, || {
-                black_box(L::printing(black_box(length)));
-            });
-        }
-        ["parts", parts, nanos] => {
-            let (length, parts) = (of_nanos(nanos), parts.parse().expect("a number of parts"));
+        ["parts", parts] => {
+            let parts = parts.parse().expect("a number of parts");
             repeat(count, || {
                 black_box(L::printing_parts(black_box(length), black_box(parts)));
             });
@@ -270,12 +216,6 @@ pub fn calls<L: Library>(words: &[&str], count: u64) {
                 black_box(L::reading_with(black_box(text), black_box(options)));
             });
         }
-        ["text", bytes] => {
-            let text = long_text(bytes.parse().expect("a length"));
-            repeat(count, || {
-                black_box(L::reading(black_box(&text)));
-            });
-        }
         ["read-expressions"] => {
             let texts = expressions();
             repeat(count, || {
@@ -284,8 +224,15 @@ pub fn calls<L: Library>(words: &[&str], count: u64) {
                 })
             });
         }
-        ["print-expressions"] => print_all::<L>(count, |length| length),
-        ["print-below-day"] => print_all::<L>(count, below_day),
+        ["print-expressions"] => {
+            let texts = expressions();
+            let lengths: Vec<Duration> = texts.iter().map(|text| Crate::reading(text)).collect();
+            repeat(count, || {
+                lengths.iter().for_each(|length| {
+                    black_box(L::printing(black_box(*length)));
+                })
+            });
+        }
         ["refuse", name] => {
             let text = refusal(name);
             let mut buffer = [0; ROOM];

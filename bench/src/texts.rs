@@ -1,6 +1,4 @@
 //! The texts of the single calls, and a loop for these calls.
-use std::time::Duration;
-
 pub const EXPRESSION: &str = "3m 13s 29ms";
 
 /// Units, from the year down, by names that this library and humantime read. The number is the
@@ -52,25 +50,10 @@ pub fn expressions() -> Vec<String> {
     (0..1000).map(&mut expression).collect()
 }
 
-pub fn below_day(length: Duration) -> Duration {
-    Duration::new(length.as_secs() % 86_400, length.subsec_nanos())
-}
-
-pub fn long_text(bytes: usize) -> String {
-    let mut text = "1ns ".repeat(bytes / 4);
-    while text.len() < bytes {
-        text.push(' ');
-    }
-    text
-}
-
 pub fn refusal(name: &str) -> String {
     let text = match name {
-        "empty" => "",
         "syntax" => "1m 3-5",
         "number" => "18446744073709551616s",
-        "first-term" => "600000000000y",
-        "mixed" => "1m + 2s * 3",
         "fraction" => "1.5h",
         _ => panic!("no refused text: {name}"),
     };

@@ -120,14 +120,6 @@ class Lines(unittest.TestCase):
         self.assertEqual(milliseconds.convert(60_000, None, None), MINUTE)
 
 
-@unittest.skipUnless(has("dask") and has("pandas"), "Dask or pandas is missing")
-class Cluster(unittest.TestCase):
-    def test_reads_a_million_texts_in_several_processes(self):
-        # 250,000 times the sum of 90 and 7,200 seconds. Debian 13's Dask warns about itself.
-        status, output, _ = run("cluster.py")
-        self.assertEqual((status, output), (0, "21093 days 18:00:00 [1, 5, 9]\n"))
-
-
 LINE = 'unknown unit "mins" at column 3 (did you mean "min"?)'
 
 

@@ -7,9 +7,8 @@ import test from "node:test";
 
 import { formatNs, parseNs, tryParseNs } from "../../js/dist/duration-str.js";
 import { markedParts, notesOn, offersFor, sentence } from "../advice.js";
-import { LANGUAGES } from "../code.js";
 import { lineOf, shorten } from "../sentences.js";
-import { counts, decimal, groupDigits, iso, seconds, termRows } from "../values.js";
+import { counts, decimal, groupDigits, iso, seconds } from "../values.js";
 
 const TEXTS = JSON.parse(readFileSync(new URL("texts.json", import.meta.url), "utf8"));
 /** The most words in the page's own sentence. A quoted text counts as one. */
@@ -61,15 +60,6 @@ test("counts the units in which a value is printed", () => {
         ["0", { smallest: "h" }, "none"],
     ]) {
         assert.equal(counts(parseNs(text), format), wanted);
-    }
-});
-
-test("shows a text term by term", () => {
-    for (const [text, names, rows] of TEXTS.terms) {
-        assert.deepEqual(termRows(text, optionsOf(names)).flat(), rows ?? [], text);
-    }
-    for (const [count, last] of [[20, "together"], [21, "and more terms"]]) {
-        assert.equal(termRows("1s ".repeat(count), NONE).at(-1)[0], last);
     }
 });
 
@@ -140,10 +130,4 @@ test("many words and signs around a duration", () => {
         const text = `${sign.repeat(1_900 / sign.length)}5m`;
         assert.deepEqual(offersFor(text, options), [], sign);
     }
-});
-
-test("the line for Cargo.toml is that of README", () => {
-    const [, line] = LANGUAGES.rust;
-    const readme = readFileSync(new URL("../../README.md", import.meta.url), "utf8");
-    assert.ok(readme.includes(`\n[dependencies]\n${line}\n`), line);
 });

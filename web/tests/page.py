@@ -4,7 +4,6 @@ of browsers.py, or takes its pictures. web/check calls it.
 texts.json has texts and what the page shows for them, written by hand:
 
 "values"    the printed text, and the value in nanoseconds, milliseconds, seconds and ISO 8601
-"terms"     the rows of the table of terms
 "notes"     the notes on the text
 "faults"    the part that is marked, and for some texts the sentence
 "lines"     the parts that are marked, and the rows of the table of lines
@@ -15,7 +14,6 @@ advice.test.js tries most of this without a browser, so only some of those rows 
 "typed" texts are put in character by character. "hostile" texts must be shown and do nothing else,
 and "hostile links" must not change how durations are printed.
 """
-import ast
 import base64
 import contextlib
 import json
@@ -23,7 +21,6 @@ import pathlib
 import re
 import subprocess
 import sys
-import tempfile
 import urllib.parse
 
 HERE = pathlib.Path(__file__).resolve().parent
@@ -39,8 +36,8 @@ from selenium.webdriver.support.ui import Select, WebDriverWait  # noqa: E402
 
 TEXTS = json.loads((HERE / "texts.json").read_text(encoding="utf-8"))
 SCHEMES = ("light", "dark")
-# The page has 106,991 bytes, and may have 15 % more
-LARGEST = int(1.15 * 106_991)
+# The page has 98,650 bytes, and may have 15 % more
+LARGEST = int(1.15 * 98_650)
 # The height that the keyboard of a phone of 375 by 667 pixels leaves free
 FREE = 300
 PICTURES = ROOT / "docs/images"
@@ -195,10 +192,6 @@ def try_values(page):
         ]
         page.same(f"{text} under {options}", expected, got)
         page.same(f"the fault of {text}", None, page.text_of("sentence"))
-    for text, options, expected in one_of_each(TEXTS["terms"], lambda row: row[2] is None):
-        page.choose(*options)
-        page.put(text)
-        page.same(f"the terms of {text}", expected, page.words("#terms th, #terms td") or None)
     for text, options, notes in one_of_each(TEXTS["notes"], lambda row: len(row[2])):
         page.choose(*options)
         page.put(text)
@@ -253,8 +246,8 @@ def try_lines(page):
         )
         page.same(
             f"of {text!r} as a whole",
-            [None] * 5,
-            [page.text_of(name) for name in ("printed", "sentence", "iso", "rust", "suggestions")],
+            [None] * 4,
+            [page.text_of(name) for name in ("printed", "sentence", "iso", "suggestions")],
         )
     page.put("30s\n 5 mins\n1h")
     page.click("#lines button")
@@ -363,85 +356,6 @@ def try_units(page):
         page.same(f"min added to {text}", becomes, page.text())
 
 
-def shows(page, what, code):
-    for name, part in code.items():
-        text = page.text_of(name)
-        is_so = text is None if part is None else part in (text or "")
-        page.same(f"{part} in {name}, of {what}", True, is_so)
-
-
-def try_code(page):
-    for link, code in {
-        "1m%092%C2%B5s%0A&no_calc&cn_unit": {
-            "rust": r'parse_with("1m\t2µs\n", Options { no_calc: true, cn_unit: true, ..Options::off() })?;',
-            "python": r'duration_str.parse("1m\t2µs\n", no_calc=True, cn_unit=True)',
-            "javascript": r'parse("1m\t2µs\n", { noCalc: true, cnUnit: true });',
-            "c": "sizeof text - 1, DURATION_STR_OPTION_NO_CALC | DURATION_STR_OPTION_CN_UNIT, &answer);",
-            "shell": None,
-        },
-        "1h%2030m&require_unit": {
-            "rust": 'parse_require_unit("1h 30m")?;',
-            "python": 'duration_str.parse("1h 30m", require_unit=True)',
-            "javascript": 'parse("1h 30m", { requireUnit: true });',
-            "c": "sizeof text - 1, DURATION_STR_OPTION_REQUIRE_UNIT, &answer);",
-            "shell": "duration --require-unit -- '1h 30m'",
-        },
-        # Neither `durstr` nor `duration` has both options.
-        "1h%2030m&no_calc&require_unit": {"shell": None},
-        "1h%2030m&cn_unit&require_unit": {
-            "rust": 'parse_with_default_unit("1h 30m", Options { cn_unit: true, ..Options::off() }, None)?;',
-            "shell": "duration --cn-unit --require-unit -- '1h 30m'",
-        },
-        "1500&default_unit=ms": {
-            "rust": 'parse_in("1500", TimeUnit::MilliSecond)?;',
-            "python": 'duration_str.parse("1500", default_unit="ms")',
-            "javascript": 'parse("1500", { defaultUnit: "ms" });',
-            "c": "1, DURATION_STR_OPTION_DEFAULT_UNIT(DURATION_STR_UNIT_MILLISECOND), &answer);",
-            "shell": "duration --from ms -- '1500'",
-        },
-        "1s%20500&default_unit=ms": {
-            "rust": "use duration_str::{format_duration, parse_in, TimeUnit};",
-            "shell": "duration --from ms -- '1s 500'",
-        },
-        "1s%20500ms&lowercase&default_unit=%C2%B5s": {
-            "rust": 'parse_with_default_unit("1s 500ms", Options { no_calc: true, lowercase: true, '
-            "..Options::off() }, Some(TimeUnit::MicroSecond))?;"
-        },
-    }.items():
-        page.open(f"#text={link}")
-        shows(page, link, code)
-    page.same("no_calc is turned on", [True, False], no_calc_box(page))
-    page.choose()
-    page.same("no_calc is not turned on", [False, True], no_calc_box(page))
-    for text in ("1h", "\t1m\n", "2 * 5 µs"):
-        page.put(text)
-        call = ast.parse(page.text_of("python")).body[1].value
-        page.same(
-            f"Python's literal of {text!r}",
-            [[text], []],
-            [[each.value for each in call.args], call.keywords],
-        )
-        literal = page.text_of("javascript").split("= parse(")[1].split(");\nconst text")[0]
-        page.same(f"JavaScript's literal of {text!r}", text, page.run(f"return {literal}"))
-        page.same(
-            f"Rust's options of {text!r}", True, ", Options::off())?;\n" in page.text_of("rust")
-        )
-        page.same(f"C's literal of {text!r}", text.encode(), literal_of_c(page.text_of("c")))
-    page.put("2 * 1h")
-    line = page.text_of("shell").replace("durstr", "cat")
-    page.same(
-        "the shell's line",
-        "2 * 1h\n",
-        subprocess.run(["sh", "-c", line], stdout=subprocess.PIPE, text=True).stdout,
-    )
-    page.put("1m x")
-    page.same(
-        "no code of what is refused",
-        [None, None, True],
-        [page.text_of("rust"), page.text_of("how"), page.text_of("no-code") is not None],
-    )
-
-
 def no_calc_box(page):
     box = page.find("no_calc")
     return [box.is_selected(), box.is_enabled()]
@@ -450,66 +364,24 @@ def no_calc_box(page):
 def try_printing(page):
     """90,061 s are 1 day 1 hour 1 minute 1 second."""
     rows = [
-        ({}, "1d 1h 1min 1s 1ns", {"shell": "printf '%s\\n' '90061s 1ns' | durstr"}),
-        (
-            {"style": "compact"},
-            "1d1h1min1s1ns",
-            {
-                "rust": ".style(Style::Compact)",
-                "python": 'style="compact"',
-                "shell": "duration --style compact -- '90061s 1ns'",
-            },
-        ),
-        (
-            {"style": "long", "parts": "2"},
-            "1 day 1 hour",
-            {
-                "counts": "1 d, 1 h, 61,000,000,001 ns left out",
-                "rust": ".style(Style::Long).parts(2)",
-                "python": 'style="long", parts=2',
-                "c": "answer.nanos / 1000000000, answer.nanos % 1000000000,\n"
-                "    DURATION_STR_UNITS_ALL,\n    2, DURATION_STR_STYLE_LONG, buffer);",
-            },
-        ),
-        (
-            {"largest": "h", "smallest": "min"},
-            "25h 1min",
-            {
-                "rust": ".largest(TimeUnit::Hour).smallest(TimeUnit::Minute)",
-                "python": 'largest="h", smallest="min"',
-                "javascript": '{ largest: "h", smallest: "min" }',
-                "shell": "duration --largest h --smallest min -- '90061s 1ns'",
-                "c": "    DURATION_STR_UNITS_BETWEEN("
-                "DURATION_STR_UNIT_HOUR, DURATION_STR_UNIT_MINUTE),\n"
-                f"    {len(reference_parser.UNITS)}, DURATION_STR_STYLE_SHORT,",
-            },
-        ),
+        ({}, "1d 1h 1min 1s 1ns", "1 d, 1 h, 1 min, 1 s, 1 ns"),
+        ({"style": "compact"}, "1d1h1min1s1ns", "1 d, 1 h, 1 min, 1 s, 1 ns"),
+        ({"style": "long", "parts": "2"}, "1 day 1 hour", "1 d, 1 h, 61,000,000,001 ns left out"),
+        ({"largest": "h", "smallest": "min"}, "25h 1min", "25 h, 1 min, 1,000,000,001 ns left out"),
         (
             {"parts": "3", "units": "d,min,ns"},
             "1d 61min 1000000001ns",
-            {
-                "rust": ".parts(3).only(&[TimeUnit::Day, TimeUnit::Minute, TimeUnit::NanoSecond])",
-                "python": 'parts=3, units=("d", "min", "ns"))',
-                "javascript": '{ parts: 3, units: ["d", "min", "ns"] });',
-                "shell": "duration --parts 3 --units d,min,ns -- '90061s 1ns'",
-                "c": "    DURATION_STR_UNITS(DURATION_STR_UNIT_DAY) |\n"
-                "    DURATION_STR_UNITS(DURATION_STR_UNIT_MINUTE) |\n"
-                "    DURATION_STR_UNITS(DURATION_STR_UNIT_NANOSECOND),\n    3,",
-            },
+            "1 d, 61 min, 1,000,000,001 ns",
         ),
-        (
-            {"smallest": "µs"},
-            "1d 1h 1min 1s",
-            {"rust": "TimeUnit::MicroSecond", "javascript": 'smallest: "µs"'},
-        ),
+        ({"smallest": "µs"}, "1d 1h 1min 1s", "1 d, 1 h, 1 min, 1 s, 1 ns left out"),
     ]
-    for chosen, printed, code in rows:
+    for chosen, printed, counts in rows:
         words = "".join(
             f"&{name}={urllib.parse.quote(value, safe=',')}" for name, value in chosen.items()
         )
         page.open("#text=90061s%201ns" + words)
-        page.same(f"printed by {chosen}", printed, page.text_of("printed"))
-        shows(page, chosen, code)
+        got = [page.text_of(name) for name in ("printed", "counts")]
+        page.same(f"printed by {chosen}", [printed, counts], got)
         page.type("90061s 1ns")
         page.wait()
         page.same(
@@ -579,15 +451,6 @@ def try_units_printed(page):
     same("no units in the link", "1h", "y q mon w d h min s ms µs ns")
 
 
-def literal_of_c(code):
-    line = next(line for line in code.splitlines() if line.startswith("const char text[]"))
-    program = f"#include <stdio.h>\n{line}\nint main(void) {{ fwrite(text, 1, sizeof text - 1, stdout); }}\n"
-    with tempfile.TemporaryDirectory() as room:
-        words = ["cc", "-std=c99", "-Wall", "-Werror", "-x", "c", "-", "-o", f"{room}/printed"]
-        subprocess.run(words, input=program, text=True, check=True)
-        return subprocess.run([f"{room}/printed"], stdout=subprocess.PIPE, check=True).stdout
-
-
 def try_copying(page):
     page.open("#text=1h%2030m%201ms&parts=2")
     copied = {
@@ -597,10 +460,9 @@ def try_copying(page):
         "seconds": "5400.001",
         "iso": "PT1H30M0.001S",
         "counts": "1 h, 30 min, 1000000 ns left out",
-        "python": page.text_of("python"),
         "link-note": page.address + "#text=1h%2030m%201ms&parts=2",
     }
-    page.same("copy buttons", 12, len(page.driver.find_elements(By.CSS_SELECTOR, "[data-copies]")))
+    page.same("copy buttons", 7, len(page.driver.find_elements(By.CSS_SELECTOR, "[data-copies]")))
     for name, expected in copied.items():
         page.click(f"[data-copies={name}]")
         page.until(lambda: page.text_of("copied") == f"Copied: {expected.splitlines()[0]}")
@@ -679,6 +541,9 @@ def try_link(page):
         ["", ["cn_unit"], "short"],
         [page.text(), page.chosen(), page.find("style").get_property("value")],
     )
+    page.open("#text=1s&default_unit=ms")
+    page.choose()
+    page.same("no_calc without a default unit", [False, True], no_calc_box(page))
     page.open("#default_unit=ms")
     for link, wanted in ("default_unit=h", [True, False]), ("no_calc", [True, True]):
         page.follow(link)
