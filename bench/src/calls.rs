@@ -5,7 +5,8 @@
 //! - `calls SIDE nothing COUNT`: runs only the loop.
 //! - `calls SIDE read COUNT`, `calls SIDE print COUNT`: reads `3m 13s 29ms`, or prints its duration
 //!   into a buffer.
-//! - `calls crate parts PARTS COUNT`: prints this duration into a buffer, in at most PARTS parts.
+//! - `calls SIDE parts PARTS COUNT`: prints this duration into a buffer, in at most PARTS parts.
+//! - `calls archive rounded PARTS COUNT`: does so too, rounded to the nearest.
 //! - `calls crate print-string COUNT`: prints it into a `String`.
 //! - `calls crate as-humantime TEXT COUNT`, `calls crate print-as-humantime COUNT`: reads a text, or
 //!   prints the duration into a `String`, by the module `humantime`.

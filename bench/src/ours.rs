@@ -26,6 +26,10 @@ pub trait Library {
     fn printing_parts(_: Duration, _: u32) -> usize {
         unimplemented!()
     }
+    /// Rounds to the nearest duration that prints whole in these parts, and prints that.
+    fn printing_rounded(_: Duration, _: u32) -> usize {
+        unimplemented!()
+    }
     fn printing_string(_: Duration) -> String {
         unimplemented!()
     }
@@ -94,6 +98,9 @@ impl Library for Crate {
 
 pub struct Archive;
 
+/// `DURATION_STR_UNITS_ALL`
+const ALL_UNITS: u32 = 0x7FF;
+
 impl Archive {
     fn answer(text: &str, options: u32) -> (Answer, bool) {
         let mut answer = Answer::default();
@@ -122,6 +129,21 @@ struct Answer {
 unsafe extern "C" {
     fn duration_str_parse(text: *const u8, length: usize, nanos: *mut u64) -> bool;
     fn duration_str_format(nanos: u64, buffer: *mut u8) -> usize;
+    fn duration_str_format_with(
+        secs: u64,
+        nanos: u32,
+        units: u32,
+        parts: u32,
+        style: u32,
+        buffer: *mut u8,
+    ) -> usize;
+    fn duration_str_round(
+        secs: *mut u64,
+        nanos: *mut u32,
+        units: u32,
+        parts: u32,
+        rounding: u32,
+    ) -> bool;
     fn duration_str_parse_with(
         text: *const u8,
         length: usize,
@@ -162,6 +184,24 @@ impl Library for Archive {
         let end = unsafe { duration_str_format(nanos, buffer.as_mut_ptr()) };
         black_box(&buffer);
         end
+    }
+
+    fn printing_parts(length: Duration, parts: u32) -> usize {
+        let (secs, nanos, mut buffer) = (length.as_secs(), length.subsec_nanos(), [0; 144]);
+        // SAFETY: the buffer has the 144 bytes that may be written.
+        let end = unsafe {
+            duration_str_format_with(secs, nanos, ALL_UNITS, parts, 0, buffer.as_mut_ptr())
+        };
+        black_box(&buffer);
+        end
+    }
+
+    fn printing_rounded(length: Duration, parts: u32) -> usize {
+        let (mut secs, mut nanos) = (length.as_secs(), length.subsec_nanos());
+        // SAFETY: only `secs` and `nanos` are read and written.
+        let is_rounded = unsafe { duration_str_round(&mut secs, &mut nanos, ALL_UNITS, parts, 1) };
+        assert!(is_rounded, "nothing is nearest");
+        Archive::printing_parts(Duration::new(secs, nanos), parts)
     }
 
     fn refusing(text: &str, buffer: &mut [u8; ROOM]) -> usize {
@@ -205,6 +245,12 @@ pub fn calls<L: Library>(words: &[&str], count: u64) {
             let parts = parts.parse().expect("a number of parts");
             repeat(count, || {
                 black_box(L::printing_parts(black_box(length), black_box(parts)));
+            });
+        }
+        ["rounded", parts] => {
+            let parts = parts.parse().expect("a number of parts");
+            repeat(count, || {
+                black_box(L::printing_rounded(black_box(length), black_box(parts)));
             });
         }
         ["print-string"] => repeat(count, || {
