@@ -3,7 +3,7 @@
 use Rattle.duration_str.proofs.Common.{[], ALL, answer, arith, Bool, Cause, codes, Compact, counts_of, Empty, encode_utf8_all, Err, Expected, false, flat_map, if◌then◌else◌, inl, inr, length, List, Long, map, MAX_LONG_LEN, MAX_PRINTED_LEN, message_of, Mixed, nanos_of, nat_lt, None, nonzero, NumberTooLarge, off, Ok, older_row_of, older_rules, Options, OutOfRange, Overflow, Plus, printed_counts, Quarter, refl, replicate, Result, row_of, rules_of, rules_with, Short, Some, Star, Style, Syntax, TimeUnit, true, unit_lengths, unit_of_word, units, units_within, ℕ, ◌++◌, ◌∷◌, ◌≡◌}
 use Rattle.duration_str.specs.declared.format.Format.{Format}
 use Rattle.duration_str.specs.declared.unit.TimeUnit.TheVariants.{Day, Hour, MicroSecond, MilliSecond, Minute, Month, NanoSecond, Second, Week, Year}
-use Rattle.duration_str.proofs.LawProofs.Rounding.{nearest_up, none_above, only_zero, rounded_down, rounded_up, zero_above}
+use Rattle.duration_str.proofs.LawProofs.Rounding.{near_own, nearest_up, none_above, only_zero, rounded_down, rounded_up, zero_above}
 use Rattle.duration_str.specs.Breakdown.{sum_of_parts}
 use Rattle.duration_str.specs.Rounding.{IsNearest, IsRoundedDown, IsRoundedUp, NoneAbove}
 use Rattle.duration_str.specs.Format.{chosen, intersection, counts_within, down_to, is_in, lengths_within, set_of, shorter_units, text_within, up_to, whole_format, without_unit}
@@ -404,19 +404,20 @@ rounded_durations =
       down = rounded_down one_part 7_199_000_000_000 3_599_000_000_000 refl;
       nearest = nearest_up one_part 7_199_000_000_000 3_600_000_000_000 7_200_000_000_000
           (rounded_down one_part 7_199_000_000_000 3_599_000_000_000 refl)
-          (rounded_up one_part 7_199_000_000_000 _ _ (omega arith) refl) (omega arith);
-      up = rounded_up one_part 3_600_000_000_001 _ _ (omega arith) refl;
+          (rounded_up one_part 7_199_000_000_000 _ _ (omega arith) (near_own one_part 7_199_000_000_000)) (omega arith);
+      up = rounded_up one_part 3_600_000_000_001 _ _ (omega arith) (near_own one_part 3_600_000_000_001);
       halfway = nearest_up in_minutes 30_000_000_000 0 60_000_000_000
           (rounded_down in_minutes 30_000_000_000 30_000_000_000 refl)
-          (rounded_up in_minutes 30_000_000_000 _ _ (omega arith) refl) (omega arith);
-      quarters = rounded_up one_part 31_449_600_000_000_001 _ _ (omega arith) refl;
-      weeks = rounded_up months_and_weeks 2_505_600_000_000_000 _ _ (omega arith) refl;
-      whole = rounded_up one_part 2_592_000_000_000_000 _ _ (omega arith) refl;
+          (rounded_up in_minutes 30_000_000_000 _ _ (omega arith) (near_own in_minutes 30_000_000_000)) (omega arith);
+      quarters = rounded_up one_part 31_449_600_000_000_001 _ _ (omega arith) (near_own one_part 31_449_600_000_000_001);
+      weeks = rounded_up months_and_weeks 2_505_600_000_000_000 _ _ (omega arith) (near_own months_and_weeks 2_505_600_000_000_000);
+      whole = rounded_up one_part 2_592_000_000_000_000 _ _ (omega arith) (near_own one_part 2_592_000_000_000_000);
       no_parts = zero_above (record whole_format { parts = 0 }) 1
           (only_zero (record whole_format { parts = 0 }) (inr (inl refl))) (omega arith);
       too_long = none_above (only (Year ∷ [])) 18_446_744_073_709_551_615_999_999_999
           18_446_744_073_738_816_000_000_000_000
-          (rounded_up (only (Year ∷ [])) 18_446_744_073_709_551_615_999_999_999 _ _ (omega arith) refl) (omega arith);
+          (rounded_up (only (Year ∷ [])) 18_446_744_073_709_551_615_999_999_999 _ _ (omega arith)
+          (near_own (only (Year ∷ [])) 18_446_744_073_709_551_615_999_999_999)) (omega arith);
     }
 
 abbrev units_from : TimeUnit → List TimeUnit → List TimeUnit

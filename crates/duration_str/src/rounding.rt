@@ -1,12 +1,16 @@
 //! Durations rounded to those that print whole in a format: that fit into its units and parts, so
 //! that their texts leave nothing out.
-ghost use Rattle.std.specs.Prelude.{◌≡◌, ◌+◌, ◌-◌, ◌≤◌, ◌↔◌, IfNone, IfSome, IsSome, ◌^◌, ◌*◌};
-ghost use Rattle.std.specs.Duration.{FitsDuration, as_nanos};
+ghost use Rattle.std.specs.Prelude.{◌≡◌, ◌+◌, ◌-◌, ◌<◌, ◌≤◌, ◌⊎◌, IfNone, IfSome, true};
+ghost use Rattle.std.specs.Duration.{as_nanos};
+ghost use Rattle.duration_str.specs.Format.{is_in, up_to};
 ghost use Rattle.duration_str.specs.Rounding.{IsRounded, IsRoundedDown, IsRoundedUp, NoneAbove, OnlyZero};
+ghost use Rattle.duration_str.specs.Units.{nanos_of};
 ghost use Rattle.duration_str.specs.declared.rounding.Rounding.TheVariants.{Up};
+ghost use Rattle.duration_str.specs.declared.unit.TimeUnit.TheVariants.{Day};
 
 use crate::breakdown::longest;
-use crate::format::Format;
+use crate::format::{Format, Units};
+use crate::unit::TimeUnit;
 use std::time::Duration;
 
 /// To which duration another one is rounded. The result always prints whole: it fits into the units
@@ -83,6 +87,19 @@ fn zero(d: Duration) -> Option<Duration>
     if d.is_zero() { Some(d) } else { None }
 }
 
+/// Returns a set with the same distances. Below a day, it has no unit longer than a day, since such
+/// a unit is further away.
+#[inline(always)]
+fn near_units(nanos: u128, set: Units) -> Units
+    ensures { (result ≡ set) ⊎ ((nanos < nanos_of Day) × (is_in set Day ≡ true)
+        × (result ≡ up_to Day set)) }
+{
+    if nanos < u128::from(TimeUnit::Day.nanos()) && set.contains(TimeUnit::Day) {
+        return set.up_to(TimeUnit::Day);
+    }
+    set
+}
+
 /// Returns how far the duration is from the two that [`neighbors`] returns, or `None` if the format
 /// has no units or no parts, so that only a duration of 0 prints whole.
 ///
@@ -95,7 +112,8 @@ fn distances(nanos: u128, format: Format) -> Option<(u64, u64)>
     ensures up { IfSome result (λ each. IsRoundedUp format nanos (nanos + each.1)) }
     ensures none { IfNone result (OnlyZero format) }
 {
-    let (first, mut bits) = longest(u32::from(format.units.bits()))?;
+    let near = near_units(nanos, format.units);
+    let (first, mut bits) = longest(u32::from(near.bits()))?;
     if format.parts == 0 {
         return None;
     }

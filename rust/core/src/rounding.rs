@@ -3,7 +3,8 @@
 //! that their texts leave nothing out.
 
 use crate::breakdown::longest;
-use crate::format::Format;
+use crate::format::{Format, Units};
+use crate::unit::TimeUnit;
 use core::time::Duration;
 
 /// To which duration another one is rounded. The result always prints whole: it fits into the units
@@ -70,6 +71,16 @@ fn zero(d: Duration) -> Option<Duration> {
     if d.is_zero() { Some(d) } else { None }
 }
 
+/// Returns a set with the same distances. Below a day, it has no unit longer than a day, since such
+/// a unit is further away.
+#[inline(always)]
+fn near_units(nanos: u128, set: Units) -> Units {
+    if nanos < u128::from(TimeUnit::Day.nanos()) && set.contains(TimeUnit::Day) {
+        return set.up_to(TimeUnit::Day);
+    }
+    set
+}
+
 /// Returns how far the duration is from the two that [`neighbors`] returns, or `None` if the format
 /// has no units or no parts, so that only a duration of 0 prints whole.
 ///
@@ -77,7 +88,8 @@ fn zero(d: Duration) -> Option<Duration> {
 /// by one, and no parts after it. So for each unit it is compared with the one whose count of that
 /// unit is the next. What the longest unit leaves has 64 bits.
 fn distances(nanos: u128, format: Format) -> Option<(u64, u64)> {
-    let (first, mut bits) = longest(u32::from(format.units.bits()))?;
+    let near = near_units(nanos, format.units);
+    let (first, mut bits) = longest(u32::from(near.bits()))?;
     if format.parts == 0 {
         return None;
     }

@@ -1,7 +1,11 @@
 -- Lemmas about the distances to the durations that print whole.
-use Rattle.duration_str.proofs.Common.{[], map, nanos_of, TimeUnit, Year, ap, arith, cases_Bool, cases_lt, counts_within, div-add-mod', eqb-true, false, FitsDuration, Format, if◌then◌else◌, inl, inr, lengths_within, List, nat_tests, IsPrintedWithin, OneRounding, refl, rules, subst, sym, text_within, units_within, ℕ, ◌%◌, ◌*◌, ◌+◌, ◌-◌, ◌/◌, ◌<◌, ◌==◌, ◌^◌, ◌∙◌, ◌∷◌, ◌≡◌, ◌≤◌, ◌⊎◌}
+use Rattle.duration_str.proofs.Common.{[], map, nanos_of, TimeUnit, Year, ap, arith, cases_Bool, cases_lt, counts_within, div-add-mod', eqb-true, false, FitsDuration, Format, if◌then◌else◌, inl, inr, lengths_within, List, nat_tests, IsPrintedWithin, OneRounding, refl, rules, subst, sym, text_within, units_within, ℕ, ◌%◌, ◌*◌, ◌+◌, ◌-◌, ◌/◌, ◌<◌, ◌==◌, ◌^◌, ◌∙◌, ◌∷◌, ◌≡◌, ◌≤◌, ◌⊎◌, Day, drop, take, true, units, ◌++◌}
 use Rattle.duration_str.proofs.LawProofs.GreatestWithin.{ArePositive, greatest_within, left_whole, lengths_positive, one_greatest_within, within_sum}
 use Rattle.duration_str.proofs.LawProofs.NeverMore.{divided, kept_within, keeps_shown, none_shown, shown, shown_within, within_again}
+use Rattle.duration_str.proofs.Printer.FormatLemmas.{chosen-append}
+use Rattle.duration_str.proofs.Printer.SetLemmas.{chosen_in, chosen_none, chosen_out, days_chosen}
+use Rattle.duration_str.specs.Format.{chosen, is_in, up_to}
+use Rattle.duration_str.specs.declared.format.Units.{Units}
 use Rattle.duration_str.specs.Rounding.{distance, IsNearest, IsRounded, IsRoundedDown, IsRoundedUp, NoneAbove, OnlyZero, PrintsWhole}
 use Rattle.duration_str.specs.declared.rounding.Rounding.{Rounding}
 use Rattle.duration_str.specs.declared.rounding.Rounding.TheVariants.{Down, Nearest, Up}
@@ -203,21 +207,29 @@ gap_below l lengths most rest limit some less = elim (cases_Bool (rest == 0)) [
 year_longest : (u : TimeUnit) → nanos_of u ≤ nanos_of Year
 year_longest u = search rules
 
+-- These units have the same distances as those of the format.
+pub record IsNear (format : Format) (nanos : ℕ) (us : List TimeUnit) : Type 0 where
+  pub same_shown : shown_within format nanos ≡ shown (map nanos_of us) format.parts nanos
+  pub same_gap : gap_within format nanos ≡ gap (map nanos_of us) format.parts nanos (nanos_of Year + 1)
+
+pub near_own : (format : Format) (nanos : ℕ) → IsNear format nanos (units_within format)
+near_own format nanos = record { same_shown = refl; same_gap = refl }
+
 gap_within_below : (format : Format) (nanos : ℕ) (u : TimeUnit) (us : List TimeUnit) → 1 ≤ format.parts
-    → units_within format ≡ u ∷ us → gap_within format nanos < nanos_of Year + 1
-gap_within_below format nanos u us some same =
-    rw same (gap_below (nanos_of u) (map nanos_of us) format.parts nanos (nanos_of Year + 1) some
+    → IsNear format nanos (u ∷ us) → gap_within format nanos < nanos_of Year + 1
+gap_within_below format nanos u us some near =
+    rw near.same_gap (gap_below (nanos_of u) (map nanos_of us) format.parts nanos (nanos_of Year + 1) some
     (omega (arith, year_longest u)))
 
 pub rounded_up : (format : Format) (nanos : ℕ) (u : TimeUnit) (us : List TimeUnit) → 1 ≤ format.parts
-    → units_within format ≡ u ∷ us → IsRoundedUp format nanos (nanos + gap_within format nanos)
-rounded_up format nanos u us some same =
+    → IsNear format nanos (u ∷ us) → IsRoundedUp format nanos (nanos + gap_within format nanos)
+rounded_up format nanos u us some near =
     let lengths = lengths_within format in
     let limit : ℕ = nanos_of Year + 1 in
     let positive : ArePositive lengths = lengths_positive (units_within format) in
     record {
       whole = elim (gap_whole lengths format.parts nanos limit positive) [
-        | inl most ↦ absurd (omega (arith, most, gap_within_below format nanos u us some same))
+        | inl most ↦ absurd (omega (arith, most, gap_within_below format nanos u us some near))
         | inr whole ↦ shown_is_whole format (nanos + gap_within format nanos) whole
       ];
       not_below = omega arith;
@@ -257,20 +269,20 @@ gap_zero [] most rest limit none = rw none refl
 gap_zero (l ∷ lengths) most rest limit none = rw none refl
 
 pub first_step : (format : Format) (nanos : ℕ) (u : TimeUnit) (us : List TimeUnit) (most rest : ℕ)
-    → units_within format ≡ u ∷ us → 1 ≤ format.parts → most ≡ most_after (nanos_of u) format.parts nanos
+    → IsNear format nanos (u ∷ us) → 1 ≤ format.parts → most ≡ most_after (nanos_of u) format.parts nanos
     → rest ≡ nanos % nanos_of u → Left format nanos us most rest (nanos_of u - rest)
-first_step format nanos u us most rest same some after left =
+first_step format nanos u us most rest near some after left =
     let l = nanos_of u in
     let whole : nanos / l * l + rest ≡ nanos = omega (arith, left, div-add-mod' nanos l) in
     let shown_first : shown_within format nanos ≡ nanos / l * l + shown (map nanos_of us) most rest =
-    rw (same, after, left) (shown_step l (map nanos_of us) format.parts nanos some) in
+    near.same_shown ∙ rw (after, left) (shown_step l (map nanos_of us) format.parts nanos some) in
     record {
       below = omega (arith, whole, shown_first);
       above = elim (cases_lt 0 nanos) [
         | inl positive ↦
             let limit : l - rest ≡ min (nanos_of Year + 1) (l - nanos % l) = omega (arith, left, year_longest u) in
-            rw same (sym (gap_from l (map nanos_of us) format.parts nanos (nanos_of Year + 1) most rest (l - rest) some
-            positive after left limit))
+            sym (near.same_gap ∙ gap_from l (map nanos_of us) format.parts nanos (nanos_of Year + 1) most rest (l - rest)
+            some positive after left limit)
         | inr zero ↦
             gap_zero (map nanos_of us) most rest (l - rest) (omega (arith, whole))
             ∙ sym (gap_zero (lengths_within format) format.parts nanos (nanos_of Year + 1) (omega arith))
@@ -292,6 +304,97 @@ next_step format nanos u us most rest above most' rest' before some positive aft
       above = rw (after, left) (sym (gap_step l (map nanos_of us) most rest above some positive) ∙ before.above);
       no_more = omega (arith, whole, before.no_more);
     }
+
+-- ---- Below a day
+
+abbrev AreLonger : List TimeUnit → Type 0
+AreLonger [] = Unit
+AreLonger (u ∷ us) = (nanos_of Day ≤ nanos_of u) × AreLonger us
+
+-- A limit that is further away than the day changes nothing.
+gap_wide : (lengths : List ℕ) (most rest limit wide : ℕ) → 1 ≤ most → 1 ≤ rest → rest < nanos_of Day
+    → nanos_of Day - rest ≤ wide
+    → gap (nanos_of Day ∷ lengths) most rest (min limit wide) ≡ gap (nanos_of Day ∷ lengths) most rest limit
+gap_wide lengths most rest limit wide some positive less far =
+    let day = nanos_of Day in
+    let none = smaller day rest less in
+    let after : most ≡ most_after day most rest = sym (after_none day most rest none.0) in
+    gap_from day lengths most rest (min limit wide) most rest (min limit (day - rest)) some positive after (sym none.1)
+    (omega (arith, none.1, far))
+    ∙ sym (gap_from day lengths most rest limit most rest (min limit (day - rest)) some positive after (sym none.1)
+    (omega (arith, none.1)))
+
+gap_longer : (set : Units) (us ws : List TimeUnit) (most rest limit : ℕ) → AreLonger us → rest < nanos_of Day
+    → gap (map nanos_of (chosen set us ++ Day ∷ ws)) most rest limit ≡ gap (map nanos_of (Day ∷ ws)) most rest limit
+gap_longer set [] ws most rest limit long less = rw (chosen_none set) refl
+gap_longer set (u ∷ us) ws most rest limit long less = elim (cases_Bool (is_in set u)) [
+  | inr out ↦ rw (chosen_out set u us out) (gap_longer set us ws most rest limit long.1 less)
+  | inl inside ↦ rw (chosen_in set u us inside) (elim (cases_Bool (rest == 0)) [
+    | inl zero ↦ rw zero refl
+    | inr more ↦ elim (cases_Bool (most == 0)) [
+      | inl nothing ↦ rw (more, nothing) refl
+      | inr left ↦
+          let l = nanos_of u in
+          let some : 1 ≤ most = grind (arith, nat_tests) in
+          let positive : 1 ≤ rest = grind (arith, nat_tests) in
+          let none = smaller l rest (omega (arith, long.0, less)) in
+          gap_from l (map nanos_of (chosen set us ++ Day ∷ ws)) most rest limit most rest (min limit (l - rest)) some
+          positive (sym (after_none l most rest none.0)) (sym none.1) (omega (arith, none.1))
+          ∙ gap_longer set us ws most rest (min limit (l - rest)) long.1 less
+          ∙ gap_wide (map nanos_of ws) most rest limit (l - rest) some positive less (omega (arith, long.0))
+    ]
+  ])
+]
+
+shown_longer : (set : Units) (us ws : List TimeUnit) (most rest : ℕ) → AreLonger us → rest < nanos_of Day
+    → shown (map nanos_of (chosen set us ++ Day ∷ ws)) most rest ≡ shown (map nanos_of (Day ∷ ws)) most rest
+shown_longer set [] ws most rest long less = rw (chosen_none set) refl
+shown_longer set (u ∷ us) ws most rest long less = elim (cases_Bool (is_in set u)) [
+  | inr out ↦ rw (chosen_out set u us out) (shown_longer set us ws most rest long.1 less)
+  | inl inside ↦
+      let l = nanos_of u in
+      let lengths = map nanos_of (chosen set us ++ Day ∷ ws) in
+      let none = smaller l rest (omega (arith, long.0, less)) in
+      let skipped : shown (l ∷ lengths) most rest ≡ shown lengths most rest = elim (cases_lt 0 most) [
+        | inl some ↦ omega (arith, shown_from l 0 lengths most rest rest some none.0 none.1)
+        | inr nothing ↦
+            none_shown (l ∷ lengths) most rest (omega arith) ∙ sym (none_shown lengths most rest (omega arith))
+      ] in
+      rw (chosen_in set u us inside) (skipped ∙ shown_longer set us ws most rest long.1 less)
+]
+
+pub split_at_day : (set : Units) → is_in set Day ≡ true
+    → chosen set units ≡ chosen set (take 4 units) ++ Day ∷ chosen set (drop 5 units)
+split_at_day set has = rw (← chosen_in set Day (drop 5 units) has) (chosen-append set (take 4 units) (drop 4 units))
+
+pub near_day : (format : Format) (nanos : ℕ) → nanos < nanos_of Day → is_in format.units Day ≡ true
+    → IsNear format nanos (chosen (up_to Day format.units) units)
+near_day format nanos less has =
+    let set = format.units in
+    let ws = chosen set (drop 5 units) in
+    let long : AreLonger (take 4 units) = (omega arith, (omega arith, (omega arith, (omega arith, tt)))) in
+    rw (days_chosen set, chosen_in set Day (drop 5 units) has) (record {
+      same_shown = rw (split_at_day set has) (shown_longer set (take 4 units) ws format.parts nanos long less);
+      same_gap = rw (split_at_day set has)
+          (gap_longer set (take 4 units) ws format.parts nanos (nanos_of Year + 1) long less);
+    })
+
+abbrev pub SameOrDay : Format → ℕ → Units → Type 0
+SameOrDay format nanos set =
+    (set ≡ format.units) ⊎ ((nanos < nanos_of Day) × (is_in format.units Day ≡ true) × (set ≡ up_to Day format.units))
+
+pub near_chosen : (format : Format) (nanos : ℕ) (set : Units) → SameOrDay format nanos set
+    → IsNear format nanos (chosen set units)
+near_chosen format nanos set (inl same) = rw same (near_own format nanos)
+near_chosen format nanos set (inr day) = rw day.2 (near_day format nanos day.0 day.1)
+
+pub none_chosen : (format : Format) (nanos : ℕ) (set : Units) → SameOrDay format nanos set → chosen set units ≡ []
+    → units_within format ≡ []
+none_chosen format nanos set (inl same) none = rw (← same) none
+none_chosen format nanos set (inr day) none =
+    let some : chosen set units ≡ Day ∷ chosen format.units (drop 5 units) =
+    rw (day.2, ← chosen_in format.units Day (drop 5 units) day.1) (days_chosen format.units) in
+    absurd (search (rules, sym none ∙ some))
 
 -- What is rounded up to is too long for a `Duration`.
 pub none_above : (format : Format) (nanos up : ℕ) → IsRoundedUp format nanos up → 2 ^ 64 * 1000000000 ≤ up

@@ -36,7 +36,7 @@ days_chosen set (u ∷ us) long =
       | inr out ↦ rw (chosen_out set u us out) (days_chosen set us parts.1)
     ]
 
-chosen-append : (set : Units) (a b : List TimeUnit) → chosen set (a ++ b) ≡ chosen set a ++ chosen set b
+pub chosen-append : (set : Units) (a b : List TimeUnit) → chosen set (a ++ b) ≡ chosen set a ++ chosen set b
 chosen-append set [] b = rw (chosen_none set)
 chosen-append set (u ∷ a) b = search (rules, cases_Bool, chosen_in, chosen_out, chosen-append set a b)
 

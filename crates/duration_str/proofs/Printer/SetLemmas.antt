@@ -1,5 +1,5 @@
 -- Lemmas about sets of units and their bits.
-use Rattle.duration_str.proofs.Common.{drop, drop_all, drop_more, last_unit, length, slice_index_or, units_of, ALL, add-zero, and_parts, ap, Bool, suc, ℕ, zero, arith, cases_Bool, div-add-mod', eqb, eqb-true, false, inl, inr, leb, Hour, leb-true, length-drop, List, map, not-true, Printed, printed_row, nanos_of, nat_tests, not, rank_of, refl, rules, sym, TimeUnit, true, Units, Year, units, [], ◌%◌, ◌&&◌, ◌||◌, ◌*◌, ◌+◌, ◌/◌, ◌<◌, ◌^◌, ◌∙◌, ◌∷◌, ◌≡◌, ◌≢◌, ◌≤◌}
+use Rattle.duration_str.proofs.Common.{drop, drop_all, drop_more, last_unit, length, slice_index_or, units_of, ALL, add-zero, and_parts, ap, Bool, suc, ℕ, zero, arith, cases_Bool, Day, div-add-mod', eqb, eqb-true, false, inl, inr, leb, Hour, leb-true, length-drop, List, map, not-true, Printed, printed_row, nanos_of, nat_tests, not, rank_of, refl, rules, sym, TimeUnit, true, Units, Year, units, [], ◌%◌, ◌&&◌, ◌||◌, ◌*◌, ◌+◌, ◌/◌, ◌<◌, ◌^◌, ◌∙◌, ◌∷◌, ◌≡◌, ◌≢◌, ◌≤◌}
 use Rattle.duration_str.proofs.Characters.UnitLemmas.{Each, each_unit}
 use Rattle.duration_str.specs.Format.{chosen, intersection, down_to, is_in, is_one_of, up_to, with_each, with_unit}
 use Rattle.std.proofs.lemmas.Nat.{one_shl}
@@ -178,6 +178,22 @@ hours_chosen set =
     rw (in_up_to set Hour (slice_index_or units j Year), not_days j h) (search rules))
     ∙ chosen_same (up_to Hour set) set (drop 5 units) (λ j h.
     rw (in_up_to set Hour (slice_index_or (drop 5 units) j Year), all_hours j h) (search rules))
+
+-- ---- The units up to the day
+
+longer_than_days : (j : ℕ) → j < 4 → leb (nanos_of (slice_index_or units j Year)) (nanos_of Day) ≡ false
+longer_than_days j h =
+    not-true _ (below (λ (k : ℕ). not (leb (nanos_of (slice_index_or units k Year)) (nanos_of Day))) 4 j refl h)
+
+up_to_days : (j : ℕ) → j < 7 → leb (nanos_of (slice_index_or (drop 4 units) j Year)) (nanos_of Day) ≡ true
+up_to_days j h = below (λ (k : ℕ). leb (nanos_of (slice_index_or (drop 4 units) k Year)) (nanos_of Day)) 7 j refl h
+
+pub days_chosen : (set : Units) → chosen (up_to Day set) units ≡ chosen set (drop 4 units)
+days_chosen set =
+    chosen_from (up_to Day set) units 4 (omega arith) (λ j h.
+    rw (in_up_to set Day (slice_index_or units j Year), longer_than_days j h) (search rules))
+    ∙ chosen_same (up_to Day set) set (drop 4 units) (λ j h.
+    rw (in_up_to set Day (slice_index_or (drop 4 units) j Year), up_to_days j h) (search rules))
 
 -- ---- The longest unit of a set
 

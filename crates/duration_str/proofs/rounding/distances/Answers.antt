@@ -1,5 +1,5 @@
-use Rattle.duration_str.proofs.Common.{[], ap, arith, false, if◌then◌else◌, inl, inr, List, map, nanos_of, nat_tests, rules, subst, sym, units_of, units_within, ℕ, ◌+◌, ◌<◌, ◌==◌, ◌%◌, ◌∙◌, ◌≡◌, ◌∷◌}
-use Rattle.duration_str.proofs.LawProofs.Rounding.{after_none, after_part, first_step, gap, gap_over, gap_within, IsOver, larger, most_after, next_step, only_zero, rounded_down, rounded_up, shown_over, smaller}
+use Rattle.duration_str.proofs.Common.{[], ap, arith, false, if◌then◌else◌, inl, inr, List, map, nanos_of, nat_tests, rules, subst, sym, units_of, ℕ, ◌+◌, ◌<◌, ◌==◌, ◌%◌, ◌∙◌, ◌≡◌, ◌∷◌}
+use Rattle.duration_str.proofs.LawProofs.Rounding.{after_none, after_part, first_step, gap, gap_over, gap_within, IsOver, IsNear, larger, most_after, near_chosen, none_chosen, next_step, only_zero, rounded_down, rounded_up, shown_over, smaller}
 use Rattle.duration_str.specs.Rounding.{IsRoundedUp}
 use Rattle.duration_str.proofs.rounding.distances.Goals as goal
 use Rattle.duration_str.proofs.rounding.distances.Goals.{in-Some+then-most-eq0, then-most-eq0-via-then-most-eq0, then-most-eq0-via-else-most-eq0+then-rest-eq0, in_default, then-count-gt0, else-count-gt0, then-row-rest, else-row-rest}
@@ -8,11 +8,19 @@ pub returns-then-format-eq0-clause-none : goal.returns-then-format-eq0-clause-no
 returns-then-format-eq0-clause-none c =
     only_zero c.args.format (inr (inl c.if-format-eq0.true))
 
+pub returns-in_err-first-clause-none : goal.returns-in_err-first-clause-none
+returns-in_err-first-clause-none c =
+    let near = c.near_units-near in
+    let none = rw (c.from.ensures, c.bits.ensures) at c.in_err-first.ensures.none in
+    rw c.from_residual.ensures (only_zero c.args.format
+    (inl (ap (map nanos_of) (none_chosen c.args.format c.args.nanos near.result near.ensures none))))
+
 pub loop-row-init : goal.loop-row-init
 loop-row-init c =
     let u = c.in_ok-first.first.now.unit in
-    let same : units_within c.args.format ≡ u ∷ units_of c.in_ok-first.bits =
-    rw (c.from.ensures, c.bits.ensures) at c.in_ok-first.ensures.first in
+    let near : IsNear c.args.format c.args.nanos (u ∷ units_of c.in_ok-first.bits) =
+    subst (IsNear c.args.format c.args.nanos) (rw (c.from.ensures, c.bits.ensures) at c.in_ok-first.ensures.first)
+    (near_chosen c.args.format c.args.nanos c.near_units-near.result c.near_units-near.ensures) in
     let after : c.if-count-gt0.most ≡ most_after (nanos_of u) c.args.format.parts c.args.nanos =
     elim c.if-count-gt0.branch [
       | then-count-gt0 w ↦
@@ -22,7 +30,7 @@ loop-row-init c =
     ] in
     rw (ap (λ row. row.nanos) c.in_ok-first.ensures.right)
     (first_step c.args.format c.args.nanos u (units_of c.in_ok-first.bits) c.if-count-gt0.most
-    c.wide_division-count.result.1 same (omega arith) after c.wide_division-count.ensures.rest)
+    c.wide_division-count.result.1 near (omega arith) after c.wide_division-count.ensures.rest)
 
 pub loop-row-preserved : goal.loop-row-preserved
 loop-row-preserved c =
@@ -79,12 +87,13 @@ gap_some lengths most rest limit nanos some over same =
 pub returns-then-rest-eq0-2-clause-up : goal.returns-then-rest-eq0-2-clause-up
 returns-then-rest-eq0-2-clause-up c =
     let u = c.in_ok-first.first.now.unit in
-    let same : units_within c.args.format ≡ u ∷ units_of c.in_ok-first.bits =
-    rw (c.from.ensures, c.bits.ensures) at c.in_ok-first.ensures.first in
+    let near : IsNear c.args.format c.args.nanos (u ∷ units_of c.in_ok-first.bits) =
+    subst (IsNear c.args.format c.args.nanos) (rw (c.from.ensures, c.bits.ensures) at c.in_ok-first.ensures.first)
+    (near_chosen c.args.format c.args.nanos c.near_units-near.result c.near_units-near.ensures) in
     let none : c.loop-row.rest ≡ 0 = omega arith in
     subst (λ above. IsRoundedUp c.args.format c.args.nanos (c.args.nanos + above))
     (sym (gap_none _ _ _ _ _ none c.loop-row.invariant.above))
-    (rounded_up c.args.format c.args.nanos u (units_of c.in_ok-first.bits) (omega arith) same)
+    (rounded_up c.args.format c.args.nanos u (units_of c.in_ok-first.bits) (omega arith) near)
 
 pub returns-clause-down : goal.returns-clause-down
 returns-clause-down c =
@@ -94,9 +103,10 @@ returns-clause-down c =
 pub returns-clause-up : goal.returns-clause-up
 returns-clause-up c =
     let u = c.in_ok-first.first.now.unit in
-    let same : units_within c.args.format ≡ u ∷ units_of c.in_ok-first.bits =
-    rw (c.from.ensures, c.bits.ensures) at c.in_ok-first.ensures.first in
+    let near : IsNear c.args.format c.args.nanos (u ∷ units_of c.in_ok-first.bits) =
+    subst (IsNear c.args.format c.args.nanos) (rw (c.from.ensures, c.bits.ensures) at c.in_ok-first.ensures.first)
+    (near_chosen c.args.format c.args.nanos c.near_units-near.result c.near_units-near.ensures) in
     let end : c.loop-row.above ≡ gap_within c.args.format c.args.nanos =
     gap_some _ _ _ _ _ (omega arith) (over_else c) c.loop-row.invariant.above in
     subst (λ above. IsRoundedUp c.args.format c.args.nanos (c.args.nanos + above)) (sym end)
-    (rounded_up c.args.format c.args.nanos u (units_of c.in_ok-first.bits) (omega arith) same)
+    (rounded_up c.args.format c.args.nanos u (units_of c.in_ok-first.bits) (omega arith) near)
