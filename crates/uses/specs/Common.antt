@@ -1,5 +1,4 @@
 pub use Rattle.duration_str.specs.Answer.{allows}
-pub use Rattle.duration_str.specs.Dates.{IsCivil, IsCivilDay, IsInRange, IsOutOfRange}
 pub use Rattle.duration_str.specs.Grammar.{IsSentenceOf, Terminal, terminal_of, word}
 pub use Rattle.duration_str.specs.Laws.{HasNoStar, is_operator, counts_of, IsLexeme, AllPlus}
 pub use Rattle.duration_str.specs.Printing.{IsGreatestBreakdown, IsPrintedIn, printed_counts}
@@ -11,7 +10,7 @@ pub use Rattle.duration_str.specs.Iteration.{what_of}
 pub use Rattle.duration_str.specs.Units.{nanos_of, unit_lengths}
 pub use Rattle.duration_str.specs.Value.{Term, written_terms}
 pub use Rattle.duration_str.specs.declared.cause.Cause.{Cause}
-pub use Rattle.duration_str.specs.declared.cause.Cause.TheVariants.{NotText, OutOfRange, Overflow, Syntax}
+pub use Rattle.duration_str.specs.declared.cause.Cause.TheVariants.{Overflow, Syntax}
 pub use Rattle.duration_str.specs.declared.cause.Expected.{Expected}
 pub use Rattle.duration_str.specs.declared.fault.Fault.{Fault}
 pub use Rattle.duration_str.specs.declared.operator.CondUnit.TheVariants.{Plus, Star}

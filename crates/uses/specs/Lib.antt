@@ -1,9 +1,7 @@
 pub mod Cache
 pub mod Common
 pub mod Completion
-pub mod Configuration
 pub mod Countdown
-pub mod Dates
 pub mod Help
 pub mod Line
 pub mod Portable
