@@ -1,5 +1,4 @@
 pub use Rattle.duration_str.proofs.Characters.CharacterLemmas.{run-not_blank}
-pub use Rattle.duration_str.specs.Iteration.{token_of}
 pub use Rattle.duration_str.specs.Tokens.{Token}
 pub use Rattle.duration_str.specs.declared.operator.CondUnit.{CondUnit}
 pub use Rattle.std.proofs.lemmas.Bool.{true≢false}

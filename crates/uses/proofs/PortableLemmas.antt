@@ -1,5 +1,5 @@
 -- Lemmas about texts whose characters mean the same under several choices of options.
-use Rattle.std.proofs.Common.{arith, Bool, false, IsTrue, List, not, refl, subst, sym, true, ℕ, ◌&&◌, ◌||◌, ◌↔◌, ◌∙◌, ◌≡◌}
+use Rattle.std.proofs.Common.{arith, Bool, false, IsTrue, List, not, subst, sym, true, ℕ, ◌&&◌, ◌||◌, ◌↔◌, ◌∙◌, ◌≡◌}
 use Rattle.duration_str.proofs.Common.{HasNoCapital, HasNoChinese, HasNoOperator, is_ascii_uppercase, is_operator, list_all, NoCalcAgrees, OneReading, OptionsIdle, rules, IsRead, IsRefused, Rules, rules_with}
 use Rattle.uses.proofs.Common.{Cause, Options}
 use Rattle.std.proofs.Math.Bool.{beq}

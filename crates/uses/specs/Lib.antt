@@ -6,5 +6,4 @@ pub mod Help
 pub mod Line
 pub mod Portable
 pub mod Product
-pub mod Stored
 pub mod Sum

@@ -13,13 +13,13 @@ pub mod product;
 pub mod stored;
 pub mod sum;
 
-pub use cache::{canonical, key, read_back, share_entry};
+pub use cache::{canonical, key, read_back};
 pub use completion::{Completion, complete, complete_humantime, is_unfinished};
 pub use countdown::{in_parts, not_shown, shows_same, time_left};
 pub use help::{Example, examples, humantime_examples, refused_words};
-pub use line::{without_line_feed, write_line};
+pub use line::without_line_feed;
 pub use log::add_entry;
 pub use portable::{keeps_value, keeps_value_without_humantime};
 pub use product::{Part, scaled};
-pub use stored::{first_unit, stored_duration, stored_unit};
-pub use sum::{longest_first, total_of, total_of_humantime};
+pub use stored::{stored_duration, stored_unit};
+pub use sum::{longest_first, total_of};
