@@ -19,7 +19,7 @@ pub use countdown::{in_parts, not_shown, shows_same, time_left};
 pub use help::{Example, examples, humantime_examples, refused_words};
 pub use line::without_line_feed;
 pub use log::add_entry;
-pub use portable::{keeps_value, keeps_value_without_humantime};
+pub use portable::{is_portable, keeps_value_without_humantime};
 pub use product::{Part, scaled};
 pub use stored::{stored_duration, stored_unit};
 pub use sum::{longest_first, total_of};
