@@ -20,8 +20,6 @@ mod refusal;
 #[cfg(test)]
 mod refusals;
 #[cfg(test)]
-mod rounding;
-#[cfg(test)]
 mod rows;
 pub mod shared;
 #[cfg(test)]

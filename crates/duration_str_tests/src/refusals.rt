@@ -1,12 +1,9 @@
 use crate::assertions::{holds, holds_in_memory, is_fault, prints};
-use crate::rows::{
-    cause_of, list_at, listed, named_options, named_unit, options_of, place_at, text_at, vectors,
-};
+use crate::rows::{cause_of, list_at, listed, named_options, options_of, text_at, vectors};
 use crate::shared::{NUMBER, OFF, OPERATORS, START, TOO_LARGE, UNITS, syntax};
 use duration_str::{
-    Cause, CondUnit, Expected, Fault, ONE_LINE_BUFFER_SIZE, Options, REPORT_BUFFER_SIZE, TimeUnit,
-    parse, parse_chrono, parse_looked, parse_std, parse_time, parse_with, parse_with_default_unit,
-    write_human,
+    Cause, CondUnit, Expected, Fault, Options, parse, parse_chrono, parse_looked, parse_std,
+    parse_time, parse_with, write_human,
 };
 use serde_json::Value;
 use std::alloc::{AllocError, Global};
@@ -111,27 +108,6 @@ fn prints_message(alloc: Global, fault: Fault<'_>) -> Result<bool, AllocError> {
     }
 }
 
-/// The report of a row: its line, and above it the text and a caret, unless the row has null in
-/// place of the caret's column.
-fn report_of(alloc: Global, row: &Value) -> Result<String, AllocError> {
-    let (text, line) = (text_at(row, 0), text_at(row, 6));
-    match place_at(row, 7) {
-        Some(column) => {
-            let blanks = " ".repeat(alloc, column)?;
-            format!(in alloc; "{text}\n{blanks}^\n{line}")
-        }
-        None => String::from_str(alloc, line),
-    }
-}
-
-fn is_shown(alloc: Global, fault: Fault<'_>, row: &Value) -> Result<bool, AllocError> {
-    let report = report_of(alloc, row)?;
-    Ok(
-        fault.write_one_line(&mut [0; ONE_LINE_BUFFER_SIZE]) == text_at(row, 6)
-            && fault.write_report(&mut [0; REPORT_BUFFER_SIZE]) == report.as_str(),
-    )
-}
-
 /// Whether the fault has the row's token. The row has an empty text if there is no token.
 fn has_token(fault: Fault<'_>, o: Options, row: &Value) -> bool {
     fault.found(o).unwrap_or("") == text_at(row, 4)
@@ -145,21 +121,16 @@ fn has_cause(alloc: Global, fault: Fault<'_>, row: &Value) -> Result<bool, Alloc
     }
 }
 
-fn refusal_with(text: &str, o: Options, default_unit: Option<TimeUnit>) -> Option<Fault<'_>> {
-    let fault = parse_with_default_unit(text, o, default_unit).err()?;
-    if default_unit == Some(TimeUnit::Second) {
-        return refusal(text, o, fault.cause());
-    }
-    (fault.text() == text).then_some(fault)
-}
-
 fn is_refused_row(alloc: Global, row: &Value) -> Result<bool, AllocError> {
-    let names = list_at(row, 1);
-    let o = named_options(names);
-    let Some(fault) = refusal_with(text_at(row, 0), o, named_unit(names)) else {
+    let (text, o) = (text_at(row, 0), named_options(list_at(row, 1)));
+    let Some(fault) = parse_with(text, o).err() else {
         return Ok(false);
     };
-    Ok(has_cause(alloc, fault, row)? && has_token(fault, o, row) && is_shown(alloc, fault, row)?)
+    Ok(
+        refusal(text, o, fault.cause()).is_some()
+            && has_cause(alloc, fault, row)?
+            && has_token(fault, o, row),
+    )
 }
 
 #[test]

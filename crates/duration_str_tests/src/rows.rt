@@ -1,7 +1,7 @@
-// The rows of `rust/vectors.json`.
+// The rows of `vectors.rt`.
 use crate::shared::syntax;
 use crate::vectors::VECTORS;
-use duration_str::{Cause, Expected, Options, TimeUnit};
+use duration_str::{Cause, Expected, Options};
 use serde_json::Value;
 use std::alloc::Global;
 
@@ -33,11 +33,11 @@ pub fn number_at(row: &Value, at: usize) -> Option<u64> {
     row.get(at)?.as_u64()
 }
 
-pub fn place_at(row: &Value, at: usize) -> Option<usize> {
+fn place_at(row: &Value, at: usize) -> Option<usize> {
     usize::try_from(number_at(row, at)?).ok()
 }
 
-pub fn has(words: &[Value], word: &str) -> bool {
+fn has(words: &[Value], word: &str) -> bool {
     words.iter().any(|each| each.as_str() == Some(word))
 }
 
@@ -67,20 +67,6 @@ pub fn excludes(o: Options, other: Options) -> bool {
     !(o.no_calc && other.no_calc)
         && !(o.lowercase && other.lowercase)
         && !(o.cn_unit && other.cn_unit)
-}
-
-/// The default unit that is named in a list of words, or the second. It is `None` if units are
-/// required.
-pub fn named_unit(words: &[Value]) -> Option<TimeUnit> {
-    if has(words, "require_unit") {
-        return None;
-    }
-    let name = words.iter().find_map(unit_name).unwrap_or("s");
-    TimeUnit::from_word(name, options_of(0))
-}
-
-fn unit_name(word: &Value) -> Option<&str> {
-    word.as_str()?.strip_prefix("default_unit=")
 }
 
 /// The cause of a refused row, unless it is a mixture, whose operators the row doesn't name.

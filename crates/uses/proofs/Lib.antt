@@ -2,7 +2,6 @@ pub mod CacheLemmas
 pub mod Common
 pub mod CompletionLemmas
 pub mod CutLemmas
-pub mod DateLemmas
 pub mod FollowLemmas
 pub mod HelpLemmas
 pub mod LineLemmas

@@ -1,9 +1,8 @@
 -- The same lexemes spell a line and the line's text.
-use Rattle.std.proofs.Common.{ap, append-nil, inl, inr, IsUtf8, List, refl, rules, [], ℕ, ◌+◌, ◌∙◌, ◌∷◌, ◌≡◌}
+use Rattle.std.proofs.Common.{ap, inl, inr, IsUtf8, List, refl, rules, [], ℕ, ◌+◌, ◌∙◌, ◌∷◌, ◌≡◌}
 use Rattle.duration_str.proofs.Common.{BlanksFree, cases_Bool, chars-append, goes_on, IsSentenceOf, lexemes_of, OneSentence, Rules, Spells, tokens_from, width}
 use Rattle.uses.proofs.Common.{IsReadAsBefore, Options, run-not_blank, true≢false, with_line_feed}
 use Rattle.std.specs.Str.{chars}
-use Rattle.duration_str.proofs.LawProofs.SumOfTexts.{spells_both}
 
 chars_line : (bytes : List ℕ) → IsUtf8 bytes → chars (with_line_feed bytes) ≡ with_line_feed (chars bytes)
 unfolding chars
@@ -15,12 +14,6 @@ read_as_before free old new spells = record {
   value = λ r nanos read. free.value r old new read.lexemes nanos read.spells (spells r read.lexemes read.spells) read;
   cause = λ r lexemes cause s refused. free.cause r old new lexemes cause s (spells r lexemes s) refused;
 }
-
-pub line_read : BlanksFree → (bytes : List ℕ) → IsUtf8 bytes → IsReadAsBefore (chars bytes)
-    (chars (with_line_feed bytes))
-line_read free bytes utf8 =
-    rw (chars_line bytes utf8) (read_as_before free (chars bytes) _
-    (λ r lexemes s. rw append-nil at (spells_both lexemes [] (chars bytes) (10 ∷ []) s.1 refl)))
 
 line_tokens : (o : Options) (at : ℕ) (text : List ℕ) → tokens_from o at (with_line_feed text) ≡ tokens_from o at text
 line_tokens o at [] = refl

@@ -1,10 +1,9 @@
 -- Lemmas about results of reading, given the value or the cause of the text.
-use Rattle.std.proofs.Common.{ap, chars, Err, IsErrAnd, IsOkAnd, List, map, Ok, Option, refl, Result, Some, ℕ, ◌∙◌, ◌≡◌}
-use Rattle.duration_str.proofs.Common.{as_nanos, IsRead, IsRefused, lexemes_of, nanos_of, older_row_of, older_rules, OlderTexts, OneReading, OneSentence, Parses, terminal_of, tokens_of, IsSentenceOf, rules_of, unit_of_word}
+use Rattle.std.proofs.Common.{ap, chars, Err, IsErrAnd, IsOkAnd, List, Ok, Option, refl, Result, Some, ℕ, ◌∙◌, ◌≡◌}
+use Rattle.duration_str.proofs.Common.{as_nanos, IsRead, IsRefused, nanos_of, older_row_of, older_rules, OlderTexts, OneReading, Parses, rules_of, unit_of_word}
 use Rattle.duration_str.specs.Units.{UnitRow}
 use Rattle.duration_str.specs.declared.unit.TimeUnit.{TimeUnit}
-use Rattle.uses.proofs.Common.{Cause, Duration, Fault, Options, Token}
-use Rattle.uses.specs.Stored.{unit_of_first}
+use Rattle.uses.proofs.Common.{Cause, Duration, Fault, Options}
 
 module _ (law : OneReading) (o : Options) (bytes : List ℕ) where
   pub value_answered : (result : Result Duration Fault) (nanos : ℕ) → Parses (rules_of o) bytes result
@@ -16,13 +15,6 @@ module _ (law : OneReading) (o : Options) (bytes : List ℕ) where
       → IsRefused (rules_of o) (chars bytes) cause → IsErrAnd result (λ f. f.cause ≡ cause)
   cause_answered (Ok d) cause parsed r = absurd (law.not_both (rules_of o) (chars bytes) (as_nanos d) cause parsed.read r)
   cause_answered (Err f) cause parsed r = law.one_cause (rules_of o) (chars bytes) f.cause cause parsed.refused.1 r
-
-pub first_kept : OneSentence → OlderTexts → (o : Options) (lexemes : List (List ℕ)) (text : List ℕ)
-    (tokens : List Token) → IsSentenceOf (older_rules o) lexemes text → tokens_of o text ≡ tokens
-    → unit_of_first (map (terminal_of (rules_of o)) (lexemes_of tokens)) ≡ unit_of_first (map (terminal_of (older_rules o)) lexemes)
-first_kept one older o lexemes text tokens was e =
-    let s = older.sentence o lexemes text was in
-    rw (older.terminals o lexemes text was, (one.tokens (rules_of o) text lexemes s.0).0 s.1, e)
 
 pub named_unit_kept : OlderTexts → (o : Options) (name : List ℕ) (found unit : TimeUnit) (nanos : ℕ) (row : UnitRow)
     → Some found ≡ unit_of_word (rules_of o) name → nanos ≡ nanos_of found

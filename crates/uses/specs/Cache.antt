@@ -1,6 +1,7 @@
 -- The canonical text of a value, and how it is read back.
 use Rattle.std.specs.Prelude.{◌≡◌, ℕ, List, Option, Result, Ok, Err, chars}
-use Rattle.uses.specs.Common.{Duration, as_nanos, Options, Cause, Fault, off, unit_lengths, IsRead, IsRefused, IsGreatestBreakdown, counts_of, printed_counts, Rules, rules_of, rules_with}
+use Rattle.uses.specs.Common.{Duration, as_nanos, Options, Cause, Fault, off, unit_lengths, IsRead, IsRefused, IsGreatestBreakdown, IsPrintedIn, counts_of, printed_counts, Rules, rules_of, rules_with}
+use Rattle.std.specs.Duration.{FitsDuration}
 use Rattle.duration_str.specs.declared.format.Style.{Style}
 use Rattle.duration_str.specs.declared.unit.TimeUnit.{TimeUnit}
 
@@ -10,10 +11,11 @@ abbrev pub canonical_text : Style → ℕ → List ℕ
 canonical_text style nanos = printed_counts style (counts_of unit_lengths nanos)
 
 -- The key is the canonical text of the value, and the text's counts are the greatest breakdown of
--- the value.
+-- the value. No other duration prints as this text.
 pub record IsKey (style : Style) (nanos : ℕ) (key : List ℕ) : Type 0 where
   pub one : key ≡ canonical_text style nanos
   pub greatest : IsGreatestBreakdown unit_lengths nanos (counts_of unit_lengths nanos)
+  pub no_other : (other : ℕ) → FitsDuration other → IsPrintedIn style other key → other ≡ nanos
 
 -- The text is read as a value, and `key` is that value's key. Under every choice of options and
 -- with each default unit or none, the key is read as the same value, and as no other.

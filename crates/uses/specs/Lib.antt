@@ -1,12 +1,9 @@
 pub mod Cache
 pub mod Common
 pub mod Completion
-pub mod Configuration
 pub mod Countdown
-pub mod Dates
 pub mod Help
 pub mod Line
 pub mod Portable
 pub mod Product
-pub mod Stored
 pub mod Sum

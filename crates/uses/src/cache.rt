@@ -1,8 +1,8 @@
 //! The key of a cache: one text for each value and style.
 #![tactic(auto, using(crate::proofs::CacheLemmas::key_is_canonical))]
 
-ghost use Rattle.std.specs.Prelude.{◌≡◌, ℕ, List, Option, ◌↔◌, IsTrue, IfOk, IfErr, ◌⊎◌, chars};
-ghost use Rattle.uses.specs.Common.{as_nanos, Options as Choice, TimeUnit as Unit, IsRead, IsPrintedIn, off, rules_of, rules_with};
+ghost use Rattle.std.specs.Prelude.{ℕ, List, Option, IfOk, IfErr, chars};
+ghost use Rattle.uses.specs.Common.{as_nanos, Options as Choice, TimeUnit as Unit, IsPrintedIn, rules_with};
 ghost use Rattle.duration_str.specs.declared.format.Style.{Style as AnyStyle};
 ghost use Rattle.uses.specs.Cache.{IsKey, IsCanonical, IsAnswerTo, Refuses};
 
@@ -15,7 +15,8 @@ use std::time::Duration;
 const LIMIT: u128 = 1 << 64;
 
 /// Writes the key of a duration to the caller's buffer, and returns it: the duration's text in a
-/// style, printed in full. The text's counts are the greatest breakdown of the duration.
+/// style, printed in full. The text's counts are the greatest breakdown of the duration. No other
+/// duration has the same key in this style, so a cache needs to compare no more than keys.
 pub fn key<'b>(length: Duration, style: Style, buffer: &'b mut [u8; FORMAT_BUFFER_SIZE]) -> &'b str
     ensures { IsKey style (as_nanos length) (chars result.now) }
 {
@@ -43,23 +44,6 @@ pub fn canonical<'a, 'b>(
     reads_back();
     one_sentence();
     Ok(key(parse(text)?, style, buffer))
-}
-
-/// Returns whether two expressions have the same value, and so share an entry of the cache. It
-/// compares their keys.
-pub fn share_entry<'a>(text: &'a str, other: &'a str) -> Result<bool, Fault<'a>>
-    ensures same { IfOk result (λ same. (m n : ℕ) → IsRead (rules_of off) (chars text.now) m
-        → IsRead (rules_of off) (chars other.now) n → (IsTrue same ↔ (m ≡ n))) }
-    ensures fault { IfErr result (λ f. Refuses text.now f ⊎ Refuses other.now f) }
-{
-    equal_texts();
-    one_sentence();
-    let length = parse(text)?;
-    let other_length = parse(other)?;
-    Ok(
-        key(length, Style::Compact, &mut [0; FORMAT_BUFFER_SIZE])
-            == key(other_length, Style::Compact, &mut [0; FORMAT_BUFFER_SIZE]),
-    )
 }
 
 /// Returns what reading a duration's text would return, if the text is printed in full, in any

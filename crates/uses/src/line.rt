@@ -1,9 +1,6 @@
 //! Expressions that stand on a line of their own.
-#![tactic(auto, using(crate::proofs::LineLemmas::line_read))]
-
 ghost use Rattle.uses.specs.Common.{chars};
-ghost use Rattle.duration_str.specs.Buffers.{IsInFront};
-ghost use Rattle.uses.specs.Line.{IsWithoutLineFeed, with_line_feed, IsReadAsBefore};
+ghost use Rattle.uses.specs.Line.{IsWithoutLineFeed, IsReadAsBefore};
 
 use duration_str::laws::{blanks_free, one_sentence};
 
@@ -23,24 +20,4 @@ pub fn without_line_feed(line: &str) -> &str
         Some(text) => text,
         None => line,
     }
-}
-
-/// Writes an expression and a line feed to the start of a buffer, and returns their length in
-/// bytes, or `None` if the buffer is too short. The line is read as the expression is.
-///
-/// ```text
-/// write_line("1m 30s", &mut buffer) // Some(7): "1m 30s\n"
-/// ```
-pub fn write_line(text: &str, buffer: &mut [u8]) -> Option<usize>
-    ensures bytes { IsInFront (with_line_feed text.now) result buffer.new }
-    ensures read { IsReadAsBefore (chars text.now) (chars (with_line_feed text.now)) }
-{
-    blanks_free();
-    let end = text.len();
-    if buffer.len() <= end {
-        return None;
-    }
-    buffer[..end].copy_from_slice(text.as_bytes());
-    buffer[end] = b'\n';
-    Some(end + 1)
 }

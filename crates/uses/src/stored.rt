@@ -1,16 +1,15 @@
 //! Durations that an older version of a program stored as texts.
 #![tactic(auto, using(crate::proofs::StoredLemmas::value_answered, crate::proofs::StoredLemmas::cause_answered))]
 
-ghost use Rattle.std.specs.Prelude.{◌≡◌, ℕ, List, Some, IsOkAnd, IsErrAnd, chars, map};
-ghost use Rattle.uses.specs.Common.{as_nanos, IsRead, IsSentenceOf, Terminal, terminal_of, what_of, Cause as AnyCause};
+ghost use Rattle.std.specs.Prelude.{◌≡◌, ℕ, Some, IsOkAnd, IsErrAnd, chars};
+ghost use Rattle.uses.specs.Common.{as_nanos, IsRead, Cause as AnyCause};
 ghost use Rattle.duration_str.specs.Older.{older_row_of, older_rules, WasRefused};
 ghost use Rattle.duration_str.specs.Rules.{unit_of_word};
 ghost use Rattle.duration_str.specs.Units.{UnitRow};
 ghost use Rattle.duration_str.specs.declared.unit.TimeUnit.{TimeUnit as Unit};
-ghost use Rattle.uses.specs.Stored.{unit_named, unit_of_first};
 
 use duration_str::laws::{older_texts, one_sentence};
-use duration_str::{Fault, Options, TimeUnit, Tokens, What, parse_with};
+use duration_str::{Fault, Options, TimeUnit, parse_with};
 use std::time::Duration;
 
 /// Reads a text that was stored before the quarter became a unit, and returns its duration. A text
@@ -31,24 +30,6 @@ pub fn stored_duration(text: &str, o: Options) -> Result<Duration, Fault<'_>>
     parse_with(text, o)
 }
 
-/// Returns the unit in which the first number of a stored text is written, or `None` if the unit is
-/// left out. With it a program can show the duration as its author wrote it. It is the unit that an
-/// older version found there.
-///
-/// ```text
-/// first_unit("90 min + 1h", Options::off()) // Some(TimeUnit::Minute)
-/// ```
-pub fn first_unit(text: &str, o: Options) -> Option<TimeUnit>
-    ensures { (lexemes : List (List ℕ)) → IsSentenceOf (older_rules o) lexemes (chars text.now)
-        → result ≡ unit_of_first (map (terminal_of (older_rules o)) lexemes) }
-{
-    older_texts();
-    one_sentence();
-    let mut tokens = Tokens::new(text, o);
-    tokens.next()?;
-    unit_named(tokens.next()?.what)
-}
-
 /// Returns the unit that a stored name means, and the unit's length in nanoseconds, or `None` if no
 /// unit has this name. A name that an older version knew means the same unit as then, with the same
 /// length.
@@ -64,13 +45,4 @@ pub fn stored_unit(name: &str, o: Options) -> Option<(TimeUnit, u64)>
     older_texts();
     let unit = TimeUnit::from_word(name, o)?;
     Some((unit, unit.nanos()))
-}
-
-fn unit_named(what: What) -> Option<TimeUnit>
-    ensures { (terminal : Terminal) → what ≡ what_of terminal → result ≡ unit_named terminal }
-{
-    match what {
-        What::Word(unit) => unit,
-        What::Number | What::Operator(_) | What::Other => None,
-    }
 }

@@ -1,14 +1,13 @@
 //! Sums of durations: their value without writing them, and their terms in another order.
 ghost use Rattle.std.specs.Prelude.{◌≡◌, ◌↔◌, ℕ, false, ◌==◌, ◌++◌, None, List, Option, not, codes, reverse, IfSome, IfNone, chars};
 ghost use Rattle.uses.specs.Common.{as_nanos, list_all, Options as Choice, TimeUnit as Unit, HasNoStar, IsRead, IsRefused, Overflow, rules_with};
-ghost use Rattle.duration_str.specs.Humantime.{humantime_rules};
 ghost use Rattle.std.specs.List.Sorted.{IsPermutation, IsNonDecreasingBy};
 ghost use Rattle.uses.specs.Product.{nanos_in};
 ghost use Rattle.uses.specs.Sum.{Adds};
 
 use crate::product::Part;
 use duration_str::laws::{one_sentence, reorder, sum_of_texts};
-use duration_str::{Options, TimeUnit, parse_humantime_specialized, parse_with_default_unit};
+use duration_str::{Options, TimeUnit, parse_with_default_unit};
 use std::time::Duration;
 
 /// Sorts the terms of a sum in place, the longest first. The sorted sum is accepted exactly if the
@@ -66,35 +65,6 @@ pub fn total_of(
         Ok(nanos) => Some(Duration::from_nanos(nanos)),
         Err(_) => None,
     }
-}
-
-/// Returns what `total_of` returns, in nanoseconds, for texts that are read by humantime's units.
-///
-/// ```text
-/// total_of_humantime("5mins", "3secs", Options::off()) // Some(303_000_000_000)
-/// ```
-pub fn total_of_humantime(text: &str, other: &str, o: Options) -> Option<u64>
-    ensures read { IfSome result (IsRead (humantime_rules o)
-        (chars text.now ++ codes "+" ++ chars other.now)) }
-    ensures refused { IfNone result ((m n : ℕ) → o.no_calc ≡ false
-        → HasNoStar (chars text.now) → HasNoStar (chars other.now)
-        → IsRead (humantime_rules o) (chars text.now) m
-        → IsRead (humantime_rules o) (chars other.now) n
-        → IsRefused (humantime_rules o)
-        (chars text.now ++ codes "+" ++ chars other.now) (Overflow None)) }
-{
-    sum_of_texts();
-    one_sentence();
-    if o.no_calc || !has_no_star(text) || !has_no_star(other) {
-        return None;
-    }
-    let Ok(length) = parse_humantime_specialized(text, o) else {
-        return None;
-    };
-    let Ok(other_length) = parse_humantime_specialized(other, o) else {
-        return None;
-    };
-    length.checked_add(other_length)
 }
 
 fn has_no_star(text: &str) -> bool
