@@ -80,6 +80,7 @@ fn neighbors(d: Duration, format: Format) -> (Duration, Option<Duration>)
     (down, d.checked_add(Duration::from_nanos(above)))
 }
 
+/// Returns the duration if it is 0.
 fn zero(d: Duration) -> Option<Duration>
     ensures some { IfSome result (λ zero. (as_nanos zero ≡ 0) × (as_nanos d ≡ 0)) }
     ensures none { IfNone result (1 ≤ as_nanos d) }

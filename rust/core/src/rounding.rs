@@ -67,6 +67,7 @@ fn neighbors(d: Duration, format: Format) -> (Duration, Option<Duration>) {
     (down, d.checked_add(Duration::from_nanos(above)))
 }
 
+/// Returns the duration if it is 0.
 fn zero(d: Duration) -> Option<Duration> {
     if d.is_zero() { Some(d) } else { None }
 }

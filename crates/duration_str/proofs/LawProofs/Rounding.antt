@@ -239,8 +239,8 @@ rounded_up format nanos u us some near =
 
 -- ---- One pass over the units
 
--- What is left of the duration after some units, with the units, the parts and the distance that are
--- left.
+-- What the units before these leave of the duration: the rest, the parts that there may still be,
+-- and the distance to the nearest duration above so far.
 pub record Left (format : Format) (nanos : ℕ) (us : List TimeUnit) (most rest limit : ℕ) : Type 0 where
   pub below : rest + shown_within format nanos ≡ nanos + shown (map nanos_of us) most rest
   pub above : gap (map nanos_of us) most rest limit ≡ gap_within format nanos
