@@ -121,3 +121,24 @@ fn prints_rounded() {
     assert_eq!(printed(5_399, Rounding::Up), texts("2h"));
     assert_eq!(printed(7_200, Rounding::Up), texts("2h"));
 }
+
+#[test]
+fn rounds_down_if_nothing_is_long_enough() {
+    let year = TimeUnit::Year.nanos() / 1_000_000_000;
+    let years = Duration::from_secs(u64::MAX / year * year);
+    let longest = format_duration(Duration::MAX);
+    for (printed, text, length) in [
+        (longest.parts(0), "0s", Duration::ZERO),
+        (longest.only(&[]), "0s", Duration::ZERO),
+        (longest.only(&[TimeUnit::Year]), "584942417355y", years),
+    ] {
+        let rounded = printed.rounding(Rounding::Up);
+        assert_eq!(
+            (rounded.to_string(), *rounded.get_ref()),
+            (text.to_string(), length)
+        );
+        let mut parts = rounded.breakdown();
+        parts.by_ref().for_each(drop);
+        assert_eq!(parts.rest(), 0);
+    }
+}
