@@ -52,7 +52,10 @@ test("rounds as the vectors say", () => {
             const { parts: counted, restNs } = breakdown(value, options);
             const joined = counted.map(({ count, unit }) => `${count}${unit}`).join(" ");
             assert.equal(joined, printed.startsWith("0") ? "" : printed, text);
-            if (rounding === "down") continue;
+            if (rounding === "down") {
+                assert.equal(restNs, breakdown(value, limits).restNs, text);
+                continue;
+            }
             assert.equal(restNs, 0n);
             const total = counted.reduce((sum, { count, unit }) => sum + count * LENGTHS[unit], 0n);
             if (total < 2n ** 64n) assert.equal(formatNs(total, limits), printed);
@@ -72,6 +75,9 @@ test("rounds milliseconds, and the counts for Intl", () => {
     const weeks = { units: ["mon", "w"], parts: 1, rounding: "up" };
     assert.deepEqual(parts(91n * DAY, weeks), { months: 4 });
     assert.deepEqual(parts(29n * DAY, weeks), { months: 1 });
+    // The seconds get a further bit.
+    const seconds = { units: ["s"], rounding: "up" };
+    assert.equal(formatNs(2n ** 32n * 10n ** 9n - 1n, seconds), "4294967296s");
     const years = { units: ["y"], rounding: "up" };
     assert.deepEqual(breakdown(2n ** 64n - 1n, years), {
         parts: [{ count: 585n, unit: "y" }], restNs: 0n,

@@ -121,6 +121,7 @@ class Columns(unittest.TestCase):
         self.assertEqual(parse_many(texts, errors="coerce"), wanted)
         error = error_of(parse_many, texts)
         self.assertEqual((error.index, error.cause, error.text), (1, Cause.NOT_TEXT, "\ud800"))
+        self.assertEqual(error_of(parse_many, texts[1:]).index, 0)
         self.assertEqual(list(parse_many(["\ud83d", "\ude00"], errors="coerce")[1]), [0, 1])
 
     def test_wants_str(self):

@@ -77,6 +77,10 @@ class Documentation(unittest.TestCase):
                 f"(text, /, *, {options}, default_unit='s')",
                 str(inspect.signature(getattr(duration_str, name))),
             )
+        limits = "parts=11, units=None, largest='y', smallest='ns', rounding='down'"
+        for name, more in ("format", ", style='short'"), ("breakdown", ""):
+            signature = inspect.signature(getattr(duration_str, name))
+            self.assertEqual(f"(value, /, *, {limits}{more})", str(signature))
         for name in ["parse_many", "to_timedelta", "DurationField"]:
             signature = inspect.signature(getattr(duration_str, name))
             parameters = [*map(str, signature.parameters.values())]

@@ -297,6 +297,12 @@ class Breakdowns(unittest.TestCase):
         with self.assertRaisesRegex(OverflowError, r"^a duration of 2\*\*64 seconds or more "):
             breakdown(2**64 * SECOND)
 
+    def test_counts_2_to_the_64_of_a_unit(self):
+        """With 0 seconds instead, the unit could have no part."""
+        for rest in (0, 5):
+            counted = breakdown(2**64 * SECOND - SECOND + rest, units=["us", "ns"], parts=1)
+            self.assertEqual(counted, Breakdown((Part((2**64 - 1) * 10**6, "µs"),), rest))
+
     def test_has_named_parts(self):
         counted = breakdown(datetime.timedelta(hours=1, minutes=30), smallest="h")
         self.assertEqual(counted, Breakdown((Part(1, "h"),), 1800 * SECOND))

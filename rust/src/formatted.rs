@@ -163,9 +163,10 @@ impl FormattedDuration {
     /// ```
     #[must_use]
     pub fn rounding(self, rounding: Rounding) -> RoundedDuration {
-        let rounded = round_to(&self.magnitude, self.format, rounding);
+        let round = |rounding| round_to(&self.magnitude, self.format, rounding);
+        let rounded = round(rounding).or_else(|| round(Rounding::Down));
         RoundedDuration(FormattedDuration {
-            magnitude: rounded.unwrap_or(self.magnitude),
+            magnitude: rounded.unwrap_or_default(),
             ..self
         })
     }

@@ -164,6 +164,7 @@ fn refuses_wrong_usage() {
         &["--completions", "elvish"][..],
         &["--completions", "bash", "1h"],
         &["--header", "1"],
+        &["--pattern", "--round", "up"],
     ] {
         let (status, output, errors) = run(words, b"");
         assert_eq!((status, &*output), (2, ""), "{words:?}");
@@ -193,6 +194,10 @@ fn refuses_wrong_usage() {
         (
             ["--parts", "-1", "1h"],
             "invalid value '-1' for '--parts <N>': not a whole number",
+        ),
+        (
+            ["--parts", "", "1h"],
+            "invalid value '' for '--parts <N>': not a whole number",
         ),
         (
             ["--field", "+1", "1h"],

@@ -114,6 +114,108 @@ static bool are_equal(struct duration_str_answer one, struct duration_str_answer
            one.first_operator == two.first_operator && one.later_operator == two.later_operator;
 }
 
+/* ---- What must hold of a rounded duration */
+
+struct duration {
+    uint64_t secs;
+    uint32_t nanos;
+};
+
+static bool is_longer(struct duration one, struct duration other) {
+    return one.secs != other.secs ? one.secs > other.secs : one.nanos > other.nanos;
+}
+
+/* The duration and the limits with which it is rounded and printed. */
+struct printed {
+    struct duration duration;
+    uint32_t units, parts;
+};
+
+/* A duration of which a count or the rest has more than 64 bits has no breakdown. */
+static void check_whole(struct duration rounded, uint32_t units, uint32_t parts) {
+    uint64_t counts[DURATION_STR_UNIT_COUNT], rest = 0;
+    HOLDS(!duration_str_breakdown(rounded.secs, rounded.nanos, units, parts, counts, &rest) ||
+          rest == 0);
+}
+
+/* Returns whether there is a duration to round to, which is then at `*rounded`. */
+static bool is_rounded(struct printed given, uint32_t rounding, struct duration *rounded) {
+    uint64_t *secs = (void *)buffer_at(number_end, sizeof *secs);
+    uint32_t *nanos = (void *)buffer_at(answers_end, sizeof *nanos);
+    memcpy(secs, &given.duration.secs, sizeof *secs);
+    memcpy(nanos, &given.duration.nanos, sizeof *nanos);
+    bool is_there = duration_str_round(secs, nanos, given.units, given.parts, rounding);
+    HOLDS(is_untouched((uint8_t *)secs - CANARIES, (uint8_t *)secs) &&
+          is_untouched((uint8_t *)nanos - CANARIES, (uint8_t *)nanos));
+    *rounded = (struct duration){*secs, *nanos};
+    if (is_there)
+        check_whole(*rounded, given.units, given.parts);
+    else
+        HOLDS(*secs == given.duration.secs && *nanos == given.duration.nanos);
+    return is_there;
+}
+
+static struct duration rounded_down(struct printed given) {
+    struct duration down;
+    HOLDS(is_rounded(given, DURATION_STR_ROUNDING_DOWN, &down));
+    return down;
+}
+
+static struct duration less(struct duration one, struct duration other) {
+    const uint32_t borrowed = one.nanos < other.nanos;
+    return (struct duration){
+        one.secs - other.secs - borrowed, one.nanos + borrowed * 1000000000 - other.nanos};
+}
+
+static void check_rounded(struct printed given) {
+    const struct duration one_nano = {0, 1}, longest = {UINT64_MAX, 999999999};
+    struct duration down = rounded_down(given), up, nearest;
+    HOLDS(!is_longer(down, given.duration));
+    HOLDS(is_rounded(given, DURATION_STR_ROUNDING_NEAREST, &nearest));
+    char as_given[DURATION_STR_FORMAT_WITH_BUFFER_SIZE], as_down[sizeof as_given];
+    duration_str_format_with(
+        given.duration.secs, given.duration.nanos, given.units, given.parts, 0, as_given);
+    duration_str_format_with(down.secs, down.nanos, given.units, given.parts, 0, as_down);
+    HOLDS(strcmp(as_given, as_down) == 0);
+    if (!is_rounded(given, DURATION_STR_ROUNDING_UP, &up)) {
+        HOLDS(is_longer(
+            given.duration, rounded_down((struct printed){longest, given.units, given.parts})));
+        HOLDS(!is_longer(nearest, down) && !is_longer(down, nearest));
+        return;
+    }
+    HOLDS(!is_longer(given.duration, up));
+    struct duration whole = rounded_down((struct printed){up, given.units, given.parts});
+    HOLDS(!is_longer(up, whole));
+    /* Nothing between the two prints whole. */
+    if (is_longer(up, down)) {
+        whole = rounded_down((struct printed){less(up, one_nano), given.units, given.parts});
+        HOLDS(!is_longer(whole, down));
+    }
+    struct duration wanted =
+        is_longer(less(up, given.duration), less(given.duration, down)) ? down : up;
+    HOLDS(!is_longer(nearest, wanted) && !is_longer(wanted, nearest));
+}
+
+/* The first bytes of a text as arguments, of which some can be refused. */
+static void check_rounding(struct text text) {
+    struct printed given;
+    struct duration rounded;
+    uint32_t rounding;
+    if (text.length < sizeof given + sizeof rounding)
+        return;
+    memcpy(&given, text.bytes, sizeof given);
+    memcpy(&rounding, text.bytes + sizeof given, sizeof rounding);
+    const bool is_refused = given.duration.nanos >= 1000000000 || given.units == 0 ||
+                            given.units > DURATION_STR_UNITS_ALL;
+    if (is_refused || rounding > DURATION_STR_ROUNDING_UP)
+        HOLDS(!is_rounded(given, rounding, &rounded));
+    given.duration.nanos %= 1000000000;
+    given.units = 1 + given.units % DURATION_STR_UNITS_ALL;
+    check_rounded(given);
+    given.parts %= DURATION_STR_UNIT_COUNT + 2;
+    check_rounded(given);
+}
+
 /* ---- What must hold of an answer */
 
 static void check_printed(uint64_t nanos) {
@@ -155,6 +257,7 @@ static void check_parts(uint64_t nanos) {
         secs, below_second, units, parts, DURATION_STR_STYLE_SHORT, (char *)buffer);
     struct duration_str_answer answer = read_with(text_at(prints, buffer, length), 0);
     HOLDS(answer.cause == DURATION_STR_CAUSE_READ && answer.nanos == sum);
+    check_rounded((struct printed){{secs, below_second}, units, parts});
 }
 
 static void check_report(struct text text, uint32_t options, struct duration_str_answer wanted) {
@@ -240,6 +343,7 @@ static void check(struct text text) {
             continue;
         check_report(text, options, answer);
     }
+    check_rounding(text);
     check_plain(text, answers[0]);
     check_default_units(text, answers);
     check_unit_name(text);

@@ -1,6 +1,6 @@
 //! Rounds durations to those that print whole, in all sets of units and up to 12 parts.
 use duration_str::{
-    Breakdown, Format, Rounding, TimeUnit, UNITS, Units, format_duration, round_to,
+    Breakdown, Format, Rounding, Style, TimeUnit, UNITS, Units, format_duration, round_to,
 };
 use std::time::Duration;
 
@@ -120,4 +120,42 @@ fn prints_rounded() {
     assert_eq!(printed(5_399, Rounding::Nearest), texts("1h"));
     assert_eq!(printed(5_399, Rounding::Up), texts("2h"));
     assert_eq!(printed(7_200, Rounding::Up), texts("2h"));
+}
+
+#[test]
+fn rounds_down_if_nothing_is_long_enough() {
+    let year = TimeUnit::Year.nanos() / 1_000_000_000;
+    let years = Duration::from_secs(u64::MAX / year * year);
+    let longest = format_duration(Duration::MAX);
+    for (printed, text, length) in [
+        (longest.parts(0), "0s", Duration::ZERO),
+        (longest.only(&[]), "0s", Duration::ZERO),
+        (longest.only(&[TimeUnit::Year]), "584942417355y", years),
+    ] {
+        let rounded = printed.rounding(Rounding::Up);
+        assert_eq!(
+            (rounded.to_string(), *rounded.get_ref()),
+            (text.to_string(), length)
+        );
+        let mut parts = rounded.breakdown();
+        parts.by_ref().for_each(drop);
+        assert_eq!(parts.rest(), 0);
+    }
+}
+
+#[test]
+fn rounds_in_the_chosen_units_style_and_sign() {
+    let took = format_duration(Duration::from_secs(2 * DAY - 1)).only(&[TimeUnit::Hour]);
+    let rounded = took.style(Style::Long).rounding(Rounding::Up);
+    assert_eq!(rounded.to_string(), "48 hours");
+    assert_eq!(format!("{rounded:*>10}"), "**48 hours");
+    assert!(rounded.breakdown().eq([(TimeUnit::Hour, 48)]));
+    #[cfg(feature = "chrono")]
+    {
+        use duration_str::HumanFormat;
+        let late = chrono::Duration::seconds(-7_199).formatted().parts(1);
+        let rounded = late.rounding(Rounding::Nearest);
+        assert_eq!(rounded.to_string(), "-2h");
+        assert_eq!(format!("{rounded:>5}"), "  -2h");
+    }
 }
