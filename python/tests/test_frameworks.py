@@ -32,12 +32,16 @@ def recipe(name):
     return re.search(rf"^```python\n(# {name}\n.*?)^```$", readme, re.M | re.S)[1]
 
 
-def run(name, *words):
+def run(name, *words, files=()):
     with tempfile.TemporaryDirectory() as room:
-        file = pathlib.Path(room, name)
-        file.write_text(recipe(name), encoding="utf-8")
+        for file, text in (name, recipe(name)), *files:
+            pathlib.Path(room, file).write_text(text, encoding="utf-8")
         ended = subprocess.run(
-            [sys.executable, file, *words], capture_output=True, text=True, encoding="utf-8"
+            [sys.executable, name, *words],
+            capture_output=True,
+            cwd=room,
+            text=True,
+            encoding="utf-8",
         )
     return ended.returncode, ended.stdout, ended.stderr.rstrip("\n").rpartition("\n")[2]
 
@@ -118,6 +122,16 @@ class Lines(unittest.TestCase):
             DURATION.convert(60, None, None)
         milliseconds = DurationParamType(default_unit="ms")
         self.assertEqual(milliseconds.convert(60_000, None, None), MINUTE)
+
+
+@unittest.skipUnless(has("distributed") and has("pandas"), "Dask or pandas is missing")
+class Cluster(unittest.TestCase):
+    def test_reads_files_in_two_processes(self):
+        texts = ["1m 30s", "soon", "2 hours", "", "5 mins", "90"]
+        files = [(f"jobs-{at}.csv", f"takes,id\n{text},1\n") for at, text in enumerate(texts)]
+        # Debian's Dask warns about itself.
+        status, output, _ = run("cluster.py", files=files)
+        self.assertEqual((status, output), (0, "0 days 02:00:00 ['soon', '5 mins']\n"))
 
 
 LINE = 'unknown unit "mins" at column 3 (did you mean "min"?)'
