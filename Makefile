@@ -155,7 +155,7 @@ docdir = $(datarootdir)/doc/duration_str
 INSTALL = install
 INSTALL_PROGRAM = $(INSTALL)
 INSTALL_DATA = $(INSTALL) -m 644
-# Below / nothing is staged. DESTDIR may also be // or a link to /.
+# A DESTDIR that is the folder / itself, also as // or as a link to /, is the same as none.
 ifeq ($(shell realpath $(call quoted,$(DESTDIR)) 2>/dev/null),/)
 override DESTDIR :=
 endif

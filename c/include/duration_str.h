@@ -396,9 +396,10 @@ size_t duration_str_one_line(
  * in which each report and its zero byte fit. Returns the length of the report,
  * or 0 if the text is read.
  *
- * For some texts the report is the line alone (docs/GRAMMAR.md in the
- * repository says for which). Before the caret there is a space for each
- * character before the place, and two for a Chinese letter. */
+ * The report is the line alone if the cause is not a syntax fault, if the text
+ * has more than 80 characters, or if the line would escape one of them. Before
+ * the caret there is a space for each character before the place, and two for a
+ * Chinese letter. */
 DURATION_STR_NONNULL(5)
 size_t duration_str_report(
     const char *text, size_t length, uint32_t options,

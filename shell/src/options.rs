@@ -122,6 +122,7 @@ impl From<Round> for Rounding {
 
 const AFTER_HELP: &str = "\
 Units are y, q (91 days), mon (30 days), w, d, h, m, s, ms, us, ns, and longer names.
+Without --from, a number without a unit counts seconds.
 The status is 0 if all texts were read, 1 if one was refused, and 2 for an error.
 
 Examples:
