@@ -272,12 +272,6 @@ install install-library: installable
 	    $$put "$$libraries/$${name%.[0-9]*}" "$$file"
 	done
 	[ -n '$(windows)' ] || ln -sf $(soname) "$$DESTDIR$(libdir)/libduration_str.so"
-	# Before the soname 2 the library's file was named by its version. So the link of an older
-	# soname may lead to a file that a newer version has replaced, and programs that use it can
-	# crash. A link is removed if the library to which it leads does not contain the link's name.
-	for link in "$$DESTDIR$(libdir)"/libduration_str.so.[0-9]*; do
-	    [ ! -L "$$link" ] || grep -aqF "$${link##*/}" "$$link" || rm -fv "$$link"
-	done
 	# The fifth byte of an ELF file is 1 if its pointers have four bytes, and 2 if they have eight.
 	pointer=$(if $(windows),8,$$((4 * $$(od -An -tu1 -j4 -N1 "$$libraries/libduration_str.so"))))
 	$(call filled,duration_str.pc,prefix,$(call up,$(libdir)/pkgconfig,$${pcfiledir})) |

@@ -5,7 +5,7 @@ fn main() {
     println!("cargo:rerun-if-changed=build.rs");
     let set = |name| std::env::var(name).unwrap_or_default();
     if set("CARGO_CFG_TARGET_OS") == "linux" {
-        println!("cargo:rustc-cdylib-link-arg=-Wl,-soname,libduration_str.so.3");
+        println!("cargo:rustc-cdylib-link-arg=-Wl,-soname,libduration_str.so.1");
     }
     if set("TARGET") == "wasm32-unknown-unknown" {
         println!("cargo:rustc-cdylib-link-arg=--export=__heap_base");

@@ -47,14 +47,6 @@ def paragraphs():
         yield f"{PYTHON}/_native.c", f'{before}{end}\n    "', end, lines
 
 
-def rounding():
-    """The rule of rounding and the table of examples, for the packages' READMEs."""
-    rule, table = section("docs/GRAMMAR.md", "### Rounding").strip().split("\n\n")[:2]
-    before = "copies the rule and the table from docs/GRAMMAR.md. -->\n"
-    for folder in "rust", "python", "js", "c", "shell":
-        yield f"{folder}/README.md", before, "\n\nFor example:\n", f"{rule}\n\n{table}"
-
-
 def option_descriptions():
     """What the options of reading do: three switches, and the two choices of a default unit."""
     page = section("docs/GRAMMAR.md", "## Options")
@@ -125,7 +117,6 @@ def places():
     descriptions = option_descriptions()
     sentences = {name: f"{what[0].upper()}{what[1:]}." for name, what in descriptions.items()}
     yield from paragraphs()
-    yield from rounding()
     yield from options(descriptions, sentences)
     yield from options_in_javascript(descriptions, sentences)
     yield from callers()

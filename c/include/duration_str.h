@@ -139,7 +139,8 @@ enum duration_str_option {
            (DURATION_STR_CAST(uint64_t, unit) <= DURATION_STR_UNIT_NANOSECOND \
                 ? DURATION_STR_CAST(uint32_t, unit) + 1 : 15) << 16)
 
-/* Why a text is refused. */
+/* Why a text is refused. No cause has the number 6: in other languages it means
+ * a date out of range, and no call here has dates. */
 enum duration_str_cause {
     /* no error: the text is read */
     DURATION_STR_CAUSE_READ = 0,

@@ -103,3 +103,6 @@ impl<T: Sealed> Sealed for Option<T> {}
 
 #[cfg(feature = "serde")]
 impl<T: Sealed> Sealed for alloc::vec::Vec<T> {}
+
+#[cfg(feature = "serde")]
+impl<K, T: Sealed> Sealed for alloc::collections::BTreeMap<K, T> {}

@@ -2,8 +2,9 @@
 //! [`format_duration`](crate::format_duration) prints them, and
 //! [`parse_duration`](crate::parse_duration) reads them.
 //!
-//! The field's type is a duration of `std`, `chrono` or `time`, or an `Option` or a `Vec` of such a
-//! type. In other collections, such as a map, use [`HumanDuration`], which needs no `with`.
+//! The field's type is a duration of `std`, `chrono` or `time`, or an `Option`, a `Vec` or a
+//! `BTreeMap` of such a type. In other collections use [`HumanDuration`], which needs no `with`. It
+//! reads texts as this module does.
 //!
 //! - The data format, such as JSON, is asked for a text. So YAML's `90` is 90 seconds, and formats
 //!   that don't store the types of their values, such as bincode, are read too.
@@ -78,33 +79,39 @@ use crate::humantime;
 use crate::parser::{ADDITIONS, parse_with};
 use crate::serde::original::Length;
 use crate::{HUMAN_BUFFER_SIZE, TimeUnit, write_human};
+use alloc::collections::BTreeMap;
 use alloc::string::String;
 use alloc::vec::Vec;
 use core::fmt;
 use core::marker::PhantomData;
 use core::str;
 use core::time::Duration;
-use serde::de::{self, Deserialize, Deserializer, IgnoredAny, MapAccess, Unexpected, Visitor};
+use serde::de::{
+    self, Deserialize, DeserializeOwned, Deserializer, IgnoredAny, MapAccess, Unexpected, Visitor,
+};
 use serde::ser::{self, Serialize, Serializer};
 
 /// The types of fields that this module, [`human_require_unit`](crate::human_require_unit),
 /// [`human_or_seconds`](crate::human_or_seconds), [`human_or_millis`](crate::human_or_millis) and
 /// [`humantime_serde`](crate::humantime_serde) write and read.
 ///
-/// A map with values of the type [`HumanDuration`] needs no `with`:
+/// A map of durations is read by the module's rules, too:
 ///
 /// ```
-/// use duration_str::HumanDuration;
-/// use std::collections::HashMap;
+/// use duration_str::human_or_seconds;
+/// use serde_json::json;
+/// use std::collections::BTreeMap;
+/// use std::time::Duration;
 ///
-/// let pauses: HashMap<String, HumanDuration> = serde_json::from_str(r#"{ "first": "5s" }"#)?;
-/// assert_eq!(pauses["first"].as_secs(), 5);
+/// let pauses: BTreeMap<String, Duration> =
+///     human_or_seconds::deserialize(json!({ "first": "5s", "later": 90 }))?;
+/// assert_eq!(pauses["later"], Duration::from_secs(90));
 /// # Ok::<(), serde_json::Error>(())
 /// ```
 #[diagnostic::on_unimplemented(
     message = "`duration_str::human` has no fields of the type `{Self}`",
-    label = "no duration of std, chrono or time, and no `Option` or `Vec` of them",
-    note = "a map can be a `HashMap<String, HumanDuration>`, without `with`"
+    label = "no duration of std, chrono or time, and no `Option`, `Vec` or `BTreeMap` of them",
+    note = "a `HumanDuration` needs no `with`, and reads a number without a unit as seconds"
 )]
 pub trait HumanText: Sealed + Sized {
     #[doc(hidden)]
@@ -386,6 +393,30 @@ impl<T: HumanText> HumanText for Vec<T> {
     ) -> Result<Self, D::Error> {
         let values = Vec::<Part<T, HOW>>::deserialize(deserializer)?;
         Ok(values.into_iter().map(|Part(value)| value).collect())
+    }
+}
+
+impl<K, T> HumanText for BTreeMap<K, T>
+where
+    K: Ord + Serialize + DeserializeOwned,
+    T: HumanText,
+{
+    fn serialize_human<S: Serializer, const HOW: u8>(
+        &self,
+        serializer: S,
+    ) -> Result<S::Ok, S::Error> {
+        serializer.collect_map(
+            self.iter()
+                .map(|(key, value)| (key, Part::<&T, HOW>(value))),
+        )
+    }
+
+    fn deserialize_human<'de, D: Deserializer<'de>, const HOW: u8>(
+        deserializer: D,
+    ) -> Result<Self, D::Error> {
+        let values = BTreeMap::<K, Part<T, HOW>>::deserialize(deserializer)?;
+        let named = values.into_iter();
+        Ok(named.map(|(key, Part(value))| (key, value)).collect())
     }
 }
 

@@ -2,12 +2,14 @@
 use crate::vectors;
 use duration_str::human::{self, HumanText};
 use duration_str::{
-    HumanDuration, Style, TimeUnit, UnknownStyle, UnknownUnit, human_require_unit, humantime_serde,
+    HumanDuration, Style, TimeUnit, UnknownStyle, UnknownUnit, human_or_millis, human_require_unit,
+    humantime_serde,
 };
 use serde::de::value::{BytesDeserializer, Error};
 use serde::de::{Deserializer, Error as _, Visitor};
 use serde::{Deserialize, Serialize, forward_to_deserialize_any};
 use serde_json::{Value, from_value, json, to_value, value::Serializer};
+use std::collections::BTreeMap;
 use std::time::Duration;
 
 #[derive(Debug, Serialize, Deserialize, PartialEq)]
@@ -290,4 +292,24 @@ fn requires_units_in_fields() {
     let number: Result<Duration, _> = human_require_unit::deserialize(Untyped("90"));
     assert!(number.is_err());
     assert!(human_require_unit::deserialize::<Duration, _>(json!(90)).is_err());
+}
+
+#[test]
+fn reads_and_writes_maps_by_the_rules_of_the_module() {
+    type Pauses = BTreeMap<String, Option<Duration>>;
+    let read = |value| human_or_millis::deserialize::<Pauses, _>(value);
+    let pauses = read(json!({ "first": 1500, "later": "2s", "none": null })).unwrap();
+    assert_eq!(pauses["first"], Some(Duration::from_millis(1500)));
+    assert_eq!(
+        (pauses["later"], pauses["none"]),
+        (Some(Duration::from_secs(2)), None)
+    );
+    let written = human_or_millis::serialize(&pauses, Serializer);
+    assert_eq!(
+        written.unwrap(),
+        json!({ "first": "1s 500ms", "later": "2s", "none": null })
+    );
+    let bare = json!({ "first": "90" });
+    assert!(human::deserialize::<BTreeMap<String, Duration>, _>(bare.clone()).is_ok());
+    assert!(human_require_unit::deserialize::<BTreeMap<String, Duration>, _>(bare).is_err());
 }
