@@ -1,6 +1,8 @@
-// The library as a WebAssembly module. In the bundle the module is a string with one character for
-// each byte, which gzip packs into fewer bytes than base64.
-import letters from "duration_str.txt";
+// The library as two WebAssembly modules: one that reads, and one that prints. So a bundle contains
+// only what it calls. A module is a string with one character for each byte, which gzip packs into
+// fewer bytes than base64.
+import printing from "print.txt";
+import reading from "read.txt";
 
 const ADVICE = "allow 'wasm-unsafe-eval' in the content security policy, lift --jitless or the "
     + "limit of the address space, or import duration-str/plain";
@@ -15,11 +17,14 @@ function bytesOf(text) {
     return bytes;
 }
 
-export function instance() {
+function instance(text) {
     try {
-        return new WebAssembly.Instance(new WebAssembly.Module(bytesOf(letters))).exports;
+        return new WebAssembly.Instance(new WebAssembly.Module(bytesOf(text))).exports;
     } catch (cause) {
         const why = `duration-str cannot use WebAssembly here (${cause.message}): ${ADVICE}`;
         throw new Error(why, { cause });
     }
 }
+
+export const reader = () => instance(reading);
+export const printer = () => instance(printing);
