@@ -1,20 +1,22 @@
 // The library as two WebAssembly modules: one that reads, and one that prints. So a bundle contains
-// only what it calls. A module is a string with one character for each byte, which gzip packs into
-// fewer bytes than base64.
+// only what it calls.
 import printing from "print.txt";
 import reading from "read.txt";
 
 const ADVICE = "allow 'wasm-unsafe-eval' in the content security policy, lift --jitless or the "
     + "limit of the address space, or import duration-str/plain";
 
-/** Node's Buffer takes less time than the loop. */
+/** js/build writes a byte as one or two ASCII characters, which takes fewer bytes in a bundle after
+ * gzip than base64, or than one character for each byte. */
 function bytesOf(text) {
-    const { Buffer, process } = globalThis;
-    // In a page, `Buffer` may be something else.
-    if (Buffer && process?.versions?.node) return Buffer.from(text, "latin1");
     const bytes = new Uint8Array(text.length);
-    for (let place = 0; place < bytes.length; place++) bytes[place] = text.charCodeAt(place);
-    return bytes;
+    let end = 0;
+    for (let place = 0; place < text.length; place++) {
+        let code = text.charCodeAt(place) - 32;
+        if (code > 92) code = 93 * (code - 92) + text.charCodeAt(++place) - 32;
+        bytes[end++] = code - 5;
+    }
+    return bytes.subarray(0, end);
 }
 
 function instance(text) {
