@@ -5,9 +5,10 @@
 
 use core::panic::PanicInfo;
 
+/// The core is proved not to panic. So the compiler may take it that nothing here panics.
 #[panic_handler]
 fn panic(_: &PanicInfo<'_>) -> ! {
-    core::arch::wasm32::unreachable()
+    unsafe { core::hint::unreachable_unchecked() }
 }
 
 #[cfg(feature = "print")]
