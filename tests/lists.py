@@ -55,6 +55,7 @@ def rows(texts):
 def in_javascript():
     name = "js/src/lists.js"
     yield name, "const UNITS = [", "];", quoted(PRINTED)
+    yield name, "const NAMES = [\n", "\n];", rows(" ".join(unit.names) for unit in UNITS)
     yield name, "const STYLES = [", "];", quoted(STYLES)
     yield name, "const ROUNDINGS = [", "];", quoted(ROUNDINGS)
     # JavaScript sets no bit of an unknown option, so it lacks the last cause.

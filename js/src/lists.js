@@ -2,6 +2,20 @@
 
 /** The printed names of the units, in the order of `enum duration_str_time_unit`. */
 export const UNITS = ["y", "q", "mon", "w", "d", "h", "min", "s", "ms", "µs", "ns"];
+/** The names of each unit that are read if all options are off. */
+export const NAMES = [
+    "y year years",
+    "q quarter quarters",
+    "mon month months",
+    "w week weeks",
+    "d day days",
+    "h hr hour hours",
+    "m min minute minutes",
+    "s sec second seconds",
+    "ms msec millisecond milliseconds",
+    "µs µsec µsecond us usec usecond microsecond microseconds",
+    "ns nsec nanosecond nanoseconds",
+];
 /** The styles, in the order of `enum duration_str_style`. */
 export const STYLES = ["short", "compact", "long"];
 /** The ways of rounding, in the order of `enum duration_str_rounding`. */

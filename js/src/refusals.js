@@ -1,28 +1,22 @@
-import { CODES } from "./lists.js";
-import {
-    CAUSE, decode, EXPECTED, fields, FOUND_LENGTH, HAS_PLACE, output, PLACE, texts,
-} from "./memory.js";
-
 const SHOWN_LENGTH = 80;
 
 /** The report's last line is the message. */
-class Fault {
-    code;
-    text;
-    index;
-    place;
-    found;
-    expected;
-    message;
+export class Fault {
     #report;
 
-    constructor({ code, text, index, place, found, expected }, report) {
+    /** The bits of `expected` are those of `enum duration_str_expected`. */
+    constructor(text, report, code, index = null, place = null, found = null, expected = 0) {
         this.code = code;
         this.text = text;
         this.index = index;
         this.place = place;
         this.found = found;
-        this.expected = expected;
+        this.expected = {
+            number: (expected & 1) !== 0,
+            unit: (expected & 2) !== 0,
+            operator: (expected & 4) !== 0,
+            end: (expected & 8) !== 0,
+        };
         this.message = report.slice(report.lastIndexOf("\n") + 1);
         this.#report = report;
     }
@@ -99,36 +93,4 @@ for (const named of [DurationError, DurationError.prototype]) {
     Object.defineProperty(named, "name", {
         value: "DurationError", writable: true, configurable: true,
     });
-}
-
-/** The bits are those of `enum duration_str_expected`. */
-function expectedOf(bits) {
-    return {
-        number: (bits & 1) !== 0,
-        unit: (bits & 2) !== 0,
-        operator: (bits & 4) !== 0,
-        end: (bits & 8) !== 0,
-    };
-}
-
-/** The fault of the text at TEXT, from the answer and the report that the call has written. */
-export function faultOf(text, length, reportLength) {
-    const code = CODES[fields.getUint32(CAUSE, true)];
-    const place = fields.getUint8(HAS_PLACE) ? fields.getUint32(PLACE, true) : null;
-    const foundLength = fields.getUint32(FOUND_LENGTH, true);
-    const expected = expectedOf(fields.getUint32(EXPECTED, true));
-    let index = place;
-    let found = foundLength ? text.slice(place, place + foundLength) : null;
-    // Beyond ASCII, bytes and UTF-16 units differ.
-    if (place !== null && length !== text.length) {
-        index = decode(texts.subarray(0, place)).length;
-        if (foundLength) found = decode(texts.subarray(place, place + foundLength));
-    }
-    return new Fault({ code, text, index, place, found, expected }, output(reportLength));
-}
-
-export function loneSurrogateAt(text, index) {
-    const expected = expectedOf(0);
-    const cause = { code: "NOT_TEXT", text, index, place: null, found: null, expected };
-    return new Fault(cause, `not UTF-8: a lone surrogate at index ${index}`);
 }

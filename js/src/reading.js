@@ -1,0 +1,131 @@
+// `reader` comes from compiled.js or from plain.js.
+import { reader } from "modules";
+import { CODES } from "./lists.js";
+import { bitsOf, READS_NUMBERS, typeOf } from "./options.js";
+import { DurationError, Fault } from "./refusals.js";
+
+/** The size of a page in bytes, by which a memory of WebAssembly grows. */
+const PAGE = 65_536;
+const LONE_SURROGATE = /[\ud800-\udfff]/u;
+
+// After the module's own memory come a `struct Answer` and the text to read. These are the offsets
+// of the struct's other fields: the nanoseconds are at 0.
+const PLACE = 8, FOUND_LENGTH = 12, CAUSE = 16, EXPECTED = 20, REPORT = 24;
+/** The longest report fits. */
+const REPORT_SIZE = 867;
+
+let calls, answer;
+// Views of the memory from the struct on, and from the text on.
+let fields, texts;
+
+/** Makes room for this many bytes of text. Older views stop working when the memory grows. */
+function reserve(length) {
+    if (texts?.length >= length) return;
+    const { memory } = calls;
+    if (texts) memory.grow(Math.ceil((length - texts.length) / PAGE));
+    fields = new DataView(memory.buffer, answer);
+    texts = new Uint8Array(memory.buffer, answer + REPORT + REPORT_SIZE);
+    reserve(length);
+}
+
+/** Writes a text in UTF-8, and returns its length in bytes. If a lone surrogate is in it, returns
+ * the complement of its index, which is negative. */
+function write(text) {
+    reserve(3 * text.length);
+    const bytes = texts;
+    let all = 0;
+    for (let index = 0; index < text.length; index++) {
+        const unit = text.charCodeAt(index);
+        all |= unit;
+        bytes[index] = unit;
+    }
+    if (all <= 0x7f) return text.length;
+    const lone = text.search(LONE_SURROGATE);
+    if (lone >= 0) return ~lone;
+    const codes = unescape(encodeURIComponent(text));
+    for (let index = 0; index < codes.length; index++) bytes[index] = codes.charCodeAt(index);
+    return codes.length;
+}
+
+/** The index of the UTF-16 unit that has this place in the text's UTF-8. Each half of a character
+ * of four bytes counts two. */
+function indexAt(text, place) {
+    let index = 0;
+    for (let bytes = 0; bytes < place; index++) {
+        const unit = text.charCodeAt(index);
+        bytes += unit < 0x80 ? 1 : unit < 0x800 || (unit & 0xf800) === 0xd800 ? 2 : 3;
+    }
+    return index;
+}
+
+/** The fault of the text, from the answer and the report that the call has written. */
+function faultOf(text, reportLength) {
+    const number = (field) => fields.getInt32(field, true);
+    const bytes = new Uint8Array(calls.memory.buffer, answer + REPORT, reportLength);
+    // Spreading the bytes would take eight times as long as `apply`.
+    const report = decodeURIComponent(escape(String.fromCharCode.apply(null, bytes)));
+    const code = CODES[number(CAUSE)];
+    if (number(PLACE) < 0) return new Fault(text, report, code);
+    const place = number(PLACE);
+    const index = indexAt(text, place);
+    const found = text.slice(index, indexAt(text, place + number(FOUND_LENGTH))) || null;
+    return new Fault(text, report, code, index, place, found, number(EXPECTED));
+}
+
+function surrogateAt(text, index) {
+    return new Fault(text, `not UTF-8: a lone surrogate at index ${index}`, "NOT_TEXT", index);
+}
+
+const notText = (value, help = "") =>
+    new TypeError(`a duration's text must be a string, not ${typeOf(value)}${help}`);
+
+/** For a fraction or a negative number, this is the text that JavaScript prints, which the library
+ * refuses. */
+function digitsOf(value, bits) {
+    if (!(bits & READS_NUMBERS)) {
+        throw notText(value, ": to read numbers, name their unit, as by { defaultUnit: 'ms' }");
+    }
+    // From 2^53 on a number can have lost digits. NaN is not below 2^53 either.
+    if (typeof value === "bigint" || value < 2 ** 53) return `${value}`;
+    throw new RangeError(`a number must be below 2^53, or a bigint, not ${value}`);
+}
+
+/** Returns the milliseconds, or the fault. */
+function read(value, options) {
+    const isText = typeof value === "string";
+    if (!isText && typeof value !== "number" && typeof value !== "bigint") throw notText(value);
+    const bits = bitsOf(options);
+    const text = isText ? value : digitsOf(value, bits);
+    if (!calls) {
+        calls = reader();
+        answer = calls.__heap_base.value;
+    }
+    const length = write(text);
+    if (length < 0) return surrogateAt(text, ~length);
+    const millis = calls.read(answer, length, bits & ~READS_NUMBERS);
+    return millis < 0 ? faultOf(text, -millis) : millis;
+}
+
+const nanoseconds = () => fields.getBigUint64(0, true);
+
+export function tryParseNs(value, options) {
+    const result = read(value, options);
+    if (result instanceof Fault) return { ok: false, fault: result };
+    return { ok: true, value: nanoseconds() };
+}
+
+export function parseNs(value, options) {
+    parse(value, options);
+    return nanoseconds();
+}
+
+export function tryParse(value, options) {
+    const result = read(value, options);
+    return result instanceof Fault ? { ok: false, fault: result } : { ok: true, value: result };
+}
+
+export function parse(value, options) {
+    const result = read(value, options);
+    if (typeof result === "number") return result;
+    throw new DurationError(result);
+}
