@@ -5,10 +5,9 @@
 
 use core::panic::PanicInfo;
 
-/// The core is proved not to panic. So the compiler may take it that nothing here panics.
 #[panic_handler]
 fn panic(_: &PanicInfo<'_>) -> ! {
-    unsafe { core::hint::unreachable_unchecked() }
+    core::arch::wasm32::unreachable()
 }
 
 #[cfg(feature = "print")]
