@@ -13,6 +13,8 @@ const LONE_SURROGATE = /[\ud800-\udfff]/u;
 const PLACE = 8, FOUND_LENGTH = 12, CAUSE = 16, EXPECTED = 20, REPORT = 24;
 /** The longest report fits. */
 const REPORT_SIZE = 867;
+/** The offset of the text. The struct's size is a multiple of 8. */
+const TEXT = REPORT + REPORT_SIZE + 7 & -8;
 
 let calls, answer;
 // Views of the memory from the struct on, and from the text on.
@@ -24,7 +26,7 @@ function reserve(length) {
     const { memory } = calls;
     if (texts) memory.grow(Math.ceil((length - texts.length) / PAGE));
     fields = new DataView(memory.buffer, answer);
-    texts = new Uint8Array(memory.buffer, answer + REPORT + REPORT_SIZE);
+    texts = new Uint8Array(memory.buffer, answer + TEXT);
     reserve(length);
 }
 

@@ -1,7 +1,6 @@
 //! The module that reads.
 
 use crate::MILLISECOND;
-use core::mem::offset_of;
 use core::slice::from_raw_parts;
 use core::str::from_utf8_unchecked;
 use duration_str_core::{
@@ -25,8 +24,8 @@ struct Answer {
 }
 
 const NO_PLACE: usize = usize::MAX;
-/// The offset of the text.
-const TEXT: usize = offset_of!(Answer, report) + REPORT_BUFFER_SIZE;
+/// The offset of the text. It is not within the structure, whose size is a multiple of 8.
+const TEXT: usize = size_of::<Answer>();
 
 /// Reads the text of this length that follows the answer. It must be UTF-8. Returns the value in
 /// milliseconds, rounded to the nearest number, or minus the length of the report.
