@@ -139,7 +139,11 @@ def read(data, options):
 
 
 def field_in(line, options):
-    pattern = "(?<![^{0}])[^{0}]*" if "delimiter" in options else "[^{0}]+"
+    """The place of a field, without the blanks and quotation marks at its ends."""
+    pattern, quoted = "[^{0}]+", r'"(?:[^"]|"")*"(?=\r?\Z|{0})'
+    if "delimiter" in options:
+        quoted = "" if options["delimiter"] == '"' else quoted + "|"
+        pattern = f"(?<![^{{0}}])(?:{quoted}[^{{0}}]*)"
     fields = re.finditer(pattern.format(re.escape(options.get("delimiter", BLANKS))).encode(), line)
     field = dict(enumerate(fields, 1)).get(options["field"])
     begin = field and field.end() - len(field[0].lstrip(EDGES))
@@ -312,10 +316,15 @@ class Commands(Texts):
         ]
         if "delimiter" not in options and self.chance(70):
             fields = [re.sub(b"[ \t\r\n]", b"", field) for field in fields]
+        divider = options.get("delimiter", self.choice(" \t")).encode()
+        fields = [self.marked(field, divider) if self.chance(20) else field for field in fields]
         edges = [self.choice((b"", b"", b"", b" ", b'"', b'" ', b"\r")) for _ in range(2)]
-        return (
-            edges[0] + options.get("delimiter", self.choice(" \t")).encode().join(fields) + edges[1]
-        )
+        return edges[0] + divider.join(fields) + edges[1]
+
+    def marked(self, field, divider):
+        """A field in quotation marks, as CSV has it, or nearly so."""
+        inside = (field, b"x" + divider + field, b'""' + divider + field + b'""', field + b'"x')
+        return b'"' + self.choice(inside) + self.choice((b'"', b'"', b'"', b'" ', b""))
 
     def data(self, options):
         lines = [self.line(options) for _ in range(self.choice((0, 1, 2, 5, 20, 40)))]

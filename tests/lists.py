@@ -108,9 +108,11 @@ def in_the_schema():
     for no_calc, required in patterns.SENTENCES:
         name = "duration" + "_no_calc" * no_calc + "_require_unit" * required
         pattern = patterns.pattern(no_calc=no_calc, require_unit=required)
-        before = f'"{name}": {{\n            "type": "string",\n            "pattern": '
-        wanted = json.dumps(pattern, ensure_ascii=False)
-        yield "docs/duration.schema.json", before, "\n", wanted
+        described = "A duration" + " without + and *" * no_calc
+        described += " whose numbers have units" * required + ", such as 1h 30m"
+        values = {"description": described, "type": "string", "pattern": pattern}
+        lines = json.dumps(values, ensure_ascii=False, indent=12).strip("{}\n ")
+        yield "docs/duration.schema.json", f'"{name}": {{\n            ', "\n        }", lines
 
 
 def places():

@@ -201,13 +201,14 @@ impl Run<'_> {
         let Some(number) = self.choices.field else {
             return Some([b"", line, b""]);
         };
-        let delimiter = self.choices.delimiter;
-        let divides =
-            |byte: &u8| delimiter.map_or(b" \t\r\n".contains(byte), |character| *byte == character);
-        let mut fields = line
-            .split(divides)
-            .filter(|field| delimiter.is_some() || !field.is_empty());
-        let field = fields.nth(number - 1)?;
+        let is_blank = |byte: &u8| b" \t\r\n".contains(byte);
+        let field = match self.choices.delimiter {
+            Some(delimiter) => divided(line, delimiter, number)?,
+            None => {
+                let mut fields = line.split(is_blank).filter(|field| !field.is_empty());
+                fields.nth(number - 1)?
+            }
+        };
         let is_inside = |byte: &u8| !b" \t\r\n\"".contains(byte);
         let start = field.as_ptr().addr() - line.as_ptr().addr();
         let first = start + field.iter().position(is_inside).unwrap_or(0);
@@ -282,5 +283,37 @@ impl Run<'_> {
         } else {
             std::slice::from_ref(&end)
         })
+    }
+}
+
+/// The field with this number, from 1.
+fn divided(mut line: &[u8], delimiter: u8, number: usize) -> Option<&[u8]> {
+    for _ in 1..number {
+        line = line.get(first_len(line, delimiter) + 1..)?;
+    }
+    Some(&line[..first_len(line, delimiter)])
+}
+
+/// The length of the first field.
+fn first_len(line: &[u8], delimiter: u8) -> usize {
+    let end = || line.iter().position(|byte| *byte == delimiter);
+    quoted_len(line, delimiter)
+        .or_else(end)
+        .unwrap_or(line.len())
+}
+
+/// The length of the first field, if quotation marks stand around it, such as in `"a, b"`. Two of
+/// them within it stand for one.
+fn quoted_len(line: &[u8], delimiter: u8) -> Option<usize> {
+    let mut rest = line.strip_prefix(b"\"").filter(|_| delimiter != b'"')?;
+    loop {
+        let mark = rest.iter().position(|byte| *byte == b'"')?;
+        rest = &rest[mark + 1..];
+        match rest {
+            [b'"', after @ ..] => rest = after,
+            [] | b"\r" => return Some(line.len()),
+            _ if rest[0] == delimiter => return Some(line.len() - rest.len()),
+            _ => return None,
+        }
     }
 }

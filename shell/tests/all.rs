@@ -135,6 +135,33 @@ fn divides_fields_at_equals_signs() {
 }
 
 #[test]
+fn divides_no_field_within_quotation_marks() {
+    let rows = [
+        // What stands in a field of CSV is not a field, even if it is a duration.
+        ("\"a, 90, b\",60", "\"a, 90, b\",1min"),
+        ("\"\"\"a\"\", 90\",60", "\"\"\"a\"\", 90\",1min"),
+        ("a,\"60\"", "a,\"1min\""),
+        ("a,\"1h 30m\"\r", "a,\"1h 30min\"\r"),
+        // These marks stand around no field.
+        ("\"a,60,b", "\"a,1min,b"),
+        ("\"a\"b,60,\"", "\"a\"b,1min,\""),
+        ("5\",60", "5\",1min"),
+        ("\"a\"\",60", "\"a\"\",1min"),
+    ];
+    for (line, wanted) in rows {
+        let got = run(&["-d,", "--field", "2"], line.as_bytes());
+        assert_eq!(got, (0, wanted.into(), "".into()), "{line}");
+    }
+    let marks = run(&["-d\"", "--field", "2"], b"\"60\"");
+    assert_eq!(marks, (0, "\"1min\"".into(), "".into()));
+    for line in ["\"a, 90\"", "\"a, 90\"\r"] {
+        let missing = run(&["-d,", "--field", "2"], line.as_bytes());
+        let error = "duration: line 1, field 2: no such field\n";
+        assert_eq!(missing, (1, line.into(), error.into()));
+    }
+}
+
+#[test]
 fn answers_each_line() {
     let errors = ["5 mins", ""].map(line);
     let errors = format!(

@@ -72,6 +72,29 @@
 //! assert!(serde_json::from_str::<Settings>(r#"{ "timeout": "90s*2" }"#).is_err());
 //! # Ok::<(), serde_json::Error>(())
 //! ```
+//!
+//! All units are written, so 30 days become `1mon`. To choose other units, write a function for
+//! `serialize_with`:
+//!
+//! ```
+//! use duration_str::{TimeUnit, format_duration};
+//! use serde::{Serialize, Serializer};
+//! use std::time::Duration;
+//!
+//! fn in_days<S: Serializer>(duration: &Duration, serializer: S) -> Result<S::Ok, S::Error> {
+//!     serializer.collect_str(&format_duration(*duration).largest(TimeUnit::Day))
+//! }
+//!
+//! #[derive(Serialize)]
+//! struct Settings {
+//!     #[serde(serialize_with = "in_days")]
+//!     retention: Duration,
+//! }
+//!
+//! let settings = Settings { retention: Duration::from_secs(30 * 86_400) };
+//! assert_eq!(serde_json::to_string(&settings)?, r#"{"retention":"30d"}"#);
+//! # Ok::<(), serde_json::Error>(())
+//! ```
 use crate::default_unit::{naming, parse_with_default_unit};
 use crate::human_duration::HumanDuration;
 use crate::human_format::Sealed;
