@@ -39,7 +39,7 @@ VALUES = (
         "parts": (1, 2, 3, 12, 2**64 - 1),
     }
     | dict.fromkeys(
-        ("json", "quiet", "zero-terminated", "lowercase", "cn-unit", "require-unit", "pattern"),
+        "json quiet zero-terminated lowercase cn-unit require-unit pattern sum".split(),
         [""],
     )
 )
@@ -184,6 +184,8 @@ def said_of(line, options, where, before=None):
     if "json" in options:
         output = json_object(line.decode(errors="replace"), answer, options, where).encode()
         return Said(output + b"\n", b"", int(isinstance(answer, Refused)))
+    if "sum" in options and not isinstance(answer, Refused):
+        return Said(answer, b"", 0)
     if not isinstance(answer, Refused):
         return Said(
             line[:begin] + printed(answer, options).encode() + line[end:] + end_of(options), b"", 0
@@ -191,7 +193,7 @@ def said_of(line, options, where, before=None):
     field = f", field {options['field']}" if "field" in options else ""
     advice = "" if before is None else advice_on(answer, before)
     return Said(
-        (line + end_of(options)) * bool(field),
+        0 if "sum" in options else (line + end_of(options)) * bool(field),
         f"duration: {where}{field}: {answer.message}{advice}\n".encode(),
         1,
     )
@@ -206,6 +208,17 @@ def pattern_of(options):
     return patterns.pattern(*choice.options, choice.default_unit is None)
 
 
+def said_of_sum(said, options):
+    """`said` has the durations in place of output."""
+    errors = b"".join(each.errors for each in said)
+    if errors:
+        return Said(b"", errors, 1)
+    total = sum(each.output for each in said)
+    if total >= 2**64:
+        return Said(b"", b"duration: sum of over 584 years\n", 1)
+    return Said(printed(total, options).encode() + end_of(options), b"", 0)
+
+
 def wanted(options, texts, data):
     """What the program must write for these texts, or, if there are none, for the lines of these
     bytes."""
@@ -214,13 +227,15 @@ def wanted(options, texts, data):
         return Said(pattern_of(options).encode() + end, b"", 0)
     lines = texts or (data.removesuffix(end).split(end) if data else [])
     header, kind = options.get("header", 0), "argument" if texts else "line"
-    said = [Said(line + end, b"", 0) for line in lines[:header]]
+    said = [] if "sum" in options else [Said(line + end, b"", 0) for line in lines[:header]]
     befores = itertools.chain([None], texts, itertools.repeat(None))
     said += [
         said_of(line, options, f"{kind} {number}", before)
         for number, line, before in zip(itertools.count(header + 1), lines[header:], befores)
     ]
-    if {"field", "header"} & set(options) and data and not (texts or data.endswith(end)):
+    if "sum" in options:
+        said = [said_of_sum(said, options)]
+    elif {"field", "header"} & set(options) and data and not (texts or data.endswith(end)):
         said[-1] = said[-1]._replace(output=said[-1].output.removesuffix(end))
     output, errors, statuses = zip(*said) if said else ((), (), ())
     return Said(
@@ -235,7 +250,7 @@ def is_wrong(options, texts):
     numbers = names & (shapes if "to" in names else {"decimals"})
     fields = (
         "json" in names
-        and names & {"field", "header"}
+        and names & {"field", "header", "sum"}
         or "delimiter" in names
         and "field" not in names
     )
@@ -286,6 +301,9 @@ class Commands(Texts):
         return (self.choice([*near(text)]) if self.chance(20) else text).encode()
 
     def single(self, options):
+        # A refused text leaves no sum.
+        if "sum" in options and self.chance(95):
+            return b"%dns" % self.random.randrange(2 ** self.choice((9, 40, 63)))
         if self.chance(5):
             return b"5" + self.choice((b"x", b"0", "é".encode(), b"0 ")) * self.random.randint(
                 36, 44
@@ -337,7 +355,15 @@ class Commands(Texts):
 
     def command(self):
         """A command whose options are wrong is mostly made anew."""
-        likely = {"to": 60, "from": 40, "round": 40, "decimals": 40, "quiet": 4, "json": 12}
+        likely = {
+            "to": 60,
+            "from": 40,
+            "round": 40,
+            "decimals": 40,
+            "quiet": 4,
+            "json": 12,
+            "sum": 5,
+        }
         likely["pattern"] = 2
         options = {
             name: self.value(name)
@@ -459,7 +485,7 @@ def main(program, seconds="20", seed=str(time.time_ns())):
         wrong = [commands.choice(WRONG_WORDS)] if commands.chance(5) else []
         words = [program, *commands.words(options), *wrong, *(["--"] * bool(texts) + texts)]
         is_usage = bool(wrong) or is_wrong(options, texts)
-        is_whole = is_usage or texts or "pattern" in options or len(data) > 9999
+        is_whole = is_usage or texts or {"pattern", "sum"} & set(options) or len(data) > 9999
         cuts = [] if is_whole else sorted(commands.random.choices(range(len(data) + 1), k=3))
         compare(words, usage if is_usage else wanted(options, texts, data), options, data, cuts)
         count += len(texts or data.split(end_of(options)))

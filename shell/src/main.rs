@@ -53,6 +53,7 @@ fn run(words: impl Iterator<Item = OsString>) -> io::Result<c_int> {
         end: if choices.zero_terminated { 0 } else { b'\n' },
         is_open: false,
         choices: &choices,
+        total: 0,
         has_refused: false,
     };
     run.all().map(|()| run.has_refused.into())
@@ -74,6 +75,8 @@ struct Run<'a> {
     /// Whether the answer gets no line end.
     is_open: bool,
     choices: &'a Choices,
+    /// The sum of the durations, if only that is printed.
+    total: u128,
     has_refused: bool,
 }
 
@@ -97,7 +100,29 @@ impl Run<'_> {
                 number,
             )?;
         }
+        if self.choices.sum && !self.has_refused {
+            self.put_sum()?;
+        }
         self.output.flush()
+    }
+
+    fn put_sum(&mut self) -> io::Result<()> {
+        self.is_open = false;
+        if let Ok(nanos) = u64::try_from(self.total) {
+            let mut buffer = [0; FORMAT_BUFFER_SIZE];
+            let printed = self.choices.printed(nanos, &mut buffer);
+            return self.put(&[printed.as_bytes()]);
+        }
+        self.has_refused = true;
+        if self.choices.quiet {
+            return Ok(());
+        }
+        io::stderr().write_all(b"duration: sum of over 584 years\n")
+    }
+
+    /// Whether what is not read as a duration is written as it is.
+    fn keeps_others(&self) -> bool {
+        self.choices.field.is_some() && !self.choices.sum
     }
 
     fn lines(&mut self, mut input: BufReader<File>) -> io::Result<()> {
@@ -117,10 +142,12 @@ impl Run<'_> {
                 self.pass(
                     &mut input,
                     &mut line,
-                    is_header || self.choices.field.is_some(),
+                    self.keeps_others() || is_header && !self.choices.sum,
                 )?;
             } else if is_header {
-                self.put(&[text])?;
+                if !self.choices.sum {
+                    self.put(&[text])?;
+                }
             } else if self.choices.field.is_none() && self.end == b'\n' {
                 self.line(text.strip_suffix(b"\r").unwrap_or(text), number)?;
             } else {
@@ -165,6 +192,10 @@ impl Run<'_> {
         };
         match reading::read(text, self.choices) {
             Err(refusal) => self.refuse(refusal, [before, text, after], number),
+            Ok((_, nanos)) if self.choices.sum => {
+                self.total += u128::from(nanos);
+                Ok(())
+            }
             Ok((text, nanos)) if self.choices.json => self.object(text, nanos),
             Ok((_, nanos)) => {
                 let mut buffer = [0; FORMAT_BUFFER_SIZE];
@@ -218,7 +249,7 @@ impl Run<'_> {
 
     fn refuse(&mut self, refusal: Refusal, line: [&[u8]; 3], number: u64) -> io::Result<()> {
         self.tell(refusal, line[1], number)?;
-        if self.choices.field.is_some() {
+        if self.keeps_others() {
             self.put(&line)
         } else {
             Ok(())

@@ -72,8 +72,11 @@ pub struct Choices {
     #[arg(long, value_name = "N", num_args = ..=1, require_equals = true,
         default_missing_value = "1", conflicts_with = "texts", value_parser = whole::<u64>)]
     pub header: Option<u64>,
+    /// Print only the sum of all durations, and no header; if a text is refused, print nothing
+    #[arg(long)]
+    pub sum: bool,
     /// Print a JSON object for each text, also for a refused one
-    #[arg(long, conflicts_with_all = ["field", "delimiter", "header"])]
+    #[arg(long, conflicts_with_all = ["field", "delimiter", "header", "sum"])]
     pub json: bool,
     /// Print no durations and no refusals; the status says whether all texts were read
     #[arg(short, long)]
@@ -92,7 +95,7 @@ pub struct Choices {
     pub require_unit: bool,
     /// Print the regular expression of the texts that the grammar allows, for validators
     #[arg(long, conflicts_with_all = SHAPES, conflicts_with_all = ["texts", "to", "decimals",
-        "round", "field", "delimiter", "header", "json", "quiet"])]
+        "round", "field", "delimiter", "header", "sum", "json", "quiet"])]
     pub pattern: bool,
     /// Print the completions for a shell
     #[arg(long, value_name = "SHELL", exclusive = true, value_parser =

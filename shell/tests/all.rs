@@ -162,6 +162,32 @@ fn divides_no_field_within_quotation_marks() {
 }
 
 #[test]
+fn prints_only_the_sum() {
+    let log = b"time path took\n9:00 /a 150ms\n9:01 /b 2s\n";
+    let third = ["--sum", "--header", "--field", "3"];
+    assert_eq!(run(&third, log), (0, "2s 150ms\n".into(), "".into()));
+    assert_eq!(answer(&["--sum", "--to", "min", "30s", "1h", "90"]), "62\n");
+    assert_eq!(run(&["--sum"], b""), (0, "0s\n".into(), "".into()));
+    let header = [&[b'x'; (1 << 20) + 1][..], b"\n2s\n"].concat();
+    let headless = run(&["--sum", "--header"], &header);
+    assert_eq!(headless, (0, "2s\n".into(), "".into()));
+    // All lines together may be longer than a line may be.
+    let lines = b"1ms\n".repeat(400_000);
+    assert_eq!(run(&["--sum"], &lines), (0, "6min 40s\n".into(), "".into()));
+    let errors = format!("duration: line 2: {}\n", line("5 mins"));
+    assert_eq!(run(&["--sum"], b"1h\n5 mins\n2h\n"), (1, "".into(), errors));
+    let errors = "duration: sum of over 584 years\n";
+    assert_eq!(
+        run(&["--sum"], b"500y\n500y\n"),
+        (1, "".into(), errors.into())
+    );
+    assert_eq!(
+        run(&["--sum", "-q"], b"500y\n500y\n"),
+        (1, "".into(), "".into())
+    );
+}
+
+#[test]
 fn answers_each_line() {
     let errors = ["5 mins", ""].map(line);
     let errors = format!(
