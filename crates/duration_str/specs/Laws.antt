@@ -24,13 +24,13 @@ use Rattle.duration_str.specs.Reading.{IsRead, IsRefused}
 use Rattle.duration_str.specs.Messages.{EndsInsideLine, message_of, line_of}
 use Rattle.duration_str.specs.Answer.{answer, expected_after, last_of, front_of}
 use Rattle.duration_str.specs.Older.{older_row_of, older_rules, WasRefused}
-use Rattle.duration_str.specs.Printing.{IsPrintedIn, IsGreatestBreakdown, long_name}
+use Rattle.duration_str.specs.Printing.{IsPrintedIn, IsGreatestBreakdown, long_name, weighted_sum}
 use Rattle.duration_str.specs.Breakdown.{YieldsPart, nanos_left, parts_left, sum_of_parts}
 use Rattle.duration_str.specs.declared.breakdown.Breakdown.{Breakdown}
 use Rattle.duration_str.specs.declared.format.Format.{Format}
 use Rattle.duration_str.specs.declared.format.Style.{Style}
 use Rattle.duration_str.specs.declared.rounding.Rounding.{Rounding}
-use Rattle.duration_str.specs.Format.{whole_format, IsPrintedWithin}
+use Rattle.duration_str.specs.Format.{whole_format, lengths_within, IsGreatestWithin, IsPrintedWithin}
 use Rattle.duration_str.specs.Rounding.{IsRounded, IsRoundedDown, IsRoundedUp, KeepsWithin, PrintsWhole}
 
 abbrev pub is_operator : ℕ → Bool
@@ -277,10 +277,14 @@ abbrev pub NeverMore : Type 0
 NeverMore = (format : Format) (nanos : ℕ) (text : Characters) → IsPrintedWithin format nanos text
     → (most : ℕ) × IsMostWithin format nanos text most
 
--- For each way of rounding there is at most one result up to `Duration::MAX`, and a duration that
--- prints whole is its own result. Between the results of rounding down and up, no duration prints
--- whole. A duration prints as the same text as what it is rounded down to.
+-- A duration prints whole exactly if the counts of its text, each times its length, add up to the
+-- duration. For each way of rounding there is at most one result up to `Duration::MAX`, and a
+-- duration that prints whole is its own result. Between the results of rounding down and up, no
+-- duration prints whole. A duration prints as the same text as what it is rounded down to.
 pub record OneRounding : Type 0 where
+  pub whole : (format : Format) (nanos : ℕ) (counts : List ℕ)
+      → IsGreatestWithin (lengths_within format) format.parts nanos counts
+      → (PrintsWhole format nanos ↔ (weighted_sum (lengths_within format) counts ≡ nanos))
   pub equal : (rounding : Rounding) (format : Format) (nanos m n : ℕ) → FitsDuration m → FitsDuration n
       → IsRounded rounding format nanos m → IsRounded rounding format nanos n → m ≡ n
   pub own : (rounding : Rounding) (format : Format) (nanos : ℕ) → PrintsWhole format nanos

@@ -4,13 +4,14 @@ use Rattle.duration_str.proofs.LawProofs.GreatestWithin.{ArePositive, greatest_w
 use Rattle.duration_str.proofs.LawProofs.NeverMore.{divided, kept_within, keeps_shown, none_shown, shown, shown_within, within_again}
 use Rattle.duration_str.proofs.Printer.FormatLemmas.{chosen-append}
 use Rattle.duration_str.proofs.Printer.SetLemmas.{chosen_in, chosen_none, chosen_out, days_chosen}
-use Rattle.duration_str.specs.Format.{chosen, is_in, up_to}
+use Rattle.duration_str.specs.Format.{chosen, is_in, up_to, IsGreatestWithin}
+use Rattle.duration_str.specs.Printing.{weighted_sum}
 use Rattle.duration_str.specs.declared.format.Units.{Units}
 use Rattle.duration_str.specs.Rounding.{distance, IsNearest, IsRounded, IsRoundedDown, IsRoundedUp, NoneAbove, OnlyZero, PrintsWhole}
 use Rattle.duration_str.specs.declared.rounding.Rounding.{Rounding}
 use Rattle.duration_str.specs.declared.rounding.Rounding.TheVariants.{Down, Nearest, Up}
 use Rattle.std.proofs.Math.Nat.{mul-le-mul_right}
-use Rattle.std.specs.Prelude.{min}
+use Rattle.std.specs.Prelude.{min, ◌↔◌}
 
 -- ---- Durations that print whole
 
@@ -534,8 +535,19 @@ printed_as format m n text same printed = (
   printed.2 ∙ ap (text_within format) (one_greatest_within format m printed.0 printed.1 ∙ same),
 )
 
+whole_by_counts : (format : Format) (nanos : ℕ) (counts : List ℕ)
+    → IsGreatestWithin (lengths_within format) format.parts nanos counts
+    → (PrintsWhole format nanos ↔ (weighted_sum (lengths_within format) counts ≡ nanos))
+whole_by_counts format nanos counts greatest =
+    let sums : weighted_sum (lengths_within format) counts ≡ shown_within format nanos =
+    ap (weighted_sum (lengths_within format)) (one_greatest_within format nanos counts greatest) in (
+      λ whole. sums ∙ whole_is_shown format nanos whole,
+      λ adds. shown_is_whole format nanos (sym sums ∙ adds),
+    )
+
 pub one_rounding_holds : OneRounding
 one_rounding_holds = record {
+  whole = whole_by_counts;
   equal = one_rounded;
   own = rounded_own;
   between = λ format nanos down up other is_down is_up kept more less.
