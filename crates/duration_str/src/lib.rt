@@ -13,6 +13,7 @@ mod format;
 mod humantime;
 pub mod laws;
 mod message;
+mod more_names;
 mod one_line;
 mod operator;
 mod options;

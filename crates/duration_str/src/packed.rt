@@ -6,7 +6,7 @@ ghost use Rattle.std.specs.Char.{is_ascii_alphabetic};
 ghost use Rattle.std.specs.Str.{chars};
 ghost use Rattle.duration_str.specs.Text.{is_unit_letter, is_chinese};
 ghost use Rattle.duration_str.specs.Internal.Positions.{letter_number, wide_number};
-ghost use Rattle.duration_str.specs.Internal.UnitTable.{unit_of_packed};
+ghost use Rattle.duration_str.specs.Internal.UnitTable.{packed_word, unit_of_packed};
 ghost use Rattle.duration_str.specs.Units.{row_of};
 ghost use Rattle.duration_str.specs.declared.unit.TimeUnit.{TimeUnit};
 
@@ -34,16 +34,24 @@ impl TimeUnit {
         ensures only { (unit : TimeUnit) → is_named (rules_of o) (chars word.now) unit ≡ true
             → unit_of_word (rules_of o) (chars word.now) ≡ Some unit }
     {
-        if word.len() > MOST_BYTES {
-            return None;
-        }
-        let mut packed = 0;
-        let mut chars = word.chars();
-        while let Some(c) = chars.next() {
-            packed = with_letter(packed, letter_number(c, o)?);
-        }
-        unit_of_packed(packed)
+        unit_of_packed(packed_word(word, o)?)
     }
+}
+
+/// Returns the packed number of a word that can be a name: all characters are unit letters, and it
+/// has no more bytes than the longest name.
+pub(crate) fn packed_word(word: &str, o: Options) -> Option<u64>
+    ensures { result ≡ packed_word o (chars word.now) }
+{
+    if word.len() > MOST_BYTES {
+        return None;
+    }
+    let mut packed = 0;
+    let mut chars = word.chars();
+    while let Some(c) = chars.next() {
+        packed = with_letter(packed, letter_number(c, o)?);
+    }
+    Some(packed)
 }
 
 /// The most bytes that a name has. The packed number of 12 letters fits into a `u64`.
@@ -136,7 +144,7 @@ fn wide_number(c: char, cn_unit: bool) -> u64
 /// name.
 const CAPITAL: u64 = 26;
 
-const CAPITAL_M: u64 = 39;
+pub(crate) const CAPITAL_M: u64 = 39;
 
 #[inline]
 pub(crate) fn unit_of_packed(packed: u64) -> Option<TimeUnit>

@@ -1,11 +1,11 @@
 -- Lemmas about packed names and their slots in the table.
-use Rattle.duration_str.proofs.Common.{[], all_names_in, and_from, and_parts, ap, arith, Bool, byte_len, bytes_eq, cases_Bool, chinese_letters, comparison_form, eq-eqb, eqb, eqb-true, false, false_from_ne_true, get_or, Humantime, if◌then◌else◌, inl, inr, is_chinese, is_in_row, is_named, is_unit_letter, leb, leb-true, length, length-reverse, letter_number, List, list_all, list_any, list_any-append, lit<, map, meaning_of, nat_tests, None, off, Options, or_cases, Own, packed_number, packed_number_after, packs_to, pow-le-pow_right, pow-succ', refl, reverse-reverse, row_of, table_of, Rules, rules, rules_of, Second, Some, suc, sym, Table, TimeUnit, to_ascii_lowercase, true, unit_of_word, units, UnitTable, width, ℕ, ◌%◌, ◌&&◌, ◌*◌, ◌+◌, ◌-◌, ◌/◌, ◌<◌, ◌==◌, ◌^◌, ◌||◌, ◌∙◌, ◌∷◌, ◌≡◌, ◌≤◌, ◌⊎◌}
+use Rattle.duration_str.proofs.Common.{[], all_names_in, and_from, and_parts, ap, arith, Bool, byte_len, bytes_eq, cases_Bool, chinese_letters, comparison_form, eq-eqb, eqb, eqb-true, false, false_from_ne_true, get_or, Humantime, if◌then◌else◌, inl, inr, is_chinese, is_in_row, is_named, is_some, is_unit_letter, leb, leb-true, length, length-reverse, letter_number, List, list_all, list_any, list_any-append, lit<, map, Month, meaning_of, nat_tests, None, off, Option, Options, or_cases, Own, packed_number, packed_number_after, packs_to, pow-le-pow_right, pow-succ', refl, reverse-reverse, row_of, table_of, Rules, rules, rules_of, Second, Some, suc, sym, Table, TimeUnit, to_ascii_lowercase, true, unit_of_word, units, UnitTable, width, ℕ, ◌%◌, ◌&&◌, ◌*◌, ◌+◌, ◌-◌, ◌/◌, ◌<◌, ◌==◌, ◌^◌, ◌||◌, ◌∙◌, ◌∷◌, ◌≡◌, ◌≤◌, ◌⊎◌, added_row_of, humantime_row_of, More, more_row_of, nat_le, packed_word, nanos_of}
 use mathlib.Core.List.{reverse, reverse_aux}
 use Rattle.duration_str.specs.declared.settings.Settings.{Settings}
 use Rattle.duration_str.specs.Internal.UnitTable.{unit_of_packed}
 use Rattle.std.proofs.lemmas.List.{get_or-map, length-map}
 use Rattle.std.proofs.lemmas.List.Folds.{list_all_at}
-use Rattle.duration_str.proofs.Characters.UnitLemmas.{all_units, among_all, named_passes}
+use Rattle.duration_str.proofs.Characters.UnitLemmas.{all_units, among_all, named_passes, same_length}
 
 -- ---- the numbers of letters
 
@@ -152,31 +152,49 @@ names_test v (name ∷ names) letters own =
     let parts = and_parts (are_name_letters name) _ own in
     rw (name_test v name letters parts.0, names_test v names letters parts.1)
 
-letters_in_table : (table : UnitTable) (u : TimeUnit) → list_all are_name_letters (all_names_in (table_of table) u) ≡ true
-letters_in_table Own = all_units (λ u. list_all are_name_letters (all_names_in (table_of Own) u)) refl
-letters_in_table Humantime = all_units (λ u. list_all are_name_letters (all_names_in (table_of Humantime) u)) refl
+-- The letters of these names are those that are packed, and the Chinese names have a Chinese letter.
+pub record IsPackable (table : Table) : Type 0 where
+  pub letters : (u : TimeUnit) → list_all are_name_letters (all_names_in table u) ≡ true
+  pub chinese : (u : TimeUnit) → list_all (list_any is_chinese) (table u).chinese ≡ true
 
-chinese_in_table : (table : UnitTable) (u : TimeUnit) → list_all (list_any is_chinese) (table_of table u).chinese ≡ true
-chinese_in_table Own = all_units (λ u. list_all (list_any is_chinese) (table_of Own u).chinese) refl
-chinese_in_table Humantime = all_units (λ u. list_all (list_any is_chinese) (table_of Humantime u).chinese) refl
+abbrev are_packed : Table → TimeUnit → Bool
+are_packed table u = list_all are_name_letters (all_names_in table u) && list_all (list_any is_chinese) (table u).chinese
+
+packable : (table : Table) → list_all (are_packed table) units ≡ true → IsPackable table
+packable table all = record {
+  letters = λ u. (and_parts _ _ (all_units (are_packed table) all u)).0;
+  chinese = λ u. (and_parts _ _ (all_units (are_packed table) all u)).1;
+}
+
+pub is_packable : (table : UnitTable) → IsPackable (table_of table)
+is_packable Own = packable row_of refl
+is_packable More = packable more_row_of refl
+is_packable Humantime = packable humantime_row_of refl
 
 no_chinese_letter : (o : Options) (w : List ℕ) → o.cn_unit ≡ false → list_all (is_unit_letter o) w ≡ true
     → list_any is_chinese (comparison_form o w) ≡ false
 no_chinese_letter o [] off e = search (rules, cases_Bool)
 no_chinese_letter o (c ∷ w) off e = search (rules, cases_Bool, and_parts, no_chinese_letter o w)
 
-no_chinese_name : (table : UnitTable) (o : Options) (w : List ℕ) (u : TimeUnit) → o.cn_unit ≡ false
+no_chinese_name : (table : Table) (o : Options) (w : List ℕ) (u : TimeUnit) → IsPackable table → o.cn_unit ≡ false
     → list_all (is_unit_letter o) w ≡ true
-    → list_any (bytes_eq (comparison_form o w)) (table_of table u).chinese ≡ false
-no_chinese_name table o w u off e = false_from_ne_true _ (λ named. cc (
+    → list_any (bytes_eq (comparison_form o w)) (table u).chinese ≡ false
+no_chinese_name table o w u is off e = false_from_ne_true _ (λ named. cc (
   no_chinese_letter o w off e,
-  named_passes (list_any is_chinese) (comparison_form o w) (table_of table u).chinese (chinese_in_table table u) named,
+  named_passes (list_any is_chinese) (comparison_form o w) (table u).chinese (is.chinese u) named,
 ))
 
-named_by_number : (table : UnitTable) (o : Options) (w : List ℕ) (u : TimeUnit) → list_all (is_unit_letter o) w ≡ true
-    → is_in_row o w (table_of table u) ≡ list_any (packs_to (packed_number o w)) (all_names_in (table_of table) u)
-named_by_number table o w u letters =
-    search (rules, cases_Bool, names_test, form_letters, letters_in_table, list_any-append, form_packed, no_chinese_name)
+named_by_number : (table : Table) (o : Options) (w : List ℕ) (u : TimeUnit) → IsPackable table
+    → list_all (is_unit_letter o) w ≡ true
+    → is_in_row o w (table u) ≡ list_any (packs_to (packed_number o w)) (all_names_in table u)
+named_by_number table o w u is letters =
+    let form = comparison_form o w in
+    let all = names_test form (all_names_in table u) (form_letters o w letters) (is.letters u) in
+    let parts = list_any-append (bytes_eq form) (table u).names (table u).chinese in
+    rw (form_packed o w, ← all, parts) (elim (cases_Bool o.cn_unit) [
+      | inl on ↦ rw on refl
+      | inr off ↦ rw (off, no_chinese_name table o w u is off letters) (grind arith)
+    ])
 
 -- ---- words that name no unit
 
@@ -223,6 +241,7 @@ byte_len-form o w = elim (cases_Bool o.lowercase) [ inl on ↦ rw on refl | inr 
 short_names : (table : UnitTable)
     → list_all (λ u. list_all (λ name. leb (byte_len name) 12) (all_names_in (table_of table) u)) units ≡ true
 short_names Own = refl
+short_names More = refl
 short_names Humantime = refl
 
 pub no_long_name : (settings : Settings) (w : List ℕ) → 12 < byte_len w → None ≡ unit_of_word (meaning_of settings) w
@@ -250,10 +269,141 @@ no_packed_name table test n fails all =
 abbrev pub own_settings : Options → Settings
 own_settings o = record { table = Own; default_unit = Some Second; options = o }
 
+by_number : (table : Table) (default_unit : Option TimeUnit) (o : Options) (w : List ℕ) → IsPackable table
+    → list_all (is_unit_letter o) w ≡ true
+    → unit_of_word (record { table = table; default_unit = default_unit; options = o }) w
+    ≡ unit_of_packed table (packed_number o w)
+unfolding unit_of_packed
+by_number table default_unit o w is letters = search (rules, named_by_number)
+
 pub unit_by_number : (settings : Settings) (w : List ℕ) → list_all (is_unit_letter settings.options) w ≡ true
     → unit_of_word (meaning_of settings) w ≡ unit_of_packed (table_of settings.table) (packed_number settings.options w)
+unit_by_number settings w letters =
+    by_number (table_of settings.table) settings.default_unit settings.options w (is_packable settings.table) letters
+
+-- ---- words that are packed
+
+packed_some : (o : Options) (w : List ℕ) (n : ℕ) → Some n ≡ packed_word o w
+    → (list_all (is_unit_letter o) w ≡ true) × (n ≡ packed_number o w)
+packed_some o w n is = elim (cases_Bool (nat_le (byte_len w) 12 && list_all (is_unit_letter o) w)) [
+  | inl fits ↦ ((and_parts _ _ fits).1, (let some = rw fits at is in cc))
+  | inr other ↦ absurd (let none = rw other at is in cc)
+]
+
+packed_none : (o : Options) (w : List ℕ) → None ≡ packed_word o w → (12 < byte_len w) ⊎ (list_all (is_unit_letter o) w ≡ false)
+packed_none o w is = elim (cases_Bool (nat_le (byte_len w) 12 && list_all (is_unit_letter o) w)) [
+  | inl fits ↦ absurd (let none = rw fits at is in cc)
+  | inr other ↦ grind (arith, nat_tests)
+]
+
+pub own_word_some : (o : Options) (w : List ℕ) (n : ℕ) → Some n ≡ packed_word o w
+    → unit_of_packed row_of n ≡ unit_of_word (rules_of o) w
+own_word_some o w n is =
+    let packed = packed_some o w n is in
+    ap (unit_of_packed row_of) packed.1 ∙ sym (unit_by_number (own_settings o) w packed.0)
+
+pub own_word_none : (o : Options) (w : List ℕ) → None ≡ packed_word o w → None ≡ unit_of_word (rules_of o) w
+own_word_none o w is = elim (packed_none o w is) [
+  | inl long ↦ no_long_name (own_settings o) w long
+  | inr other ↦ no_letter_name o w other
+]
+
+-- the rules by which only the added names are read
+abbrev pub added_rules : Rules
+added_rules = record { table = added_row_of; default_unit = None; options = off }
+
+pub added_word_some : (w : List ℕ) (n : ℕ) → Some n ≡ packed_word off w
+    → unit_of_packed added_row_of n ≡ unit_of_word added_rules w
+added_word_some w n is =
+    let packed = packed_some off w n is in
+    ap (unit_of_packed added_row_of) packed.1 ∙ sym (by_number added_row_of None off w (packable added_row_of refl) packed.0)
+
+pub added_word_none : (w : List ℕ) → None ≡ packed_word off w → None ≡ unit_of_word added_rules w
+added_word_none w is = elim (packed_none off w is) [
+  | inl long ↦ no_name added_rules w (λ name. leb (byte_len name) 12) refl
+      (false_from_ne_true _ (λ t. absurd (omega (arith, leb-true _ _ t, byte_len-form off w, long))))
+  | inr other ↦ no_name added_rules w (list_all (is_unit_letter off)) refl (letters_form off w ∙ other)
+]
+
+-- ---- tables that have the names of another one
+
+abbrev is_same : Option TimeUnit → Option TimeUnit → Bool
+is_same None None = true
+is_same (Some u) (Some v) = eqb (nanos_of u) (nanos_of v)
+is_same _ _ = false
+
+is_same-true : (u : TimeUnit) (found : Option TimeUnit) → is_same (Some u) found ≡ true → found ≡ Some u
+is_same-true u None e = absurd cc
+is_same-true u (Some v) e = ap Some (sym (same_length u v (eqb-true (nanos_of u) (nanos_of v) e)))
+
+-- whether a packed number names the same unit in both tables
+abbrev pub agree : Table → Table → ℕ → Bool
+agree table wide n = is_same (unit_of_packed table n) (unit_of_packed wide n)
+
+pub wider_unit : (table wide : Table) (n : ℕ) (u : TimeUnit)
+    → list_all (λ v. list_all (λ name. agree table wide (packed_number kept_capitals name)) (all_names_in table v)) units
+    ≡ true
+    → Some u ≡ unit_of_packed table n → Some u ≡ unit_of_packed wide n
+wider_unit table wide n u all found = elim (cases_Bool (agree table wide n)) [
+  | inl same ↦ sym (is_same-true u (unit_of_packed wide n) (rw (← found) at same))
+  | inr other ↦ absurd (let none = no_packed_name table (agree table wide) n other all in cc)
+]
+
+abbrev all_numbers : (ℕ → Bool) → Table → Bool
+all_numbers test table = list_all (λ u. list_all (λ name. test (packed_number kept_capitals name)) (all_names_in table u)) units
+
+own_kept : all_numbers (agree row_of more_row_of) row_of ≡ true
 unfolding unit_of_packed
-unit_by_number settings w letters = search (rules, named_by_number)
+own_kept = refl
+
+added_kept : all_numbers (agree added_row_of more_row_of) added_row_of ≡ true
+unfolding unit_of_packed
+added_kept = refl
+
+more_known : all_numbers (λ n. is_some (unit_of_packed row_of n) || is_some (unit_of_packed added_row_of n)) more_row_of ≡ true
+unfolding unit_of_packed
+more_known = refl
+
+more_kept : all_numbers (agree more_row_of humantime_row_of) more_row_of ≡ true
+unfolding unit_of_packed
+more_kept = refl
+
+humantime_known : all_numbers (λ n. is_some (unit_of_packed more_row_of n) || eqb n 39) humantime_row_of ≡ true
+unfolding unit_of_packed
+humantime_known = refl
+
+pub own_in_more : (n : ℕ) (u : TimeUnit) → Some u ≡ unit_of_packed row_of n → Some u ≡ unit_of_packed more_row_of n
+own_in_more n u = wider_unit row_of more_row_of n u own_kept
+
+pub added_in_more : (n : ℕ) (found : Option TimeUnit) → None ≡ unit_of_packed row_of n → found ≡ unit_of_packed added_row_of n
+    → found ≡ unit_of_packed more_row_of n
+added_in_more n (Some u) none is = wider_unit added_row_of more_row_of n u added_kept is
+added_in_more n None none is =
+    no_packed_name more_row_of (λ m. is_some (unit_of_packed row_of m) || is_some (unit_of_packed added_row_of m)) n
+    (rw (← none, ← is) refl) more_known
+
+pub month_in_humantime : Some Month ≡ unit_of_packed humantime_row_of 39
+unfolding unit_of_packed
+month_in_humantime = refl
+
+pub more_in_humantime : (n : ℕ) (found : Option TimeUnit) → eqb n 39 ≡ false → found ≡ unit_of_packed more_row_of n
+    → found ≡ unit_of_packed humantime_row_of n
+more_in_humantime n (Some u) other is = wider_unit more_row_of humantime_row_of n u more_kept is
+more_in_humantime n None other is =
+    no_packed_name humantime_row_of (λ m. is_some (unit_of_packed more_row_of m) || eqb m 39) n
+    (rw (← is, other) refl) humantime_known
+
+-- A word that names a unit by the library's own table names it with more names, too.
+pub named_with_more : (default_unit : Option TimeUnit) (o : Options) (w : List ℕ) (u : TimeUnit)
+    → unit_of_word (record { table = row_of; default_unit = default_unit; options = o }) w ≡ Some u
+    → unit_of_word (record { table = more_row_of; default_unit = default_unit; options = o }) w ≡ Some u
+named_with_more default_unit o w u is = elim (cases_Bool (list_all (is_unit_letter o) w)) [
+  | inl letters ↦
+      let own = by_number row_of default_unit o w (packable row_of refl) letters in
+      let wide = by_number more_row_of default_unit o w (packable more_row_of refl) letters in
+      wide ∙ sym (own_in_more (packed_number o w) u (sym is ∙ own))
+  | inr other ↦ absurd (let none = no_letter_name o w other in cc)
+]
 
 -- ---- slots
 

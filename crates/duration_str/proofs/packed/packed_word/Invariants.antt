@@ -1,6 +1,6 @@
 use Rattle.duration_str.proofs.Common.{chars, chars_rest, IsUtf8}
 use Rattle.duration_str.proofs.Cutting.PositionLemmas.{Packs}
-use Rattle.duration_str.proofs.unit.TimeUnit.from_word.Given as goal
+use Rattle.duration_str.proofs.packed.packed_word.Given as goal
 
 abbrev pub invariant-loop-c : goal.invariant-loop-c
 invariant-loop-c l = record {
