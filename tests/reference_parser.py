@@ -636,9 +636,8 @@ NEAR_WORDS = {
     "min": "mins",
     "s": "secs",
     "ms": "msecs millis",
-    "µs": "µsecs µseconds",
     "ns": "nsecs nanos",
-    "us": "usecs useconds micros μs μsec μsecs μsecond μseconds",
+    "us": "µsecs µseconds usecs useconds micros μs μsec μsecs μsecond μseconds",
 }
 NAMES = "y, q, mon, w, d, h, min, s, ms, us or ns"
 QUOTED = 40

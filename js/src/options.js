@@ -10,7 +10,7 @@ export const PARTS = [
 export const ALL_UNITS = (1 << UNITS.length) - 1;
 export const COUNTED_UNITS = ALL_UNITS & ~(1 << PARTS.indexOf(null));
 /** Each has the bit `1 << index`, as in `enum duration_str_option`. */
-const OPTIONS = ["noCalc", "lowercase", "cnUnit", "requireUnit"];
+const OPTIONS = ["noCalc", "lowercase", "cnUnit", "requireUnit", "moreNames"];
 const NO_CALC = 1;
 const REQUIRE_UNIT = 8;
 /** From this bit on, the options hold the default unit's number plus 1, or 0 for the second. */

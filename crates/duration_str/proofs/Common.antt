@@ -55,11 +55,12 @@ pub use Rattle.duration_str.specs.Text.{byte_len, chinese_letters, is_blank, is_
 pub use Rattle.duration_str.specs.Iteration.{cut_place, KeepsInput, options_of, source, tokens_left, what_of, YieldsNextToken}
 pub use Rattle.duration_str.specs.Tokens.{are_of_one_run, goes_on, lexemes_of, Token, tokens_from, tokens_of, with_first_character}
 pub use Rattle.duration_str.specs.Units.{nanos_of, rank_of, row_of, unit_lengths, UnitRow, units}
+pub use Rattle.duration_str.specs.Meaning.{meaning_of, table_of}
 pub use Rattle.duration_str.specs.MoreNames.{more_names, more_row_of, more_rules}
 pub use Rattle.duration_str.specs.Humantime.{humantime_row_of}
 pub use Rattle.duration_str.specs.Rules.{comparison_form, is_in_row, is_named, Rules, rules_of, rules_with, unit_of_word}
 pub use Rattle.duration_str.specs.Internal.Numbers.{checked_term, u64_from}
-pub use Rattle.duration_str.specs.Internal.UnitTable.{added_row_of, all_names, all_names_in, meaning_of, packed_word, packs_to, table_of, Table, unit_of_packed, printed_row, units_of}
+pub use Rattle.duration_str.specs.Internal.UnitTable.{added_row_of, all_names, all_names_in, packed_word, packs_to, Table, unit_of_packed, printed_row, units_of}
 pub use Rattle.duration_str.specs.declared.table.UnitTable.{UnitTable}
 pub use Rattle.duration_str.specs.declared.table.UnitTable.TheVariants.{Humantime, More, Own}
 pub use Rattle.duration_str.specs.Internal.PrintedBytes.{name_part, part_bytes, with_counts, with_gap, with_part, with_parts}

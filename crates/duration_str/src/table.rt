@@ -1,7 +1,8 @@
 //! The tables of units by which a text can be read.
 ghost use Rattle.std.specs.Prelude.{◌≡◌};
 ghost use Rattle.duration_str.specs.Internal.Numbers.{checked_term};
-ghost use Rattle.duration_str.specs.Internal.UnitTable.{table_of, unit_of_packed};
+ghost use Rattle.duration_str.specs.Internal.UnitTable.{unit_of_packed};
+ghost use Rattle.duration_str.specs.Meaning.{table_of};
 
 use crate::cause::Cause;
 use crate::humantime;
@@ -9,7 +10,7 @@ use crate::more_names;
 use crate::packed::unit_of_packed;
 use crate::unit::TimeUnit;
 
-#[derive(Clone, Copy)]
+#[derive(Clone, Copy, Debug, PartialEq, Eq)]
 pub(crate) enum UnitTable {
     Own,
     /// The library's own table with more names, such as `mins`.

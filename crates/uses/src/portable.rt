@@ -7,7 +7,7 @@ ghost use Rattle.duration_str.specs.Humantime.{humantime_rules};
 ghost use Rattle.uses.specs.Portable.{is_plain, IsPortable, IsReadAlike};
 
 use duration_str::laws::{no_calc_agrees, one_sentence, options_idle};
-use duration_str::{CondUnit, Options, parse_humantime_specialized, parse_nanos};
+use duration_str::{CondUnit, Options, Rules, parse_nanos, parse_nanos_specialized};
 
 /// Returns whether a text is portable: it means the same to programs that read it under other
 /// options. With each default unit, and if units are required, all of them read it as the same
@@ -43,12 +43,12 @@ pub fn keeps_value_without_humantime(text: &str, o: Options) -> bool
         ↔ IsReadAlike (humantime_rules o) (rules_with o None) (chars text.now) }
 {
     one_sentence();
-    match parse_humantime_specialized(text, o) {
-        Ok(nanos) => match parse_nanos(text, o, None) {
+    match parse_nanos_specialized(text, Rules::humantime(o)) {
+        Ok(nanos) => match parse_nanos(text, Rules::of(o).default_unit(None)) {
             Ok(other) => nanos == other,
             Err(_) => false,
         },
-        Err(_) => match parse_nanos(text, o, None) {
+        Err(_) => match parse_nanos(text, Rules::of(o).default_unit(None)) {
             Ok(_) => false,
             Err(_) => true,
         },

@@ -1,7 +1,7 @@
 -- Lemmas about packed names and their slots in the table.
 use Rattle.duration_str.proofs.Common.{[], all_names_in, and_from, and_parts, ap, arith, Bool, byte_len, bytes_eq, cases_Bool, chinese_letters, comparison_form, eq-eqb, eqb, eqb-true, false, false_from_ne_true, get_or, Humantime, if◌then◌else◌, inl, inr, is_chinese, is_in_row, is_named, is_some, is_unit_letter, leb, leb-true, length, length-reverse, letter_number, List, list_all, list_any, list_any-append, lit<, map, Month, meaning_of, nat_tests, None, off, Option, Options, or_cases, Own, packed_number, packed_number_after, packs_to, pow-le-pow_right, pow-succ', refl, reverse-reverse, row_of, table_of, Rules, rules, rules_of, Second, Some, suc, sym, Table, TimeUnit, to_ascii_lowercase, true, unit_of_word, units, UnitTable, width, ℕ, ◌%◌, ◌&&◌, ◌*◌, ◌+◌, ◌-◌, ◌/◌, ◌<◌, ◌==◌, ◌^◌, ◌||◌, ◌∙◌, ◌∷◌, ◌≡◌, ◌≤◌, ◌⊎◌, added_row_of, humantime_row_of, More, more_row_of, nat_le, packed_word, nanos_of}
 use mathlib.Core.List.{reverse, reverse_aux}
-use Rattle.duration_str.specs.declared.settings.Settings.{Settings}
+use Rattle.duration_str.specs.declared.rules.Rules.{Rules as CodeRules}
 use Rattle.duration_str.specs.Internal.UnitTable.{unit_of_packed}
 use Rattle.std.proofs.lemmas.List.{get_or-map, length-map}
 use Rattle.std.proofs.lemmas.List.Folds.{list_all_at}
@@ -244,9 +244,9 @@ short_names Own = refl
 short_names More = refl
 short_names Humantime = refl
 
-pub no_long_name : (settings : Settings) (w : List ℕ) → 12 < byte_len w → None ≡ unit_of_word (meaning_of settings) w
-no_long_name settings w long = no_name (meaning_of settings) w (λ name. leb (byte_len name) 12) (short_names settings.table)
-    (false_from_ne_true _ (λ t. absurd (omega (arith, leb-true _ _ t, byte_len-form settings.options w))))
+pub no_long_name : (given : CodeRules) (w : List ℕ) → 12 < byte_len w → None ≡ unit_of_word (meaning_of given) w
+no_long_name given w long = no_name (meaning_of given) w (λ name. leb (byte_len name) 12) (short_names given.table)
+    (false_from_ne_true _ (λ t. absurd (omega (arith, leb-true _ _ t, byte_len-form given.options w))))
 
 absent : (test : ℕ → Bool) (n : ℕ) → test n ≡ false → (ns : List (List ℕ))
     → list_all (λ name. test (packed_number kept_capitals name)) ns ≡ true → list_any (packs_to n) ns ≡ false
@@ -266,8 +266,8 @@ no_packed_name table test n fails all =
     (all_units (λ v. list_all (λ name. test (packed_number kept_capitals name)) (all_names_in table v)) all u) in
     simp none
 
-abbrev pub own_settings : Options → Settings
-own_settings o = record { table = Own; default_unit = Some Second; options = o }
+abbrev pub own_rules : Options → CodeRules
+own_rules o = record { table = Own; default_unit = Some Second; options = o }
 
 by_number : (table : Table) (default_unit : Option TimeUnit) (o : Options) (w : List ℕ) → IsPackable table
     → list_all (is_unit_letter o) w ≡ true
@@ -276,10 +276,10 @@ by_number : (table : Table) (default_unit : Option TimeUnit) (o : Options) (w : 
 unfolding unit_of_packed
 by_number table default_unit o w is letters = search (rules, named_by_number)
 
-pub unit_by_number : (settings : Settings) (w : List ℕ) → list_all (is_unit_letter settings.options) w ≡ true
-    → unit_of_word (meaning_of settings) w ≡ unit_of_packed (table_of settings.table) (packed_number settings.options w)
-unit_by_number settings w letters =
-    by_number (table_of settings.table) settings.default_unit settings.options w (is_packable settings.table) letters
+pub unit_by_number : (given : CodeRules) (w : List ℕ) → list_all (is_unit_letter given.options) w ≡ true
+    → unit_of_word (meaning_of given) w ≡ unit_of_packed (table_of given.table) (packed_number given.options w)
+unit_by_number given w letters =
+    by_number (table_of given.table) given.default_unit given.options w (is_packable given.table) letters
 
 -- ---- words that are packed
 
@@ -300,11 +300,11 @@ pub own_word_some : (o : Options) (w : List ℕ) (n : ℕ) → Some n ≡ packed
     → unit_of_packed row_of n ≡ unit_of_word (rules_of o) w
 own_word_some o w n is =
     let packed = packed_some o w n is in
-    ap (unit_of_packed row_of) packed.1 ∙ sym (unit_by_number (own_settings o) w packed.0)
+    ap (unit_of_packed row_of) packed.1 ∙ sym (unit_by_number (own_rules o) w packed.0)
 
 pub own_word_none : (o : Options) (w : List ℕ) → None ≡ packed_word o w → None ≡ unit_of_word (rules_of o) w
 own_word_none o w is = elim (packed_none o w is) [
-  | inl long ↦ no_long_name (own_settings o) w long
+  | inl long ↦ no_long_name (own_rules o) w long
   | inr other ↦ no_letter_name o w other
 ]
 

@@ -5,13 +5,8 @@ use Rattle.duration_str.specs.declared.unit.Printed.{Printed}
 use Rattle.duration_str.specs.declared.unit.TimeUnit.{TimeUnit}
 use Rattle.duration_str.specs.Text.{Characters, byte_len, is_unit_letter}
 use Rattle.duration_str.specs.Format.{chosen}
-use Rattle.duration_str.specs.Humantime.{humantime_row_of}
-use Rattle.duration_str.specs.MoreNames.{more_names, more_row_of}
+use Rattle.duration_str.specs.MoreNames.{more_names}
 use Rattle.duration_str.specs.Units.{nanos_of, row_of, UnitRow, units}
-use Rattle.duration_str.specs.Rules.{Rules}
-use Rattle.duration_str.specs.declared.settings.Settings.{Settings}
-use Rattle.duration_str.specs.declared.table.UnitTable.{UnitTable}
-use Rattle.duration_str.specs.declared.table.UnitTable.TheVariants.{Own, More, Humantime}
 use Rattle.duration_str.specs.declared.options.Options.{Options}
 use Rattle.duration_str.specs.Options.{off}
 use Rattle.duration_str.specs.Internal.Positions.{packed_number}
@@ -31,14 +26,6 @@ units_of bits = chosen (record { bits = bits }) units
 
 abbrev pub Table : Type 0
 Table = TimeUnit → UnitRow
-
-abbrev pub table_of : UnitTable → Table
-table_of Own = row_of
-table_of More = more_row_of
-table_of Humantime = humantime_row_of
-
-abbrev pub meaning_of : Settings → Rules
-meaning_of s = record { table = table_of s.table; default_unit = s.default_unit; options = s.options }
 
 -- the names that the table with more names adds
 abbrev pub added_row_of : Table
