@@ -303,15 +303,14 @@ pub record PartsAndRest : Type 0 where
 -- the unit that the word is near.
 pub record IsAdvised (o : Options) (word name : Characters) : Type 0 where
   pub unit : TimeUnit
-  pub near : near_unit (encode_utf8_all word) ≡ Some unit
+  pub near : near_unit word ≡ Some unit
   pub unread : unit_of_word (rules_of o) word ≡ None
   pub read : unit_of_word (rules_of o) name ≡ Some unit
 
 -- By the library's own table and under all options, the name that is advised for a word names the
 -- unit that the word is near, and the word itself names no unit.
 abbrev pub NearWords : Type 0
-NearWords = (o : Options) (word name : Characters) → near_name (encode_utf8_all word) ≡ Some name
-    → IsAdvised o word name
+NearWords = (o : Options) (word name : Characters) → near_name word ≡ Some name → IsAdvised o word name
 
 -- With more names, each word that named a unit still names it, and the unit has the same length. A
 -- text that is read without them is read as the same value.

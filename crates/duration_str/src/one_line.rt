@@ -7,7 +7,7 @@
 ghost use Rattle.std.specs.Prelude.{◌≡◌, ◌≤◌, ◌++◌, ◌+◌, ◌-◌, ◌&&◌, ◌==◌, not, slice_index, length, take, map, encode_utf8_all, IsTrue, ◌||◌, None, if◌then◌else◌};
 ghost use Rattle.std.specs.Char.{to_ascii_lowercase};
 ghost use Rattle.std.specs.Char.Escape.{escape_default};
-ghost use Rattle.std.specs.List.{list_all};
+ghost use Rattle.std.specs.List.{list_all, list_any};
 ghost use Rattle.std.specs.Str.{chars, bytes_eq, IsCharBoundary};
 ghost use Rattle.duration_str.specs.Buffers.{IsInFront};
 ghost use Rattle.duration_str.specs.Text.{is_blank, is_digit};
@@ -16,12 +16,13 @@ ghost use Rattle.duration_str.specs.Faults.{place_of};
 ghost use Rattle.duration_str.specs.Messages.{chars_before};
 ghost use Rattle.std.specs.Option.{ForSome};
 ghost use Rattle.std.specs.Int.{is_in_range};
-ghost use Rattle.duration_str.specs.OneLine.{one_line_of, is_plain, is_clear, is_letter, is_like, first_piece, shown, quoted, at_column, found_line, found_words, unknown_line, syntax_line, text_line, overflow_line, expected_words, begins_with_letter, greek_words, help_name, is_among, near_name, near_unit, name_help, unit_help, first_help, digit_help, help_or_units, help_at, missing_unit_help};
+ghost use Rattle.duration_str.specs.OneLine.{one_line_of, is_plain, is_clear, is_letter, is_like, first_piece, shown, quoted, at_column, found_line, found_words, unknown_line, syntax_line, text_line, overflow_line, expected_words, begins_with_letter, help_name, near_name, near_unit, name_help, unit_help, first_help, digit_help, help_or_units, help_at, missing_unit_help};
 ghost use Rattle.duration_str.specs.declared.one_line.TheConstants.{MAX_ONE_LINE_LEN};
 
 use crate::cause::{Cause, Expected};
 use crate::fault::Fault;
 use crate::message::{chars_before, put, put_decimal};
+use crate::more_names;
 use crate::more_names::added_unit;
 use crate::options::Options;
 use crate::packed::packed_word;
@@ -115,7 +116,7 @@ fn column_at(text: &str, place: usize) -> usize
 
 fn put_unknown(buffer: &mut [u8], column: usize, word: &str, help: &str) -> Option<usize>
     ensures { IsInFront (unknown_line column (chars word.now)
-        (unit_help (near_name word.now) help.now))
+        (unit_help (near_name (chars word.now)) help.now))
         result buffer.new }
 {
     let start = put(buffer, 0, b"unknown unit ")?;
@@ -354,7 +355,7 @@ fn expected_words(expected: Expected) -> &'static str
 
 fn put_unit_help(buffer: &mut [u8], at: usize, word: &str, help: &str) -> Option<usize>
     requires { at ≤ length buffer.old }
-    ensures { IsInFront (take at buffer.old ++ unit_help (near_name word.now) help.now)
+    ensures { IsInFront (take at buffer.old ++ unit_help (near_name (chars word.now)) help.now)
         result buffer.new }
 {
     match near_unit(word) {
@@ -384,27 +385,24 @@ fn put_name_help(buffer: &mut [u8], at: usize, name: &[u8]) -> Option<usize>
 
 /// Returns the unit for which people write a word that the library's own table lacks.
 fn near_unit(word: &str) -> Option<TimeUnit>
-    ensures { result ≡ near_unit word.now }
+    ensures { result ≡ near_unit (chars word.now) }
 {
     if word == "mo" || word == "mos" {
         return Some(TimeUnit::Month);
     }
-    if has_greek_mu(word) {
-        return Some(TimeUnit::MicroSecond);
+    let greek = has_greek_mu(word);
+    let packed = packed_word(word, Options::off(), greek)?;
+    if greek {
+        more_names::unit_of_packed(packed)
+    } else {
+        added_unit(packed)
     }
-    added_unit(packed_word(word, Options::off())?)
 }
 
-/// Whether the word is a name of the microsecond, but with the Greek letter mu.
-#[tactic(auto, unfolding(std::specs::Prelude::encode_utf8))]
 fn has_greek_mu(word: &str) -> bool
-    ensures { result ≡ is_among greek_words (map to_ascii_lowercase word.now) }
+    ensures { result ≡ list_any (λ c. c == 0x3BC) (chars word.now) }
 {
-    is_word(word, "μs")
-        || is_word(word, "μsec")
-        || is_word(word, "μsecs")
-        || is_word(word, "μsecond")
-        || is_word(word, "μseconds")
+    word.chars().any(|c| c == 'μ')
 }
 
 /// The name of each unit that a help names, the longest unit first, filled up with spaces.

@@ -6,7 +6,7 @@ ghost use Rattle.std.specs.Char.{is_ascii_alphabetic};
 ghost use Rattle.std.specs.Str.{chars};
 ghost use Rattle.duration_str.specs.Text.{is_unit_letter, is_chinese};
 ghost use Rattle.duration_str.specs.Internal.Positions.{letter_number, wide_number};
-ghost use Rattle.duration_str.specs.Internal.UnitTable.{packed_word, unit_of_packed};
+ghost use Rattle.duration_str.specs.Internal.UnitTable.{micro_if, packed_word, unit_of_packed, with_micro};
 ghost use Rattle.duration_str.specs.Units.{row_of};
 ghost use Rattle.duration_str.specs.declared.unit.TimeUnit.{TimeUnit};
 
@@ -34,14 +34,16 @@ impl TimeUnit {
         ensures only { (unit : TimeUnit) → is_named (rules_of o) (chars word.now) unit ≡ true
             → unit_of_word (rules_of o) (chars word.now) ≡ Some unit }
     {
-        unit_of_packed(packed_word(word, o)?)
+        unit_of_packed(packed_word(word, o, false)?)
     }
 }
 
 /// Returns the packed number of a word that can be a name: all characters are unit letters, and it
-/// has no more bytes than the longest name.
-pub(crate) fn packed_word(word: &str, o: Options) -> Option<u64>
-    ensures { result ≡ packed_word o (chars word.now) }
+/// has no more bytes than the longest name. If `greek` is true, the micro sign stands in place of
+/// each Greek letter mu.
+#[inline(always)]
+pub(crate) fn packed_word(word: &str, o: Options, greek: bool) -> Option<u64>
+    ensures { result ≡ packed_word o (with_micro greek (chars word.now)) }
 {
     if word.len() > MOST_BYTES {
         return None;
@@ -49,9 +51,16 @@ pub(crate) fn packed_word(word: &str, o: Options) -> Option<u64>
     let mut packed = 0;
     let mut chars = word.chars();
     while let Some(c) = chars.next() {
-        packed = with_letter(packed, letter_number(c, o)?);
+        packed = with_letter(packed, letter_number(micro_if(greek, c), o)?);
     }
     Some(packed)
+}
+
+#[inline(always)]
+fn micro_if(greek: bool, c: char) -> char
+    ensures { result ≡ micro_if greek c }
+{
+    if greek && c == 'μ' { 'µ' } else { c }
 }
 
 /// The most bytes that a name has. The packed number of 12 letters fits into a `u64`.

@@ -17,8 +17,9 @@ use crate::unit::TimeUnit;
 pub struct Rules {
     pub(crate) table: UnitTable,
     /// The unit of a number without one, or `None` if each number needs its unit.
-    pub(crate) default_unit: Option<TimeUnit>,
-    pub(crate) options: Options,
+    pub default_unit: Option<TimeUnit>,
+    /// The options.
+    pub options: Options,
 }
 
 impl Rules {

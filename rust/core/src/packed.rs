@@ -20,16 +20,29 @@ impl TimeUnit {
     /// ```
     #[must_use]
     pub fn from_word(word: &str, o: Options) -> Option<TimeUnit> {
-        if word.len() > MOST_BYTES {
-            return None;
-        }
-        let mut packed = 0;
-        let mut chars = word.chars();
-        while let Some(c) = chars.next() {
-            packed = with_letter(packed, letter_number(c, o)?);
-        }
-        unit_of_packed(packed)
+        unit_of_packed(packed_word(word, o, false)?)
     }
+}
+
+/// Returns the packed number of a word that can be a name: all characters are unit letters, and it
+/// has no more bytes than the longest name. If `greek` is true, the micro sign stands in place of
+/// each Greek letter mu.
+#[inline(always)]
+pub(crate) fn packed_word(word: &str, o: Options, greek: bool) -> Option<u64> {
+    if word.len() > MOST_BYTES {
+        return None;
+    }
+    let mut packed = 0;
+    let mut chars = word.chars();
+    while let Some(c) = chars.next() {
+        packed = with_letter(packed, letter_number(micro_if(greek, c), o)?);
+    }
+    Some(packed)
+}
+
+#[inline(always)]
+fn micro_if(greek: bool, c: char) -> char {
+    if greek && c == 'μ' { 'µ' } else { c }
 }
 
 /// The most bytes that a name has. The packed number of 12 letters fits into a `u64`.
@@ -108,7 +121,7 @@ fn wide_number(c: char, cn_unit: bool) -> u64 {
 /// name.
 const CAPITAL: u64 = 26;
 
-const CAPITAL_M: u64 = 39;
+pub(crate) const CAPITAL_M: u64 = 39;
 
 #[inline]
 pub(crate) fn unit_of_packed(packed: u64) -> Option<TimeUnit> {

@@ -1,5 +1,5 @@
 -- Lemmas about packed names and their slots in the table.
-use Rattle.duration_str.proofs.Common.{[], all_names_in, and_from, and_parts, ap, arith, Bool, byte_len, bytes_eq, cases_Bool, chinese_letters, comparison_form, eq-eqb, eqb, eqb-true, false, false_from_ne_true, get_or, Humantime, if◌then◌else◌, inl, inr, is_chinese, is_in_row, is_named, is_some, is_unit_letter, leb, leb-true, length, length-reverse, letter_number, List, list_all, list_any, list_any-append, lit<, map, Month, meaning_of, nat_tests, None, off, Option, Options, or_cases, Own, packed_number, packed_number_after, packs_to, pow-le-pow_right, pow-succ', refl, reverse-reverse, row_of, table_of, Rules, rules, rules_of, Second, Some, suc, sym, Table, TimeUnit, to_ascii_lowercase, true, unit_of_word, units, UnitTable, width, ℕ, ◌%◌, ◌&&◌, ◌*◌, ◌+◌, ◌-◌, ◌/◌, ◌<◌, ◌==◌, ◌^◌, ◌||◌, ◌∙◌, ◌∷◌, ◌≡◌, ◌≤◌, ◌⊎◌, added_row_of, humantime_row_of, More, more_row_of, nat_le, packed_word, nanos_of}
+use Rattle.duration_str.proofs.Common.{[], all_names_in, and_from, and_parts, ap, arith, Bool, byte_len, bytes_eq, cases_Bool, chinese_letters, comparison_form, eq-eqb, eqb, eqb-true, false, false_from_ne_true, get_or, Humantime, if◌then◌else◌, inl, inr, is_chinese, is_in_row, is_named, is_some, is_unit_letter, leb, leb-true, length, length-reverse, letter_number, List, list_all, list_any, list_any-append, lit<, map, Month, meaning_of, nat_tests, None, off, Option, Options, or_cases, Own, packed_number, packed_number_after, packs_to, pow-le-pow_right, pow-succ', refl, reverse-reverse, row_of, table_of, Rules, rules, rules_of, Second, Some, suc, sym, Table, TimeUnit, to_ascii_lowercase, true, unit_of_word, units, UnitTable, width, ℕ, ◌%◌, ◌&&◌, ◌*◌, ◌+◌, ◌-◌, ◌/◌, ◌<◌, ◌==◌, ◌^◌, ◌||◌, ◌∙◌, ◌∷◌, ◌≡◌, ◌≤◌, ◌⊎◌, added_row_of, humantime_row_of, More, more_row_of, nat_le, packed_word, nanos_of, more_rules, micro_if, with_micro}
 use mathlib.Core.List.{reverse, reverse_aux}
 use Rattle.duration_str.specs.declared.rules.Rules.{Rules as CodeRules}
 use Rattle.duration_str.specs.Internal.UnitTable.{unit_of_packed}
@@ -323,6 +323,59 @@ added_word_none w is = elim (packed_none off w is) [
   | inl long ↦ no_name added_rules w (λ name. leb (byte_len name) 12) refl
       (false_from_ne_true _ (λ t. absurd (omega (arith, leb-true _ _ t, byte_len-form off w, long))))
   | inr other ↦ no_name added_rules w (list_all (is_unit_letter off)) refl (letters_form off w ∙ other)
+]
+
+abbrev pub more_off : Rules
+more_off = more_rules off None
+
+pub more_word_some : (w : List ℕ) (n : ℕ) → Some n ≡ packed_word off w
+    → unit_of_packed more_row_of n ≡ unit_of_word more_off w
+more_word_some w n is =
+    let packed = packed_some off w n is in
+    ap (unit_of_packed more_row_of) packed.1 ∙ sym (by_number more_row_of None off w (packable more_row_of refl) packed.0)
+
+more_letters : (u : TimeUnit) → list_all (list_all (is_unit_letter off)) (more_row_of u).names ≡ true
+more_letters = all_units (λ u. list_all (list_all (is_unit_letter off)) (more_row_of u).names) refl
+
+pub more_word_none : (w : List ℕ) → None ≡ packed_word off w → None ≡ unit_of_word more_off w
+more_word_none w is = elim (packed_none off w is) [
+  | inl long ↦ no_name more_off w (λ name. leb (byte_len name) 12) refl
+      (false_from_ne_true _ (λ t. absurd (omega (arith, leb-true _ _ t, byte_len-form off w, long))))
+  | inr other ↦
+      let unnamed = λ (u : TimeUnit). false_from_ne_true (is_named more_off w u) (λ t.
+          let among : list_any (bytes_eq (comparison_form off w)) (more_row_of u).names ≡ true = grind arith in
+          cc (other, letters_form off w,
+          named_passes (list_all (is_unit_letter off)) (comparison_form off w) (more_row_of u).names (more_letters u) among)) in
+      simp unnamed
+]
+
+-- ---- the micro sign in place of the Greek letter mu
+
+micro_width : (greek : Bool) (c : ℕ) → width (micro_if greek c) ≡ width c
+micro_width greek c = elim (cases_Bool (greek && c == 0x3BC)) [
+  | inl is ↦ let same : c ≡ 0x3BC = eqb-true c 0x3BC (and_parts _ _ is).1 in rw is (rw same refl)
+  | inr other ↦ rw other refl
+]
+
+pub micro_len : (greek : Bool) (w : List ℕ) → byte_len (with_micro greek w) ≡ byte_len w
+micro_len greek [] = refl
+micro_len greek (c ∷ w) = rw (micro_width greek c, micro_len greek w) refl
+
+pub no_micro : (w : List ℕ) → with_micro false w ≡ w
+no_micro [] = refl
+no_micro (c ∷ w) = rw (no_micro w) refl
+
+pub no_letter_mu : (o : Options) (w : List ℕ) → list_any (λ c. c == 0x3BC) w ≡ true → list_all (is_unit_letter o) w ≡ false
+no_letter_mu o [] h = absurd cc
+no_letter_mu o (c ∷ w) h = elim (or_cases (c == 0x3BC) (list_any (λ d. d == 0x3BC) w) h) [
+  | inl is ↦
+      let same : c ≡ 0x3BC = eqb-true c 0x3BC is in
+      let other : is_unit_letter o 0x3BC ≡ false = search (rules, cases_Bool) in
+      rw same (rw other refl)
+  | inr more ↦ elim (cases_Bool (is_unit_letter o c)) [
+    | inl letter ↦ rw letter (no_letter_mu o w more)
+    | inr none ↦ rw none refl
+  ]
 ]
 
 -- ---- tables that have the names of another one

@@ -1,41 +1,50 @@
 -- Lemmas about words that are near a unit.
-use Rattle.duration_str.proofs.Common.{ap, arith, bytes_eq, cases_Bool, chars, codes, encode_utf8_all, encodes-chars, false, find, get_or, inl, inr, is_named, IsUtf8, length, List, list_any, map, None, off, Option, rank_of, refl, Some, sym, take, TimeUnit, to_ascii_lowercase, units, unit_of_word, [], ℕ, ◌∙◌, ◌∷◌, ◌≡◌, ◌-◌, more_names, rules}
-use Rattle.duration_str.proofs.Characters.PackedLemmas.{added_rules}
-use Rattle.duration_str.proofs.Characters.UnitLemmas.{bytes_eq-encodes, each_unit, lower-encodes}
+use Rattle.duration_str.proofs.Common.{ap, arith, bytes_eq, bytes_eq-Decides, cases_Bool, codes, encode_utf8_all, encodes-chars, false, find, get_or, inl, inr, is_named, IsUtf8, length, List, list_any, map, None, off, Option, packed_word, rank_of, refl, Some, sym, take, TimeUnit, to_ascii_lowercase, true, units, unit_of_word, with_micro, Bool, Month, [], ℕ, ◌∙◌, ◌∷◌, ◌≡◌, ◌-◌, ◌==◌, more_names, rules}
+use Rattle.duration_str.proofs.Characters.PackedLemmas.{added_rules, added_word_none, more_off, more_word_none, no_micro}
+use Rattle.duration_str.proofs.Characters.UnitLemmas.{bytes_eq-encodes, each_unit}
 use Rattle.duration_str.specs.declared.one_line.TheConstants.{HELP_NAMES}
 use Rattle.std.specs.Char.{is_ascii_whitespace}
 use Rattle.std.specs.List.{suffix_len}
-use Rattle.duration_str.specs.OneLine.{greek_words, help_name, is_among, near_unit, small_words}
+use Rattle.std.specs.Str.{chars}
+use Rattle.duration_str.specs.OneLine.{help_name, near_unit, small_words, with_micro_sign}
 
-pub among_same : (word : List ℕ) (words : List (List ℕ))
-    → is_among words (encode_utf8_all word) ≡ list_any (bytes_eq word) words
-among_same word [] = refl
-among_same word (w ∷ words) = rw (bytes_eq-encodes word w, among_same word words) refl
-
--- whether the word is one of the added names of a unit
-added_same : (word : List ℕ) (u : TimeUnit)
-    → is_among (more_names u) (map to_ascii_lowercase (encode_utf8_all word)) ≡ is_named added_rules word u
-added_same word u =
-    let small = map to_ascii_lowercase word in
-    let same = among_same small (more_names u) in
-    elim (cases_Bool (list_any (bytes_eq small) (more_names u))) [
-      | inl near ↦ rw (lower-encodes word, same, near) refl
-      | inr far ↦ rw (lower-encodes word, same, far) refl
-    ]
-
-pub added_found : (word : List ℕ) (us : List TimeUnit)
-    → find (λ u. is_among (more_names u) (map to_ascii_lowercase (encode_utf8_all word))) us ≡ find (is_named added_rules word) us
+added_found : (word : List ℕ) (us : List TimeUnit)
+    → find (λ u. list_any (bytes_eq (map to_ascii_lowercase word)) (more_names u)) us ≡ find (is_named added_rules word) us
 added_found word [] = refl
-added_found word (u ∷ us) = rw (added_same word u, added_found word us) refl
+added_found word (u ∷ us) = elim (cases_Bool (list_any (bytes_eq (map to_ascii_lowercase word)) (more_names u))) [
+  | inl near ↦ rw near refl
+  | inr far ↦ rw far (added_found word us)
+]
 
--- A word that is near a unit is an added name of the unit, unless it is one of the other near words.
-pub near_added : (word : List ℕ) → IsUtf8 word → bytes_eq word (codes "mo") ≡ false → bytes_eq word (codes "mos") ≡ false
-    → is_among greek_words (map to_ascii_lowercase word) ≡ false → near_unit word ≡ unit_of_word added_rules (chars word)
-unfolding lib.Utf8.encode
-near_added word utf8 mo mos greek =
-    let small : is_among small_words word ≡ false = rw (mo, mos) refl in
-    let found = rw (encodes-chars word utf8) at (added_found (chars word) units) in
-    rw (small, greek) found
+pub near_mo : (word : List ℕ) → bytes_eq word (codes "mo") ≡ true → near_unit (chars word) ≡ Some Month
+unfolding chars
+near_mo word same = rw ((bytes_eq-Decides word (codes "mo")).0 same) refl
+
+pub near_mos : (word : List ℕ) → bytes_eq word (codes "mos") ≡ true → near_unit (chars word) ≡ Some Month
+unfolding chars
+near_mos word same = rw ((bytes_eq-Decides word (codes "mos")).0 same) refl
+
+module _ (bytes : List ℕ) (utf8 : IsUtf8 bytes) (mo : bytes_eq bytes (codes "mo") ≡ false)
+    (mos : bytes_eq bytes (codes "mos") ≡ false) where
+  no_small : list_any (bytes_eq (chars bytes)) small_words ≡ false
+  unfolding lib.Utf8.encode
+  no_small =
+      let first : bytes_eq (encode_utf8_all (chars bytes)) (codes "mo") ≡ false = rw (encodes-chars bytes utf8) mo in
+      let second : bytes_eq (encode_utf8_all (chars bytes)) (codes "mos") ≡ false = rw (encodes-chars bytes utf8) mos in
+      rw (sym (bytes_eq-encodes (chars bytes) (codes "mo")) ∙ first, sym (bytes_eq-encodes (chars bytes) (codes "mos")) ∙ second)
+      refl
+
+  pub near_greek : list_any (λ c. c == 0x3BC) (chars bytes) ≡ true → near_unit (chars bytes) ≡ unit_of_word more_off (with_micro true (chars bytes))
+  near_greek greek = rw (no_small, greek) refl
+
+  pub near_added : list_any (λ c. c == 0x3BC) (chars bytes) ≡ false
+      → near_unit (chars bytes) ≡ unit_of_word added_rules (with_micro false (chars bytes))
+  near_added other = rw (no_small, other, no_micro (chars bytes)) (added_found (chars bytes) units)
+
+  pub near_none : (greek : Bool) → greek ≡ list_any (λ c. c == 0x3BC) (chars bytes)
+      → None ≡ packed_word off (with_micro greek (chars bytes)) → None ≡ near_unit (chars bytes)
+  near_none true is none = more_word_none (with_micro true (chars bytes)) none ∙ sym (near_greek (sym is))
+  near_none false is none = added_word_none (with_micro false (chars bytes)) none ∙ sym (near_added (sym is))
 
 abbrev trimmed : List ℕ → List ℕ
 trimmed bytes = take (length bytes - suffix_len is_ascii_whitespace bytes) bytes

@@ -3,7 +3,7 @@ use Rattle.std.proofs.Common.{lit≤, nat_lt}
 use Rattle.std.proofs.lemmas.Bool.{le-leb, lt-leb}
 use Rattle.std.proofs.lemmas.List.{length-take, nil_from_length}
 use Rattle.duration_str.specs.Messages.{chars_before}
-use Rattle.duration_str.specs.OneLine.{at_column, begins_with_letter, expected_words, first_piece, found_line, found_words, help_at, is_among, is_clear, is_like, is_plain, listed_names, missing_unit_help, help_name, near_name, near_unit, one_line_of, overflow_line, quoted, quoted_end, shown, syntax_line, text_line, unit_help}
+use Rattle.duration_str.specs.OneLine.{at_column, begins_with_letter, expected_words, first_piece, found_line, found_words, help_at, is_clear, is_like, is_plain, listed_names, missing_unit_help, help_name, near_name, near_unit, one_line_of, overflow_line, quoted, quoted_end, shown, syntax_line, text_line, unit_help}
 use Rattle.std.specs.Char.Escape.{escape_default, escape_unicode, hex_digit_at, short_escape}
 use Rattle.std.specs.Prelude.{not}
 use Rattle.std.specs.Int.{is_in_range}
@@ -236,7 +236,7 @@ syntax_short text place expected is =
     (first_scalars rest (scalars-chars (drop place text) (IsUtf8-drop text place is.utf8 is.boundary))) in
     let column = column_short text place is in
     let help = help_short expected text place (encode_utf8_all (first_piece rest)) in
-    chosen _ (less (lit≤ tt) (joined (literal 13 (codes "unknown unit ") refl) (joined piece (joined column (unit_help_short _ _ help)))))
+    chosen _ (less (lit≤ tt) (joined (literal 13 (codes "unknown unit ") refl) (joined piece (joined column (unit_help_short (first_piece rest) _ help)))))
     (words_short expected text _ column (found_short _ piece) help)
 
 text_short : (problem text help : List ℕ) → IsUtf8 text → IsShort 26 problem → IsShort 41 help

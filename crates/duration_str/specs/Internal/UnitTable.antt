@@ -1,5 +1,5 @@
 -- The tables in the code: of units, and of names by their packed numbers.
-use Rattle.std.specs.Prelude.{Bool, true, List, Option, Some, None, encode_utf8_all, length, take, [], ℕ, ◌&&◌, ◌++◌, ◌-◌, ◌/◌, ◌==◌, ◌^◌, ◌∷◌, if◌then◌else◌, nat_le}
+use Rattle.std.specs.Prelude.{Bool, true, List, Option, Some, None, encode_utf8_all, length, map, take, [], ℕ, ◌&&◌, ◌++◌, ◌-◌, ◌/◌, ◌==◌, ◌^◌, ◌∷◌, if◌then◌else◌, nat_le}
 use Rattle.std.specs.List.{find, list_all, list_any}
 use Rattle.duration_str.specs.declared.unit.Printed.{Printed}
 use Rattle.duration_str.specs.declared.unit.TimeUnit.{TimeUnit}
@@ -51,3 +51,10 @@ unit_of_packed table n = find (λ u. list_any (packs_to n) (all_names_in table u
 abbrev pub packed_word : Options → Characters → Option ℕ
 packed_word o word =
     if nat_le (byte_len word) 12 && list_all (is_unit_letter o) word then Some (packed_number o word) else None
+
+-- the character, but the micro sign in place of the Greek letter mu if `greek` is true
+abbrev pub micro_if : Bool → ℕ → ℕ
+micro_if greek c = if greek && c == 0x3BC then 0xB5 else c
+
+abbrev pub with_micro : Bool → Characters → Characters
+with_micro greek word = map (micro_if greek) word
