@@ -259,15 +259,15 @@ abbrev with_more_names : List ℕ → Result ℕ Cause
 with_more_names = answer (more_rules off (Some Second))
 
 pub record MoreNamesRead : Type 0 where
-  pub names-counted : map (λ u. length (more_names u)) units ≡ 2 ∷ 2 ∷ 3 ∷ 2 ∷ 0 ∷ 1 ∷ 1 ∷ 1 ∷ 2 ∷ 5 ∷ 2 ∷ []
+  pub names-counted : map (λ u. length (more_names u)) units ≡ 2 ∷ 2 ∷ 3 ∷ 2 ∷ 0 ∷ 1 ∷ 1 ∷ 1 ∷ 3 ∷ 6 ∷ 3 ∷ []
   pub names-years : with_more_names (codes "1yr 1yrs") ≡ Ok 63_072_000_000_000_000
   pub names-quarters : with_more_names (codes "1qtr 1qtrs") ≡ Ok 15_724_800_000_000_000
   pub names-months : with_more_names (codes "1mons 1mth 1mths") ≡ Ok 7_776_000_000_000_000
   pub names-weeks : with_more_names (codes "1wk 1wks") ≡ Ok 1_209_600_000_000_000
   pub names-hours_to_seconds : with_more_names (codes "2hrs 5mins 10secs") ≡ Ok 7_510_000_000_000
-  pub names-milliseconds : with_more_names (codes "1msecs 1millis") ≡ Ok 2_000_000
-  pub names-microseconds : with_more_names (codes "1µsecs 1µseconds 1usecs 1useconds 1micros") ≡ Ok 5_000
-  pub names-nanoseconds : with_more_names (codes "1nsecs 1nanos") ≡ Ok 2
+  pub names-milliseconds : with_more_names (codes "1msecs 1milli 1millis") ≡ Ok 3_000_000
+  pub names-microseconds : with_more_names (codes "1µsecs 1µseconds 1usecs 1useconds 1micro 1micros") ≡ Ok 6_000
+  pub names-nanoseconds : with_more_names (codes "1nsecs 1nano 1nanos") ≡ Ok 3
   -- the library's own names and lengths
   pub own_names : with_more_names (codes "1y 1q 1mon 1min 30") ≡ Ok 41_990_490_000_000_000
   pub product : with_more_names (codes "2hrs * 3") ≡ Ok 21_600_000_000_000
@@ -294,7 +294,7 @@ as_humantime = answer (humantime_rules with_lowercase)
 
 pub record HumantimeUnits : Type 0 where
   pub names-counted : map (λ u. length (humantime_row_of u).names) units
-      ≡ 5 ∷ 5 ∷ 7 ∷ 5 ∷ 3 ∷ 5 ∷ 5 ∷ 5 ∷ 6 ∷ 13 ∷ 6 ∷ []
+      ≡ 5 ∷ 5 ∷ 7 ∷ 5 ∷ 3 ∷ 5 ∷ 5 ∷ 5 ∷ 7 ∷ 14 ∷ 7 ∷ []
   -- humantime's own names, by the length of their units
   pub names-below_second : as_humantime (codes "1nanos1nsec1ns1usec1us1µs1millis1msec1ms") ≡ Ok 3_003_003
   pub names-seconds : as_humantime (codes "1seconds1second1secs1sec1s") ≡ Ok 5_000_000_000

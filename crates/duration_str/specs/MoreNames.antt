@@ -16,9 +16,9 @@ more_names Day = []
 more_names Hour = codes "hrs" ∷ []
 more_names Minute = codes "mins" ∷ []
 more_names Second = codes "secs" ∷ []
-more_names MilliSecond = codes "msecs" ∷ codes "millis" ∷ []
-more_names MicroSecond = codes "µsecs" ∷ codes "µseconds" ∷ codes "usecs" ∷ codes "useconds" ∷ codes "micros" ∷ []
-more_names NanoSecond = codes "nsecs" ∷ codes "nanos" ∷ []
+more_names MilliSecond = codes "msecs" ∷ codes "milli" ∷ codes "millis" ∷ []
+more_names MicroSecond = codes "µsecs" ∷ codes "µseconds" ∷ codes "usecs" ∷ codes "useconds" ∷ codes "micro" ∷ codes "micros" ∷ []
+more_names NanoSecond = codes "nsecs" ∷ codes "nano" ∷ codes "nanos" ∷ []
 
 -- a row with further names. They stand before the others, since the last two names are the long
 -- name and its plural

@@ -38,15 +38,15 @@ pub(crate) fn added_unit(packed: u64) -> Option<TimeUnit>
 
 /// A multiplier that gives each packed name a slot of its own: bits 59 to 63 of the product.
 /// `tools/slots` finds it, and writes the tables below.
-const SPREAD: u64 = 13_631_430_316_609_608_973;
+const SPREAD: u64 = 2_319_149_044_724_198_725;
 
 /// The index of the name in each slot, and 0 in an empty one.
 static SLOTS: [u8; 32] = [
-    19, 12, 6, 17, 0, 0, 2, 0, 0, 0, 20, 11, 0, 0, 0, 5, 0, 1, 18, 0, 15, 14, 10, 4, 3, 9, 16, 0,
-    0, 13, 8, 7,
+    16, 7, 14, 15, 9, 0, 0, 4, 8, 23, 10, 11, 13, 0, 2, 18, 0, 21, 5, 17, 0, 0, 20, 22, 1, 3, 6, 0,
+    0, 19, 12, 0,
 ];
 
-static NAMES: [u64; 21] = [
+static NAMES: [u64; 24] = [
     1_018, // yr
     40_739, // yrs
     28_018, // qtr
@@ -60,18 +60,21 @@ static NAMES: [u64; 21] = [
     846_979, // mins
     1_224_139, // secs
     34_504_139, // msecs
+    33_875_689, // milli
     1_355_027_579, // millis
     70_344_139, // µsecs
     4_502_024_662_579, // µseconds
     54_984_139, // usecs
     3_518_984_662_579, // useconds
+    33_861_535, // micro
     1_354_461_419, // micros
     37_064_139, // nsecs
+    898_175, // nano
     35_927_019, // nanos
 ];
 
 /// The unit of each name, in the order of `NAMES`.
-static NAMED_UNITS: [TimeUnit; 21] = [
+static NAMED_UNITS: [TimeUnit; 24] = [
     Year, Year, Quarter, Quarter, Month, Month, Month, Week, Week, Hour, Minute, Second, Milli,
-    Milli, Micro, Micro, Micro, Micro, Micro, Nano, Nano,
+    Milli, Milli, Micro, Micro, Micro, Micro, Micro, Micro, Nano, Nano, Nano,
 ];
