@@ -132,21 +132,21 @@ pub fn parse_by(input: &str, rules: Rules) -> Result<Duration, Fault<'_>>
 pub fn parse_nanos(input: &str, rules: Rules) -> Result<u64, Fault<'_>>
     ensures { Reads (meaning_of rules) input.now result }
 {
-    let Rules {
-        table,
-        default_unit,
-        options,
-    } = rules;
-    match table {
-        UnitTable::Own => {
-            if options.are_off() && default_unit == Some(TimeUnit::Second) {
-                return nanos_off(input);
-            }
-            nanos_chosen(input, options, default_unit)
-        }
-        UnitTable::More => nanos_more(input, options, default_unit),
-        UnitTable::Humantime => nanos_humantime(input, options, default_unit),
+    match rules.table {
+        UnitTable::Own => nanos_own(input, rules.options, rules.default_unit),
+        UnitTable::More => nanos_more(input, rules.options, rules.default_unit),
+        UnitTable::Humantime => nanos_humantime(input, rules.options, rules.default_unit),
     }
+}
+
+#[inline]
+fn nanos_own(input: &str, o: Options, default_unit: Option<TimeUnit>) -> Result<u64, Fault<'_>>
+    ensures { Reads (rules_with o default_unit) input.now result }
+{
+    if o.are_off() && default_unit == Some(TimeUnit::Second) {
+        return nanos_off(input);
+    }
+    nanos_chosen(input, o, default_unit)
 }
 
 #[inline(never)]
