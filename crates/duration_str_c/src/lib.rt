@@ -8,6 +8,7 @@ ghost use Rattle.std.specs.Bool.{MatchBool};
 ghost use Rattle.std.specs.Str.{chars};
 ghost use Rattle.duration_str.specs.Options.{off};
 ghost use Rattle.duration_str.specs.OtherResults.{Reads};
+ghost use Rattle.duration_str.specs.Meaning.{meaning_of};
 ghost use Rattle.duration_str.specs.Rules.{rules_of};
 ghost use Rattle.duration_str.specs.Reading.{IsRead};
 ghost use Rattle.duration_str.specs.Printing.{IsPrinted};
@@ -140,12 +141,20 @@ pub fn duration_str_parse_with(text: &[u8], options: u32, answer: &mut Answer) -
 pub(crate) fn read_by(text: &str, bits: u32) -> Result<u64, Fault<'_>>
     ensures { Reads (rules_of_bits bits) text.now result }
 {
-    let rules = Rules::of(options_of_bits(bits)).default_unit(default_unit_of_bits(bits));
-    if bits & MORE_NAMES == 0 {
-        parse_nanos(text, rules)
-    } else {
-        parse_nanos(text, rules.more_names())
+    if bits == 0 {
+        return parse_nanos(text, Rules::of(Options::off()));
     }
+    let own = Rules::of(options_of_bits(bits)).default_unit(default_unit_of_bits(bits));
+    let more = bits & MORE_NAMES != 0;
+    read_chosen(text, if more { own.more_names() } else { own })
+}
+
+/// One copy of the reader serves all options, so that the library is small.
+#[inline(never)]
+fn read_chosen(text: &str, rules: Rules) -> Result<u64, Fault<'_>>
+    ensures { Reads (meaning_of rules) text.now result }
+{
+    parse_nanos_specialized(text, rules)
 }
 
 /// The version: the major number times a million, plus the minor number times a thousand, plus the
