@@ -60,7 +60,7 @@ pub use Rattle.duration_str.specs.MoreNames.{more_names, more_row_of, more_rules
 pub use Rattle.duration_str.specs.Humantime.{humantime_row_of}
 pub use Rattle.duration_str.specs.Rules.{comparison_form, is_in_row, is_named, Rules, rules_of, rules_with, unit_of_word}
 pub use Rattle.duration_str.specs.Internal.Numbers.{checked_term, u64_from}
-pub use Rattle.duration_str.specs.Internal.UnitTable.{added_row_of, all_names, all_names_in, micro_if, packed_word, packs_to, Table, unit_of_packed, printed_row, units_of, with_micro}
+pub use Rattle.duration_str.specs.Internal.UnitTable.{added_row_of, all_names, all_names_in, is_greek_mu, micro_if, packed_word, packs_to, Table, unit_of_packed, printed_row, units_of, with_micro}
 pub use Rattle.duration_str.specs.declared.table.UnitTable.{UnitTable}
 pub use Rattle.duration_str.specs.declared.table.UnitTable.TheVariants.{Humantime, More, Own}
 pub use Rattle.duration_str.specs.Internal.PrintedBytes.{name_part, part_bytes, with_counts, with_gap, with_part, with_parts}

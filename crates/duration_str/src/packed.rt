@@ -3,10 +3,12 @@
 //! small letter.
 ghost use Rattle.std.specs.Prelude.{◌≡◌, ◌+◌, ◌*◌, ◌%◌, ◌^◌, ◌&&◌, ◌||◌, ◌==◌, true, if◌then◌else◌, Some};
 ghost use Rattle.std.specs.Char.{is_ascii_alphabetic};
+ghost use Rattle.std.specs.List.{list_any};
+ghost use Rattle.std.specs.Option.{option_map};
 ghost use Rattle.std.specs.Str.{chars};
 ghost use Rattle.duration_str.specs.Text.{is_unit_letter, is_chinese};
 ghost use Rattle.duration_str.specs.Internal.Positions.{letter_number, wide_number};
-ghost use Rattle.duration_str.specs.Internal.UnitTable.{micro_if, packed_word, unit_of_packed, with_micro};
+ghost use Rattle.duration_str.specs.Internal.UnitTable.{is_greek_mu, micro_if, packed_word, unit_of_packed, with_micro};
 ghost use Rattle.duration_str.specs.Units.{row_of};
 ghost use Rattle.duration_str.specs.declared.unit.TimeUnit.{TimeUnit};
 
@@ -34,33 +36,36 @@ impl TimeUnit {
         ensures only { (unit : TimeUnit) → is_named (rules_of o) (chars word.now) unit ≡ true
             → unit_of_word (rules_of o) (chars word.now) ≡ Some unit }
     {
-        unit_of_packed(packed_word(word, o, false)?)
+        unit_of_packed(packed_word(word, o, false)?.0)
     }
 }
 
-/// Returns the packed number of a word that can be a name: all characters are unit letters, and it
-/// has no more bytes than the longest name. If `greek` is true, the micro sign stands in place of
-/// each Greek letter mu.
+/// Returns the packed number of a word that can be a name, and whether it has a Greek letter mu. All
+/// characters are unit letters, and it has no more bytes than the longest name. If `folds` is true,
+/// the micro sign stands in place of each Greek letter mu.
 #[inline(always)]
-pub(crate) fn packed_word(word: &str, o: Options, greek: bool) -> Option<u64>
-    ensures { result ≡ packed_word o (with_micro greek (chars word.now)) }
+pub(crate) fn packed_word(word: &str, o: Options, folds: bool) -> Option<(u64, bool)>
+    ensures { result ≡ option_map (λ n. (n, list_any is_greek_mu (chars word.now)))
+        (packed_word o (with_micro folds (chars word.now))) }
 {
     if word.len() > MOST_BYTES {
         return None;
     }
     let mut packed = 0;
+    let mut greek = false;
     let mut chars = word.chars();
     while let Some(c) = chars.next() {
-        packed = with_letter(packed, letter_number(micro_if(greek, c), o)?);
+        greek = greek | (c == 'μ');
+        packed = with_letter(packed, letter_number(micro_if(folds, c), o)?);
     }
-    Some(packed)
+    Some((packed, greek))
 }
 
 #[inline(always)]
-fn micro_if(greek: bool, c: char) -> char
-    ensures { result ≡ micro_if greek c }
+fn micro_if(folds: bool, c: char) -> char
+    ensures { result ≡ micro_if folds c }
 {
-    if greek && c == 'μ' { 'µ' } else { c }
+    if folds && c == 'μ' { 'µ' } else { c }
 }
 
 /// The most bytes that a name has. The packed number of 12 letters fits into a `u64`.

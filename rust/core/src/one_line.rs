@@ -300,17 +300,12 @@ fn near_unit(word: &str) -> Option<TimeUnit> {
     if word == "mo" || word == "mos" {
         return Some(TimeUnit::Month);
     }
-    let greek = has_greek_mu(word);
-    let packed = packed_word(word, Options::off(), greek)?;
+    let (packed, greek) = packed_word(word, Options::off(), true)?;
     if greek {
         more_names::unit_of_packed(packed)
     } else {
         added_unit(packed)
     }
-}
-
-fn has_greek_mu(word: &str) -> bool {
-    word.chars().any(|c| c == 'μ')
 }
 
 /// The name of each unit that a help names, the longest unit first, filled up with spaces.

@@ -3,6 +3,7 @@ use Rattle.duration_str.proofs.Common.{[], all_names_in, and_from, and_parts, ap
 use mathlib.Core.List.{reverse, reverse_aux}
 use Rattle.duration_str.specs.declared.rules.Rules.{Rules as CodeRules}
 use Rattle.duration_str.specs.Internal.UnitTable.{unit_of_packed}
+use Rattle.std.specs.Option.{option_map}
 use Rattle.std.proofs.lemmas.List.{get_or-map, length-map}
 use Rattle.std.proofs.lemmas.List.Folds.{list_all_at}
 use Rattle.duration_str.proofs.Characters.UnitLemmas.{all_units, among_all, named_passes, same_length}
@@ -364,6 +365,33 @@ micro_len greek (c ∷ w) = rw (micro_width greek c, micro_len greek w) refl
 pub no_micro : (w : List ℕ) → with_micro false w ≡ w
 no_micro [] = refl
 no_micro (c ∷ w) = rw (no_micro w) refl
+
+-- ---- a packed number with a flag
+
+abbrev pub flagged : Bool → ℕ → ℕ × Bool
+flagged flag n = (n, flag)
+
+pub or_assoc : (a b c : Bool) → (a || (b || c)) ≡ ((a || b) || c)
+or_assoc true b c = refl
+or_assoc false b c = refl
+
+pub unpacked : (found : Option ℕ) (flag : Bool) → None ≡ found → None ≡ option_map (flagged flag) found
+unpacked None flag e = refl
+unpacked (Some n) flag e = absurd cc
+
+pub packed_with : (found : Option ℕ) (flag seen : Bool) (n : ℕ) → Some n ≡ found → flag ≡ (seen || false)
+    → Some (flagged seen n) ≡ option_map (flagged flag) found
+packed_with found flag seen n is same =
+    let flags : flag ≡ seen = grind arith in rw (← is, flags) refl
+
+pub packed_parts : (found : Option ℕ) (flag : Bool) (pair : ℕ × Bool) → Some pair ≡ option_map (flagged flag) found
+    → (Some pair.0 ≡ found) × (pair.1 ≡ flag)
+packed_parts None flag pair e = absurd cc
+packed_parts (Some n) flag pair e = let same : pair ≡ flagged flag n = cc in rw same (refl, refl)
+
+pub packed_empty : (found : Option ℕ) (flag : Bool) → None ≡ option_map (flagged flag) found → None ≡ found
+packed_empty None flag e = refl
+packed_empty (Some n) flag e = absurd cc
 
 pub no_letter_mu : (o : Options) (w : List ℕ) → list_any (λ c. c == 0x3BC) w ≡ true → list_all (is_unit_letter o) w ≡ false
 no_letter_mu o [] h = absurd cc

@@ -1,6 +1,6 @@
 -- Lemmas about words that are near a unit.
 use Rattle.duration_str.proofs.Common.{ap, arith, bytes_eq, bytes_eq-Decides, cases_Bool, codes, encode_utf8_all, encodes-chars, false, find, get_or, inl, inr, is_named, IsUtf8, length, List, list_any, map, None, off, Option, packed_word, rank_of, refl, Some, sym, take, TimeUnit, to_ascii_lowercase, true, units, unit_of_word, with_micro, Bool, Month, [], ℕ, ◌∙◌, ◌∷◌, ◌≡◌, ◌-◌, ◌==◌, more_names, rules}
-use Rattle.duration_str.proofs.Characters.PackedLemmas.{added_rules, added_word_none, more_off, more_word_none, no_micro}
+use Rattle.duration_str.proofs.Characters.PackedLemmas.{added_rules, added_word_none, more_off, more_word_none}
 use Rattle.duration_str.proofs.Characters.UnitLemmas.{bytes_eq-encodes, each_unit}
 use Rattle.duration_str.specs.declared.one_line.TheConstants.{HELP_NAMES}
 use Rattle.std.specs.Char.{is_ascii_whitespace}
@@ -24,6 +24,13 @@ pub near_mos : (word : List ℕ) → bytes_eq word (codes "mos") ≡ true → ne
 unfolding chars
 near_mos word same = rw ((bytes_eq-Decides word (codes "mos")).0 same) refl
 
+no_mu : (word : List ℕ) → list_any (λ c. c == 0x3BC) word ≡ false → with_micro true word ≡ word
+no_mu [] h = refl
+no_mu (c ∷ word) h = elim (cases_Bool (c == 0x3BC)) [
+  | inl is ↦ absurd (let clash = rw is at h in cc)
+  | inr other ↦ rw (other, no_mu word (rw other at h)) refl
+]
+
 module _ (bytes : List ℕ) (utf8 : IsUtf8 bytes) (mo : bytes_eq bytes (codes "mo") ≡ false)
     (mos : bytes_eq bytes (codes "mos") ≡ false) where
   no_small : list_any (bytes_eq (chars bytes)) small_words ≡ false
@@ -38,13 +45,14 @@ module _ (bytes : List ℕ) (utf8 : IsUtf8 bytes) (mo : bytes_eq bytes (codes "m
   near_greek greek = rw (no_small, greek) refl
 
   pub near_added : list_any (λ c. c == 0x3BC) (chars bytes) ≡ false
-      → near_unit (chars bytes) ≡ unit_of_word added_rules (with_micro false (chars bytes))
-  near_added other = rw (no_small, other, no_micro (chars bytes)) (added_found (chars bytes) units)
+      → near_unit (chars bytes) ≡ unit_of_word added_rules (with_micro true (chars bytes))
+  near_added other = rw (no_small, other, no_mu (chars bytes) other) (added_found (chars bytes) units)
 
-  pub near_none : (greek : Bool) → greek ≡ list_any (λ c. c == 0x3BC) (chars bytes)
-      → None ≡ packed_word off (with_micro greek (chars bytes)) → None ≡ near_unit (chars bytes)
-  near_none true is none = more_word_none (with_micro true (chars bytes)) none ∙ sym (near_greek (sym is))
-  near_none false is none = added_word_none (with_micro false (chars bytes)) none ∙ sym (near_added (sym is))
+  pub near_none : None ≡ packed_word off (with_micro true (chars bytes)) → None ≡ near_unit (chars bytes)
+  near_none none = elim (cases_Bool (list_any (λ c. c == 0x3BC) (chars bytes))) [
+    | inl greek ↦ more_word_none (with_micro true (chars bytes)) none ∙ sym (near_greek greek)
+    | inr latin ↦ added_word_none (with_micro true (chars bytes)) none ∙ sym (near_added latin)
+  ]
 
 abbrev trimmed : List ℕ → List ℕ
 trimmed bytes = take (length bytes - suffix_len is_ascii_whitespace bytes) bytes

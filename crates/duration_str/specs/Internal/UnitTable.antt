@@ -52,9 +52,13 @@ abbrev pub packed_word : Options → Characters → Option ℕ
 packed_word o word =
     if nat_le (byte_len word) 12 && list_all (is_unit_letter o) word then Some (packed_number o word) else None
 
--- the character, but the micro sign in place of the Greek letter mu if `greek` is true
+-- whether the character is the Greek letter mu, which looks like the micro sign
+abbrev pub is_greek_mu : ℕ → Bool
+is_greek_mu c = c == 0x3BC
+
+-- the character, but the micro sign in place of the Greek letter mu if `folds` is true
 abbrev pub micro_if : Bool → ℕ → ℕ
-micro_if greek c = if greek && c == 0x3BC then 0xB5 else c
+micro_if folds c = if folds && c == 0x3BC then 0xB5 else c
 
 abbrev pub with_micro : Bool → Characters → Characters
-with_micro greek word = map (micro_if greek) word
+with_micro folds word = map (micro_if folds) word
