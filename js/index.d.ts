@@ -30,6 +30,8 @@ interface Switches {
     lowercase?: boolean | undefined;
     /** The Chinese names of the units are read too. */
     cnUnit?: boolean | undefined;
+    /** More names of units are read, such as `mins`, `hrs` and `yr`. */
+    moreNames?: boolean | undefined;
 }
 
 /** Options that name no default unit. They can require units. */

@@ -48,11 +48,13 @@ def paragraphs():
 
 
 def option_descriptions():
-    """What the options of reading do: three switches, and the two choices of a default unit."""
+    """What the options of reading do: three switches, the two choices of a default unit, and more
+    names."""
     page = section("docs/GRAMMAR.md", "## Options")
     choices = dict(re.findall(r"^\| (no|another) unit \| (.*?) \|", page, re.M))
     return dict(re.findall(r"^\| `(\w+)` \| (.*) \|$", page, re.M)) | {
         "require_unit": f"a number without a unit {choices['no']}",
+        "more_names": re.search("^(more names of units are read, .*?)\\.$", page, re.M | re.I)[1].lower(),
         "default_unit": f"a number without a unit {choices['another']}",
     }
 
@@ -68,10 +70,10 @@ def as_list(descriptions):
 
 
 def options(descriptions, sentences):
-    *switches, _, _ = descriptions
+    *switches, _, _, _ = descriptions
     bits = dict(found(r"^const (\w+): u32 = (\d+);$", "duration_str_c/src/lib.rt"))
     rows = []
-    for name in (*switches, "require_unit"):
+    for name in (*switches, "require_unit", "more_names"):
         comment = filled(f"{descriptions[name]} */", 79, "    /* ", "     * ")
         rows.append(f"{comment}\n    DURATION_STR_OPTION_{name.upper()} = {bits[name.upper()]}")
     yield HEADER, "enum duration_str_option {\n", "\n};", ",\n".join(rows)
@@ -93,9 +95,9 @@ def options_in_javascript(descriptions, sentences):
         name: filled(f"{what} */", 100, "    /** ", "     * ") + f"\n    {names[name]}?: boolean"
         for name, what in sentences.items()
     }
-    *switches, required, _ = fields.values()
+    *switches, required, more, _ = fields.values()
     end = " | undefined;\n"
-    yield TYPES, "interface Switches {\n", f"{end}}}", end.join(switches)
+    yield TYPES, "interface Switches {\n", f"{end}}}", end.join([*switches, more])
     yield TYPES, "interface RequiringOptions extends Switches {\n", end, required
     before = "interface CountingOptions extends Switches {\n    /**\n"
     yield TYPES, before, "\n     *\n", filled(sentences["default_unit"], 100, "     * ")

@@ -16,7 +16,7 @@ PRINTED = [unit.printed for unit in UNITS]
 # 1 for `lowercase` and 2 for `cn_unit`.
 INDEXES = [(first, second) for second in (False, True) for first in (False, True)]
 SENTENCES = [patterns.SENTENCES[each] for each in INDEXES]
-UNIT_PATTERNS = [patterns.units_by(*each) for each in INDEXES]
+UNIT_PATTERNS = [patterns.units_by(*each, more) for more in (False, True) for each in INDEXES]
 
 
 def found(pattern, name):
@@ -100,7 +100,7 @@ def in_rust():
         before = f"const {constant}: [&str; "
         yield name, before, "];", f"{len(items)}] = [{quoted(items)}"
     yield name, "const SENTENCES: [&str; 4] = [\n", "\n];", rows(SENTENCES)
-    yield name, "const UNIT_PATTERNS: [&str; 4] = [\n", "\n];", rows(UNIT_PATTERNS)
+    yield name, "const UNIT_PATTERNS: [&str; 8] = [\n", "\n];", rows(UNIT_PATTERNS)
 
 
 def in_the_schema():

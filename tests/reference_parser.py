@@ -635,10 +635,9 @@ NEAR_WORDS = {
     "h": "hrs",
     "min": "mins",
     "s": "secs",
-    "ms": "msecs millis",
-    "µs": "µsecs µseconds",
-    "ns": "nsecs nanos",
-    "us": "usecs useconds micros μs μsec μsecs μsecond μseconds",
+    "ms": "msecs milli millis",
+    "ns": "nsecs nano nanos",
+    "us": "µsecs µseconds usecs useconds micro micros μs μsec μsecs μsecond μseconds",
 }
 NAMES = "y, q, mon, w, d, h, min, s, ms, us or ns"
 QUOTED = 40

@@ -49,12 +49,16 @@ def any_of(names, capitals):
     return "|".join(branches) if len(branches) < 2 else f"(?:{'|'.join(branches)})"
 
 
-def units_by(lowercase, cn_unit):
+def units_by(lowercase, cn_unit, more_names=False):
     table = list(units.table())
     names = [name for unit in table for name in unit.names]
+    names += [name for unit in units.more() for name in unit.names if more_names]
     chinese = [name for unit in table for name in unit.chinese if cn_unit]
     return any_of([*names, *chinese], not lowercase)
 
 
-def pattern(no_calc=False, lowercase=False, cn_unit=False, require_unit=False):
-    return SENTENCES[no_calc, require_unit].replace("U", units_by(lowercase, cn_unit))
+def pattern(
+    no_calc=False, lowercase=False, cn_unit=False, require_unit=False, more_names=False
+):
+    unit = units_by(lowercase, cn_unit, more_names)
+    return SENTENCES[no_calc, require_unit].replace("U", unit)

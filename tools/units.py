@@ -1,5 +1,5 @@
-"""Reads the table of units in crates/duration_str/specs/Units.antt, and humantime's further names
-in Humantime.antt.
+"""Reads the table of units in crates/duration_str/specs/Units.antt, and the names in
+MoreNames.antt.
 """
 import pathlib
 import re
@@ -11,7 +11,7 @@ ROW = re.compile(
     re.M,
 )
 
-FURTHER = re.compile(r"^humantime_row_of (\w+) = .*?with_names \((.*?)\) \(row_of \w+\)", re.M)
+MORE = re.compile(r"^more_names (\w+) = (.*)$", re.M)
 
 
 class Unit(typing.NamedTuple):
@@ -31,8 +31,9 @@ def table():
         yield Unit(variant, int(length), printed, names[-2], names, chinese)
 
 
-def humantime():
-    text = (CRATE / "specs/Humantime.antt").read_text(encoding="utf-8")
-    further = {variant: re.findall('"(.*?)"', names) for variant, names in FURTHER.findall(text)}
+def more():
+    """The units with only the names that the table with more names adds."""
+    text = (CRATE / "specs/MoreNames.antt").read_text(encoding="utf-8")
+    names = {variant: re.findall('"(.*?)"', row) for variant, row in MORE.findall(text)}
     for unit in table():
-        yield unit._replace(names=further.get(unit.variant, []) + unit.names)
+        yield unit._replace(names=names[unit.variant], chinese=[])

@@ -11,8 +11,8 @@ export const UNITS = [
     ["h hr hour hours", "时", "hrs"],
     ["m min minute minutes", "分", "mins"],
     ["s sec second seconds", "秒", "secs"],
-    ["ms msec millisecond milliseconds", "毫秒", "msecs millis"],
-    ["µs µsec µsecond us usec usecond microsecond microseconds", "微秒", "µsecs µseconds usecs useconds micros"],
-    ["ns nsec nanosecond nanoseconds", "纳秒", "nsecs nanos"],
+    ["ms msec millisecond milliseconds", "毫秒", "msecs milli millis"],
+    ["µs µsec µsecond us usec usecond microsecond microseconds", "微秒", "µsecs µseconds usecs useconds micro micros"],
+    ["ns nsec nanosecond nanoseconds", "纳秒", "nsecs nano nanos"],
 ];
 export const STYLES = ["short", "compact", "long"];

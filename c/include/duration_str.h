@@ -114,7 +114,9 @@ enum duration_str_option {
     /* the Chinese names of the units are read too */
     DURATION_STR_OPTION_CN_UNIT = 4,
     /* a number without a unit is refused, such as in `90` and `1h 30` */
-    DURATION_STR_OPTION_REQUIRE_UNIT = 8
+    DURATION_STR_OPTION_REQUIRE_UNIT = 8,
+    /* more names of units are read, such as `mins`, `hrs` and `yr` */
+    DURATION_STR_OPTION_MORE_NAMES = 16
 };
 
 /* With this option a number without a unit counts `unit`, one of

@@ -5,5 +5,6 @@ export function pattern(options) {
     // The error of `bitsOf` would say how to read an array.
     if (options !== undefined) checkPlain(options);
     const bits = bitsOf(options);
-    return SENTENCES[bits & 1 | bits >> 2 & 2].replaceAll("U", UNIT_PATTERNS[bits >> 1 & 3]);
+    const unit = UNIT_PATTERNS[bits >> 1 & 3 | bits >> 2 & 4];
+    return SENTENCES[bits & 1 | bits >> 2 & 2].replaceAll("U", unit);
 }

@@ -2,10 +2,9 @@ use crate::error::DurationError;
 use crate::fault::Fault;
 use crate::parser::ADDITIONS;
 use core::time::Duration;
-use duration_str_core::{self as proved, Options, TimeUnit};
+use duration_str_core::{self as proved, Options, Rules, TimeUnit};
 
-/// Reads a text under these options, and returns its duration. A number without a unit counts the
-/// default unit. If that is `None`, such a number is refused.
+/// Reads a text by these rules, and returns its duration.
 ///
 /// If your program's numbers are milliseconds, turn on `no_calc`, or call [`parse_in`], which turns
 /// it on for each default unit except seconds. `docs/GRAMMAR.md` in the repository says why.
@@ -15,29 +14,28 @@ use duration_str_core::{self as proved, Options, TimeUnit};
 /// Returns the [`Fault`] if the text is refused.
 ///
 /// ```
-/// use duration_str::{Options, TimeUnit, parse_with_default_unit};
+/// use duration_str::{Options, Rules, TimeUnit, parse_by};
 /// use std::time::Duration;
 ///
-/// let no_calc = Options { no_calc: true, ..Options::off() };
-/// let in_millis = |text| parse_with_default_unit(text, no_calc, Some(TimeUnit::MilliSecond));
+/// const WITH_MORE_NAMES: Rules = Rules::of(Options::off()).more_names();
+/// assert_eq!(parse_by("5 mins", WITH_MORE_NAMES), Ok(Duration::from_secs(300)));
+///
+/// let no_calc = Rules::of(Options { no_calc: true, ..Options::off() });
+/// let in_millis = |text| parse_by(text, no_calc.default_unit(Some(TimeUnit::MilliSecond)));
 /// assert_eq!(in_millis("1500"), Ok(Duration::from_millis(1_500)));
 /// assert_eq!(in_millis("1s 500"), Ok(Duration::from_millis(1_500)));
 /// assert_eq!(in_millis("90s*2").unwrap_err().place(), Some(3));
-/// assert_eq!(parse_with_default_unit("1h 30", no_calc, None).unwrap_err().place(), Some(5));
+/// assert_eq!(parse_by("1h 30", no_calc.default_unit(None)).unwrap_err().place(), Some(5));
 ///
 /// // Not 3 minutes: 90 seconds times 2 milliseconds
-/// let product = parse_with_default_unit("90s*2", Options::off(), Some(TimeUnit::MilliSecond));
-/// assert_eq!(product, Ok(Duration::from_millis(180)));
+/// let rules = Rules::of(Options::off()).default_unit(Some(TimeUnit::MilliSecond));
+/// assert_eq!(parse_by("90s*2", rules), Ok(Duration::from_millis(180)));
 /// ```
 #[inline]
-pub fn parse_with_default_unit(
-    input: &str,
-    options: Options,
-    default_unit: Option<TimeUnit>,
-) -> Result<Duration, Fault<'_>> {
-    match proved::parse_with_default_unit(input, options, default_unit) {
+pub fn parse_by(input: &str, rules: Rules) -> Result<Duration, Fault<'_>> {
+    match proved::parse_by(input, rules) {
         Ok(duration) => Ok(duration),
-        Err(fault) => Err(Fault::new(fault, options)),
+        Err(fault) => Err(Fault::new(fault, rules.options)),
     }
 }
 
@@ -64,17 +62,20 @@ pub fn parse_with_default_unit(
 /// # Ok::<(), DurationError>(())
 /// ```
 pub fn parse_in(input: &str, default_unit: TimeUnit) -> Result<Duration, DurationError> {
-    parse_with_default_unit(input, naming(default_unit), Some(default_unit))
-        .map_err(Fault::into_owned)
+    parse_by(input, naming(default_unit)).map_err(Fault::into_owned)
 }
 
-/// The options of [`parse_in`].
-pub(crate) fn naming(default_unit: TimeUnit) -> Options {
-    Options {
+/// The rules of [`parse_in`].
+pub(crate) fn naming(default_unit: TimeUnit) -> Rules {
+    let options = Options {
         no_calc: default_unit != TimeUnit::Second,
         ..ADDITIONS
-    }
+    };
+    Rules::of(options).default_unit(Some(default_unit))
 }
+
+/// The rules of [`parse_require_unit`].
+pub(crate) const REQUIRING_UNITS: Rules = Rules::of(ADDITIONS).default_unit(None);
 
 /// Reads a text as [`parse_duration`](crate::parse_duration) does, but refuses a number without a
 /// unit.
@@ -97,5 +98,5 @@ pub(crate) fn naming(default_unit: TimeUnit) -> Options {
 /// # Ok::<(), DurationError>(())
 /// ```
 pub fn parse_require_unit(input: &str) -> Result<Duration, DurationError> {
-    parse_with_default_unit(input, ADDITIONS, None).map_err(Fault::into_owned)
+    parse_by(input, REQUIRING_UNITS).map_err(Fault::into_owned)
 }

@@ -45,7 +45,7 @@ use crate::human_duration::written_as_text;
 use crate::parser::CASE_SENSITIVE;
 use core::fmt;
 use core::time::Duration as StdDuration;
-use duration_str_core::{self as proved, Options};
+use duration_str_core::{self as proved, Options, Rules};
 
 pub use crate::DurationError;
 
@@ -95,7 +95,7 @@ fn read_with<T: AsRef<str> + ?Sized>(text: &T, no_calc: bool) -> Result<u64, pro
         no_calc,
         ..CASE_SENSITIVE
     };
-    proved::parse_humantime_specialized(text.as_ref(), options)
+    proved::parse_nanos_specialized(text.as_ref(), Rules::humantime(options))
 }
 
 const YEAR_SECONDS: u64 = 31_557_600;

@@ -20,7 +20,8 @@
 //!   calls read them as seconds.
 //! - Use [`parse_in`] if your program's numbers count another unit, such as milliseconds.
 //! - Use [`parse_with`] to set options, or if nothing may be allocated. Its [`Fault`] borrows the
-//!   text. [`parse_with_default_unit`] also takes the default unit, or `None` to require units.
+//!   text. [`parse_by`] takes [`Rules`], which also name the default unit, or `None` to require
+//!   units, and by which more names such as `mins` are read.
 //! - [`parse`], [`parse_std`] (which is the same), `parse_chrono` and `parse_time` are calls of
 //!   `duration-str` 0.19.0. Their error is a `String` of up to three lines. This crate's features
 //!   decide what they read, and are the same for the whole program.
@@ -189,12 +190,12 @@ pub use dates::{
     after_naive_date, after_naive_date_time, before_naive_date, before_naive_date_time,
     moment_after, moment_before,
 };
-pub use default_unit::{parse_in, parse_require_unit, parse_with_default_unit};
+pub use default_unit::{parse_by, parse_in, parse_require_unit};
 pub use derror::{DError, DResult};
 #[doc(inline)]
 pub use duration_str_core::{
     Breakdown, Cause, CondUnit, Expected, FORMAT_BUFFER_SIZE, Format, HUMAN_BUFFER_SIZE,
-    ONE_LINE_BUFFER_SIZE, Options, Rounding, Style, TimeUnit, Units, UnknownStyle, UnknownUnit,
+    ONE_LINE_BUFFER_SIZE, Options, Rounding, Rules, Style, TimeUnit, Units, UnknownStyle, UnknownUnit,
     round_to, write_format, write_human,
 };
 // `MAX_LONG_LEN`, `MAX_PRINTED_LEN` and `UNITS`, below, are hidden, since only the core's

@@ -1,8 +1,9 @@
+use crate::default_unit::parse_by;
 use crate::error::DurationError;
 use crate::fault::Fault;
 use alloc::string::String;
 use core::time::Duration;
-use duration_str_core::{self as proved, Options};
+use duration_str_core::{Options, Rules};
 
 /// Reads a text under these options, and returns its duration.
 ///
@@ -20,10 +21,7 @@ use duration_str_core::{self as proved, Options};
 /// ```
 #[inline]
 pub fn parse_with(input: &str, options: Options) -> Result<Duration, Fault<'_>> {
-    match proved::parse_with(input, options) {
-        Ok(duration) => Ok(duration),
-        Err(fault) => Err(Fault::new(fault, options)),
-    }
+    parse_by(input, Rules::of(options))
 }
 
 /// The calls of `duration-str` 0.19.0 read under these options.

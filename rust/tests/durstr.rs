@@ -6,7 +6,7 @@
 //! line has the nanoseconds, the number of a set of units, and the greatest number of parts.
 #![forbid(unsafe_code)]
 
-use duration_str::{Options, Rounding, TimeUnit, format_duration, parse_with_default_unit};
+use duration_str::{Options, Rounding, Rules, TimeUnit, format_duration, parse_by};
 use std::io::Read;
 use std::process::ExitCode;
 use std::time::Duration;
@@ -55,7 +55,7 @@ fn main() -> ExitCode {
     for line in input.split_inclusive(|byte| *byte == b'\n') {
         let line = line.strip_suffix(b"\n").unwrap_or(line);
         let answer = match std::str::from_utf8(line) {
-            Ok(text) => parse_with_default_unit(text, options, default_unit)
+            Ok(text) => parse_by(text, Rules::of(options).default_unit(default_unit))
                 .map_err(|fault| fault.to_string()),
             Err(_) => Err(String::from("not UTF-8")),
         };

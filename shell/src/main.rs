@@ -86,7 +86,11 @@ impl Run<'_> {
             self.output
                 .write_all(options::completions(shell).as_bytes())?;
         } else if self.choices.pattern {
-            let pattern = patterns::pattern(self.choices.reading(), self.choices.require_unit);
+            let pattern = patterns::pattern(
+                self.choices.reading(),
+                self.choices.require_unit,
+                self.choices.more_names,
+            );
             self.put(&[pattern.as_bytes()])?;
         } else if self.choices.texts.is_empty() {
             let input = file(io::stdin()).map_err(of_input)?;

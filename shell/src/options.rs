@@ -90,6 +90,9 @@ pub struct Choices {
     /// Read the Chinese names of units too
     #[arg(long)]
     pub cn_unit: bool,
+    /// Read more names of units, such as mins, hrs and yr
+    #[arg(long)]
+    pub more_names: bool,
     /// Refuse a number without a unit
     #[arg(long, conflicts_with = "from")]
     pub require_unit: bool,

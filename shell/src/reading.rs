@@ -1,6 +1,6 @@
 //! Reads a text, and says why it is refused.
 use crate::options::{Choices, Round};
-use duration_str::{Fault, TimeUnit, parse_with_default_unit};
+use duration_str::{Fault, Rules, TimeUnit, parse_by};
 use serde_json::json;
 
 /// `place` and `found` are those of a syntax fault.
@@ -67,7 +67,9 @@ pub fn read<'a>(bytes: &'a [u8], choices: &Choices) -> Result<(&'a str, u64), Re
     }
     let unit = choices.from.unwrap_or(TimeUnit::Second);
     let default_unit = (!choices.require_unit).then_some(unit);
-    let duration = parse_with_default_unit(text, choices.reading(), default_unit)?;
+    let own = Rules::of(choices.reading()).default_unit(default_unit);
+    let rules = if choices.more_names { own.more_names() } else { own };
+    let duration = parse_by(text, rules)?;
     Ok((text, duration.as_nanos() as u64))
 }
 

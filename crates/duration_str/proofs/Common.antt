@@ -33,7 +33,7 @@ pub use Rattle.duration_str.specs.Answer.{allows, answer, answer_at, expected_af
 pub use Rattle.duration_str.specs.Messages.{byte_text, caret_text, EndsInsideLine, has_line_feed, line_of, message_of, placed_text}
 pub use Rattle.duration_str.specs.Faults.{found_token, IsMissingAtEnd, IsSliceOf, place_of, token_at}
 pub use Rattle.duration_str.specs.Grammar.{BeginsWith, IsSentence, IsSentenceOf, number, operator, operator_or_other, other, sign_terminal, Spells, Terminal, terminal_of, word}
-pub use Rattle.duration_str.specs.Laws.{with_lowercase, with_no_calc, AllParts, AnswerIsReading, BlanksFree, EqualTexts, GreatestBreakdown, HasNoCapital, HasNoChinese, HasNoOperator, HasNoStar, is_operator, IsIdle, IsMostWithin, NearWords, NeverMore, NoCalcAgrees, OlderTexts, OneCut, OneReading, OneRounding, OneSentence, OptionsIdle, PartsAndRest, PlaceAndKinds, ReadsBack, Reorder, SumOfTexts, times_in, TwoFactors, counts_of, AllPlus, AreTokens, EndsRun, IsLexeme}
+pub use Rattle.duration_str.specs.Laws.{with_lowercase, with_no_calc, AllParts, AnswerIsReading, BlanksFree, EqualTexts, GreatestBreakdown, HasNoCapital, HasNoChinese, HasNoOperator, HasNoStar, is_operator, IsIdle, IsMostWithin, MoreNames, NearWords, NeverMore, NoCalcAgrees, OlderTexts, OneCut, OneReading, OneRounding, OneSentence, OptionsIdle, PartsAndRest, PlaceAndKinds, ReadsBack, Reorder, SumOfTexts, times_in, TwoFactors, counts_of, AllPlus, AreTokens, EndsRun, IsLexeme}
 pub use Rattle.duration_str.specs.Older.{older_row_of, older_rules, older_table, sentence_fault, WasRefused}
 pub use Rattle.duration_str.specs.declared.format.Format.{Format}
 pub use Rattle.duration_str.specs.declared.format.Style.{Style}
@@ -55,11 +55,14 @@ pub use Rattle.duration_str.specs.Text.{byte_len, chinese_letters, is_blank, is_
 pub use Rattle.duration_str.specs.Iteration.{cut_place, KeepsInput, options_of, source, tokens_left, what_of, YieldsNextToken}
 pub use Rattle.duration_str.specs.Tokens.{are_of_one_run, goes_on, lexemes_of, Token, tokens_from, tokens_of, with_first_character}
 pub use Rattle.duration_str.specs.Units.{nanos_of, rank_of, row_of, unit_lengths, UnitRow, units}
+pub use Rattle.duration_str.specs.Meaning.{meaning_of, table_of}
+pub use Rattle.duration_str.specs.MoreNames.{more_names, more_row_of, more_rules}
+pub use Rattle.duration_str.specs.Humantime.{humantime_row_of}
 pub use Rattle.duration_str.specs.Rules.{comparison_form, is_in_row, is_named, Rules, rules_of, rules_with, unit_of_word}
 pub use Rattle.duration_str.specs.Internal.Numbers.{checked_term, u64_from}
-pub use Rattle.duration_str.specs.Internal.UnitTable.{all_names, all_names_in, meaning_of, packs_to, table_of, Table, unit_of_packed, printed_row, units_of}
+pub use Rattle.duration_str.specs.Internal.UnitTable.{added_row_of, all_names, all_names_in, is_greek_mu, micro_if, packed_word, packs_to, Table, unit_of_packed, printed_row, units_of, with_micro}
 pub use Rattle.duration_str.specs.declared.table.UnitTable.{UnitTable}
-pub use Rattle.duration_str.specs.declared.table.UnitTable.TheVariants.{Humantime, Own}
+pub use Rattle.duration_str.specs.declared.table.UnitTable.TheVariants.{Humantime, More, Own}
 pub use Rattle.duration_str.specs.Internal.PrintedBytes.{name_part, part_bytes, with_counts, with_gap, with_part, with_parts}
 pub use Rattle.duration_str.specs.Internal.Rest.{answer_left, by_operator, checked_combination, end_at, IsPlaceless, leaving, number_fault, operator_read, ReadItem, Rest, rest_from, rest_of, start_left, terminal_at, terminals_left, total_with, unit_read, with_term}
 pub use Rattle.duration_str.specs.Internal.Steps.{is_number, IsAhead, IsSign, LooksAhead, rules_at, sign_sort, sort_at, sort_of, TakesNumber, TakesSign, TakesToken, TakesTokenWith}

@@ -1,6 +1,6 @@
 -- Examples that were worked out by hand, and are computed here, such as the values of texts, the
 -- causes for which others are refused, and the texts of durations.
-use Rattle.duration_str.proofs.Common.{[], ALL, answer, arith, Bool, Cause, codes, Compact, counts_of, Empty, encode_utf8_all, Err, Expected, false, flat_map, if◌then◌else◌, inl, inr, length, List, Long, map, MAX_LONG_LEN, MAX_PRINTED_LEN, message_of, Mixed, nanos_of, nat_lt, None, nonzero, NumberTooLarge, off, Ok, older_row_of, older_rules, Options, OutOfRange, Overflow, Plus, printed_counts, Quarter, refl, replicate, Result, row_of, rules_of, rules_with, Short, Some, Star, Style, Syntax, TimeUnit, true, unit_lengths, unit_of_word, units, units_within, ℕ, ◌++◌, ◌∷◌, ◌≡◌}
+use Rattle.duration_str.proofs.Common.{[], ALL, answer, arith, Bool, Cause, codes, Compact, counts_of, Empty, encode_utf8_all, Err, Expected, false, flat_map, if◌then◌else◌, inl, inr, length, List, Long, map, MAX_LONG_LEN, MAX_PRINTED_LEN, message_of, Mixed, nanos_of, nat_lt, None, nonzero, NumberTooLarge, off, Ok, older_row_of, older_rules, Options, OutOfRange, Overflow, Plus, printed_counts, Quarter, refl, replicate, Result, row_of, rules_of, rules_with, Short, Some, Star, Style, Syntax, TimeUnit, true, unit_lengths, unit_of_word, units, units_within, ℕ, ◌++◌, ◌∷◌, ◌≡◌, more_names, more_row_of, more_rules}
 use Rattle.duration_str.specs.declared.format.Format.{Format}
 use Rattle.duration_str.specs.declared.unit.TimeUnit.TheVariants.{Day, Hour, MicroSecond, MilliSecond, Minute, Month, NanoSecond, Second, Week, Year}
 use Rattle.duration_str.proofs.LawProofs.Rounding.{near_own, nearest_up, none_above, only_zero, rounded_down, rounded_up, zero_above}
@@ -253,6 +253,40 @@ pub record DefaultUnits : Type 0 where
 pub default_units : DefaultUnits
 default_units = assumption
 
+-- ---- More names
+
+abbrev with_more_names : List ℕ → Result ℕ Cause
+with_more_names = answer (more_rules off (Some Second))
+
+pub record MoreNamesRead : Type 0 where
+  pub names-counted : map (λ u. length (more_names u)) units ≡ 2 ∷ 2 ∷ 3 ∷ 2 ∷ 0 ∷ 1 ∷ 1 ∷ 1 ∷ 3 ∷ 6 ∷ 3 ∷ []
+  pub names-years : with_more_names (codes "1yr 1yrs") ≡ Ok 63_072_000_000_000_000
+  pub names-quarters : with_more_names (codes "1qtr 1qtrs") ≡ Ok 15_724_800_000_000_000
+  pub names-months : with_more_names (codes "1mons 1mth 1mths") ≡ Ok 7_776_000_000_000_000
+  pub names-weeks : with_more_names (codes "1wk 1wks") ≡ Ok 1_209_600_000_000_000
+  pub names-hours_to_seconds : with_more_names (codes "2hrs 5mins 10secs") ≡ Ok 7_510_000_000_000
+  pub names-milliseconds : with_more_names (codes "1msecs 1milli 1millis") ≡ Ok 3_000_000
+  pub names-microseconds : with_more_names (codes "1µsecs 1µseconds 1usecs 1useconds 1micro 1micros") ≡ Ok 6_000
+  pub names-nanoseconds : with_more_names (codes "1nsecs 1nano 1nanos") ≡ Ok 3
+  -- the library's own names and lengths
+  pub own_names : with_more_names (codes "1y 1q 1mon 1min 30") ≡ Ok 41_990_490_000_000_000
+  pub product : with_more_names (codes "2hrs * 3") ≡ Ok 21_600_000_000_000
+  pub capitals-folded : with_more_names (codes "5 MINS 1µSecs") ≡ Ok 300_000_001_000
+  pub lowercase-capital_refused : answer (more_rules with_lowercase (Some Second)) (codes "5Mins")
+      ≡ Err (Syntax 1 after_number)
+  -- `M` is a name of humantime's month only
+  pub month_letter-refused : answer (more_rules with_lowercase (Some Second)) (codes "1M") ≡ Err (Syntax 1 after_number)
+  pub unit_required : answer (more_rules off None) (codes "5mins 30") ≡ Err (Syntax 8 unit_alone)
+  pub chinese : answer (more_rules with_cn_unit (Some Second)) (codes "1年1yr") ≡ Ok 63_072_000_000_000_000
+  -- near words that are not read
+  pub megabyte-refused : map with_more_names (codes "1mo" ∷ codes "1mos" ∷ codes "1Mo" ∷ [])
+      ≡ Err (Syntax 1 after_number) ∷ Err (Syntax 1 after_number) ∷ Err (Syntax 1 after_number) ∷ []
+  pub greek_mu-refused : with_more_names (49 ∷ 0x3BC ∷ codes "secs") ≡ Err (Syntax 1 after_number)
+  pub longer_word-refused : with_more_names (codes "1minss") ≡ Err (Syntax 1 after_number)
+
+pub more_names_read : MoreNamesRead
+more_names_read = assumption
+
 -- ---- humantime's units
 
 abbrev as_humantime : List ℕ → Result ℕ Cause
@@ -260,7 +294,7 @@ as_humantime = answer (humantime_rules with_lowercase)
 
 pub record HumantimeUnits : Type 0 where
   pub names-counted : map (λ u. length (humantime_row_of u).names) units
-      ≡ 5 ∷ 3 ∷ 4 ∷ 5 ∷ 3 ∷ 5 ∷ 5 ∷ 5 ∷ 5 ∷ 8 ∷ 5 ∷ []
+      ≡ 5 ∷ 5 ∷ 7 ∷ 5 ∷ 3 ∷ 5 ∷ 5 ∷ 5 ∷ 7 ∷ 14 ∷ 7 ∷ []
   -- humantime's own names, by the length of their units
   pub names-below_second : as_humantime (codes "1nanos1nsec1ns1usec1us1µs1millis1msec1ms") ≡ Ok 3_003_003
   pub names-seconds : as_humantime (codes "1seconds1second1secs1sec1s") ≡ Ok 5_000_000_000
@@ -500,7 +534,7 @@ pub record Lines : Type 0 where
   pub line-ascii : one_line_of (codes "5 micros") (Syntax 2 after_number)
       ≡ codes "unknown unit \"micros\" at column 3 (did you mean \"us\"?)"
   pub line-micro_sign : one_line_of (encode_utf8_all (codes "5 µsecs")) (Syntax 2 after_number)
-      ≡ encode_utf8_all (codes "unknown unit \"µsecs\" at column 3 (did you mean \"µs\"?)")
+      ≡ encode_utf8_all (codes "unknown unit \"µsecs\" at column 3 (did you mean \"us\"?)")
   pub line-greek_mu : one_line_of (encode_utf8_all (codes "5 μS")) (Syntax 2 after_number)
       ≡ encode_utf8_all (codes "unknown unit \"μS\" at column 3 (did you mean \"us\"?)")
   -- ---- Help with a notation
@@ -639,6 +673,12 @@ pub names_of_one_unit : Each (λ u.
     AreNamesOf off u (row_of u).names × AreNamesOf with_lowercase u (row_of u).names
     × AreNamesOf with_cn_unit u ((row_of u).names ++ (row_of u).chinese)) units
 names_of_one_unit = assumption
+
+-- Each name of the library's own table names its unit with more names, too.
+pub more_names_of_one_unit : Each (λ u.
+    map (unit_of_word (more_rules with_cn_unit None)) ((more_row_of u).names ++ (row_of u).chinese)
+    ≡ map (λ name. Some u) ((more_row_of u).names ++ (row_of u).chinese)) units
+more_names_of_one_unit = assumption
 
 pub forty_three_names : length (flat_map (λ u. (row_of u).names) units) ≡ 43
 forty_three_names = refl

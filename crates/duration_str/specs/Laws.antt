@@ -15,7 +15,8 @@ use Rattle.duration_str.specs.declared.cause.Expected.{Expected}
 use Rattle.duration_str.specs.Text.{Bytes, Characters, operator_of, is_chinese, IsBlank, is_blank, byte_len}
 use Rattle.duration_str.specs.Units.{UnitRow, row_of, unit_lengths, nanos_of, units}
 use Rattle.duration_str.specs.Rules.{Rules, rules_of, rules_with, unit_of_word}
-use Rattle.duration_str.specs.OneLine.{is_among, near_name, near_words}
+use Rattle.duration_str.specs.MoreNames.{more_row_of, more_rules}
+use Rattle.duration_str.specs.OneLine.{near_name, near_unit}
 use Rattle.duration_str.specs.Grammar.{Terminal, operator, IsSentence, IsSentenceOf, Spells, terminal_of}
 use Rattle.duration_str.specs.Tokens.{Token, tokens_of, lexemes_of, are_of_one_run, goes_on}
 use Rattle.duration_str.specs.Place.{BeginsSentence, CanFollow, IsFront}
@@ -302,16 +303,24 @@ pub record PartsAndRest : Type 0 where
   pub rest : (old new : Breakdown) (parts : List (TimeUnit × ℕ)) → Yields YieldsPart old parts new
       → nanos_left old ≡ sum_of_parts parts + nanos_left new
 
--- By the library's own table and under these options, the word names no unit. In small letters it
--- is one of a unit's near words, and the advised name names that unit.
+-- By the library's own table and under these options, the word names no unit. The advised name names
+-- the unit that the word is near.
 pub record IsAdvised (o : Options) (word name : Characters) : Type 0 where
   pub unit : TimeUnit
-  pub near : is_among (near_words unit) (map to_ascii_lowercase (encode_utf8_all word)) ≡ true
+  pub near : near_unit word ≡ Some unit
   pub unread : unit_of_word (rules_of o) word ≡ None
   pub read : unit_of_word (rules_of o) name ≡ Some unit
 
 -- By the library's own table and under all options, the name that is advised for a word names the
 -- unit that the word is near, and the word itself names no unit.
 abbrev pub NearWords : Type 0
-NearWords = (o : Options) (word name : Characters) → near_name (encode_utf8_all word) ≡ Some name
-    → IsAdvised o word name
+NearWords = (o : Options) (word name : Characters) → near_name word ≡ Some name → IsAdvised o word name
+
+-- With more names, each word that named a unit still names it, and the unit has the same length. A
+-- text that is read without them is read as the same value.
+pub record MoreNames : Type 0 where
+  pub names : (o : Options) (default_unit : Option TimeUnit) (word : Characters) (u : TimeUnit)
+      → unit_of_word (rules_with o default_unit) word ≡ Some u → unit_of_word (more_rules o default_unit) word ≡ Some u
+  pub lengths : (u : TimeUnit) → (more_row_of u).nanos ≡ nanos_of u
+  pub value : (o : Options) (default_unit : Option TimeUnit) (text : Characters) (nanos : ℕ)
+      → IsRead (rules_with o default_unit) text nanos → IsRead (more_rules o default_unit) text nanos

@@ -9,9 +9,12 @@ use Rattle.duration_str.specs.declared.cause.Expected.{Expected}
 use Rattle.duration_str.specs.declared.cause.Cause.{Cause}
 use Rattle.duration_str.specs.declared.cause.Cause.TheVariants.{Empty, Syntax, NumberTooLarge, Overflow, Mixed}
 use Rattle.duration_str.specs.declared.unit.TimeUnit.{TimeUnit}
-use Rattle.duration_str.specs.declared.unit.TimeUnit.TheVariants.{Year, Quarter, Month, Week, Day, Hour, Minute, Second, MilliSecond, MicroSecond, NanoSecond}
+use Rattle.duration_str.specs.declared.unit.TimeUnit.TheVariants.{Month, MicroSecond}
 use Rattle.duration_str.specs.Text.{Bytes, Characters, is_blank, is_digit}
 use Rattle.duration_str.specs.Units.{units, row_of}
+use Rattle.duration_str.specs.MoreNames.{more_names, more_rules}
+use Rattle.duration_str.specs.Options.{off}
+use Rattle.duration_str.specs.Rules.{unit_of_word}
 use Rattle.duration_str.specs.Messages.{line_of, chars_before}
 
 -- ---- What is quoted
@@ -72,43 +75,30 @@ first_piece (c ∷ text) = c ∷ take 40 (take_while (is_like c) text)
 
 -- ---- Help
 
--- the near words of the month that mean a month only in small letters, since `Mo` can mean a
--- megabyte
+-- words for the month that count only in small letters, since `Mo` can mean a megabyte
 abbrev pub small_words : List Characters
 small_words = codes "mo" ∷ codes "mos" ∷ []
 
--- the near words of the microsecond that don't have the micro sign. The last five have the Greek
--- letter mu (U+03BC), which looks like the micro sign
-abbrev pub us_words : List Characters
-us_words =
-    codes "usecs" ∷ codes "useconds" ∷ codes "micros" ∷ codes "μs" ∷ codes "μsec" ∷ codes "μsecs" ∷ codes "μsecond"
-    ∷ codes "μseconds" ∷ []
+-- the word with the micro sign in place of the Greek letter mu (U+03BC), which looks like it
+abbrev pub with_micro_sign : Characters → Characters
+with_micro_sign word = map (λ c. if c == 0x3BC then 0xB5 else c) word
 
--- words that people write for a unit and that the library's own table lacks, in small letters
-abbrev pub near_words : TimeUnit → List Characters
-near_words Year = codes "yr" ∷ codes "yrs" ∷ []
-near_words Quarter = codes "qtr" ∷ codes "qtrs" ∷ []
-near_words Month = codes "mons" ∷ codes "mth" ∷ codes "mths" ∷ small_words
-near_words Week = codes "wk" ∷ codes "wks" ∷ []
-near_words Day = []
-near_words Hour = codes "hrs" ∷ []
-near_words Minute = codes "mins" ∷ []
-near_words Second = codes "secs" ∷ []
-near_words MilliSecond = codes "msecs" ∷ codes "millis" ∷ []
-near_words MicroSecond = codes "µsecs" ∷ codes "µseconds" ∷ us_words
-near_words NanoSecond = codes "nsecs" ∷ codes "nanos" ∷ []
+-- The unit for which people write a word that the library's own table lacks. These words are not
+-- read, or only with more names.
+abbrev pub near_unit : Characters → Option TimeUnit
+near_unit word =
+    if list_any (bytes_eq word) small_words then Some Month
+    else if list_any (λ c. c == 0x3BC) word then unit_of_word (more_rules off None) (with_micro_sign word)
+    else find (λ u. list_any (bytes_eq (map to_ascii_lowercase word)) (more_names u)) units
 
-abbrev pub is_among : List Characters → Bytes → Bool
-is_among words bytes = list_any (bytes_eq bytes) (map encode_utf8_all words)
+-- the name of a unit that a help names: the printed name, but `us` instead of `µs`
+abbrev pub help_name : TimeUnit → Characters
+help_name MicroSecond = codes "us"
+help_name u = (row_of u).printed
 
--- the name to write instead of a word, if any, given the word's bytes. It is the printed name of
--- the unit that the word is near, but `us` instead of `µs` for a word without the micro sign
-abbrev pub near_name : Bytes → Option Characters
-near_name word =
-    let small = map to_ascii_lowercase word in
-    if is_among small_words small then (if is_among small_words word then Some (codes "mon") else None)
-    else if is_among us_words small then Some (codes "us")
-    else option_map (λ u. (row_of u).printed) (find (λ u. is_among (near_words u) small) units)
+-- the name to write instead of a word, if any
+abbrev pub near_name : Characters → Option Characters
+near_name word = option_map help_name (near_unit word)
 
 abbrev pub name_help : Bytes → Bytes
 name_help name = codes " (did you mean \"" ++ (name ++ codes "\"?)")
@@ -208,7 +198,7 @@ syntax_line text place expected piece =
     let column = chars_before text place + 1 in
     let bytes = encode_utf8_all piece in
     let help = help_at expected text place bytes in
-    if expected.unit_word && begins_with_letter piece then unknown_line column piece (unit_help (near_name bytes) help)
+    if expected.unit_word && begins_with_letter piece then unknown_line column piece (unit_help (near_name piece) help)
     else found_line (expected_words expected) column piece (missing_unit_help expected text help)
 
 abbrev pub text_line : Bytes → Bytes → Bytes → Bytes

@@ -3,10 +3,10 @@ ghost use Rattle.std.specs.Prelude.{◌≡◌, encode_utf8_all};
 ghost use Rattle.duration_str.specs.Answer.{expected_at_start, expected_after_number, expected_after_unit};
 ghost use Rattle.duration_str.specs.Faults.{place_of};
 ghost use Rattle.duration_str.specs.Messages.{line_of};
-ghost use Rattle.duration_str.specs.Internal.UnitTable.{meaning_of};
+ghost use Rattle.duration_str.specs.Meaning.{meaning_of};
 
 use crate::operator::CondUnit;
-use crate::settings::Settings;
+use crate::rules::Rules;
 
 /// What could stand at the place of a syntax fault. Each field says whether one kind of item could
 /// stand there.
@@ -46,25 +46,25 @@ impl Expected {
     }
 
     #[inline(always)]
-    pub(crate) fn after_number(settings: Settings) -> Expected
-        ensures { result ≡ expected_after_number (meaning_of settings) }
+    pub(crate) fn after_number(rules: Rules) -> Expected
+        ensures { result ≡ expected_after_number (meaning_of rules) }
     {
         Expected {
             number: false,
             unit_word: true,
-            operator: settings.default_unit.is_some() && !settings.options.no_calc,
-            text_end: settings.default_unit.is_some(),
+            operator: rules.default_unit.is_some() && !rules.options.no_calc,
+            text_end: rules.default_unit.is_some(),
         }
     }
 
     #[inline(always)]
-    pub(crate) fn after_unit(settings: Settings) -> Expected
-        ensures { result ≡ expected_after_unit (meaning_of settings) }
+    pub(crate) fn after_unit(rules: Rules) -> Expected
+        ensures { result ≡ expected_after_unit (meaning_of rules) }
     {
         Expected {
             number: true,
             unit_word: false,
-            operator: !settings.options.no_calc,
+            operator: !rules.options.no_calc,
             text_end: true,
         }
     }

@@ -1,6 +1,6 @@
 //! Laws about the definitions. Each function does nothing, and its contract states a law, which is
 //! proved. In the comments, texts are read by the library's own table of units.
-ghost use Rattle.duration_str.specs.Laws.{OneSentence, OneCut, OneReading, AnswerIsReading, PlaceAndKinds, NoCalcAgrees, OptionsIdle, BlanksFree, SumOfTexts, Reorder, TwoFactors, GreatestBreakdown, EqualTexts, ReadsBack, LastLine, OlderTexts, AllParts, NeverMore, OneRounding, PartsAndRest, NearWords};
+ghost use Rattle.duration_str.specs.Laws.{OneSentence, OneCut, OneReading, AnswerIsReading, PlaceAndKinds, NoCalcAgrees, OptionsIdle, BlanksFree, SumOfTexts, Reorder, TwoFactors, GreatestBreakdown, EqualTexts, ReadsBack, LastLine, OlderTexts, AllParts, NeverMore, OneRounding, PartsAndRest, NearWords, MoreNames};
 
 /// At most one sentence spells a text, and the lexemes of that sentence are those of the text's
 /// tokens. Each text is either read as one value or refused for one cause, and the computed answer
@@ -155,4 +155,13 @@ pub fn parts_and_rest()
 #[tactic(auto, using(crate::proofs::LawProofs::NearWords::near_words_hold))]
 pub fn near_words()
     ensures { NearWords }
+{}
+
+/// With more names, each name of the library's own table still names its unit, whose length is the
+/// same. A text that is read without them is read as the same value, under all options and with any
+/// default unit. So `1h 30m` is 5,400 seconds with and without them. The law says nothing about
+/// texts that are refused without them: `5 mins` is read with them.
+#[tactic(auto, using(crate::proofs::LawProofs::OlderTexts::more_names_hold))]
+pub fn more_names()
+    ensures { MoreNames }
 {}

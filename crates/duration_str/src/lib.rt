@@ -13,6 +13,7 @@ mod format;
 mod humantime;
 pub mod laws;
 mod message;
+mod more_names;
 mod one_line;
 mod operator;
 mod options;
@@ -22,7 +23,7 @@ pub mod printing;
 mod reader;
 mod report;
 mod rounding;
-mod settings;
+mod rules;
 mod signed;
 mod table;
 mod term;
@@ -36,14 +37,15 @@ pub use ext::HumanFormat;
 pub use format::{Format, Style, Units};
 pub use one_line::{MAX_ONE_LINE_LEN, ONE_LINE_BUFFER_SIZE};
 pub use parser::{
-    Cause, Expected, Fault, parse, parse_humantime_specialized, parse_looked, parse_nanos,
-    parse_nanos_specialized, parse_std, parse_with, parse_with_default_unit,
+    Cause, Expected, Fault, parse, parse_by, parse_looked, parse_nanos, parse_nanos_specialized,
+    parse_std, parse_with,
 };
 pub use printing::{
     FORMAT_BUFFER_SIZE, HUMAN_BUFFER_SIZE, MAX_LONG_LEN, MAX_PRINTED_LEN, write_format, write_human,
 };
 pub use report::REPORT_BUFFER_SIZE;
 pub use rounding::{Rounding, round_to};
+pub use rules::Rules;
 pub use token::{Token, Tokens, What};
 pub use top::{
     DeserializeDuration, after_naive_date, after_naive_date_time, before_naive_date,

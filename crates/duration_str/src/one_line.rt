@@ -7,7 +7,7 @@
 ghost use Rattle.std.specs.Prelude.{◌≡◌, ◌≤◌, ◌++◌, ◌+◌, ◌-◌, ◌&&◌, ◌==◌, not, slice_index, length, take, map, encode_utf8_all, IsTrue, ◌||◌, None, if◌then◌else◌};
 ghost use Rattle.std.specs.Char.{to_ascii_lowercase};
 ghost use Rattle.std.specs.Char.Escape.{escape_default};
-ghost use Rattle.std.specs.List.{find, list_all};
+ghost use Rattle.std.specs.List.{list_all, list_any};
 ghost use Rattle.std.specs.Str.{chars, bytes_eq, IsCharBoundary};
 ghost use Rattle.duration_str.specs.Buffers.{IsInFront};
 ghost use Rattle.duration_str.specs.Text.{is_blank, is_digit};
@@ -15,15 +15,19 @@ ghost use Rattle.duration_str.specs.Internal.Positions.{ahead};
 ghost use Rattle.duration_str.specs.Faults.{place_of};
 ghost use Rattle.duration_str.specs.Messages.{chars_before};
 ghost use Rattle.std.specs.Option.{ForSome};
-ghost use Rattle.duration_str.specs.Internal.UnitTable.{is_megabyte, is_near};
 ghost use Rattle.std.specs.Int.{is_in_range};
-ghost use Rattle.duration_str.specs.OneLine.{one_line_of, is_plain, is_clear, is_letter, is_like, first_piece, shown, quoted, at_column, found_line, found_words, unknown_line, syntax_line, text_line, overflow_line, expected_words, begins_with_letter, near_name, name_help, unit_help, first_help, digit_help, help_or_units, help_at, missing_unit_help};
-ghost use Rattle.duration_str.specs.declared.one_line.TheConstants.{MAX_ONE_LINE_LEN, NEAR_WORDS};
+ghost use Rattle.duration_str.specs.OneLine.{one_line_of, is_plain, is_clear, is_letter, is_like, first_piece, shown, quoted, at_column, found_line, found_words, unknown_line, syntax_line, text_line, overflow_line, expected_words, begins_with_letter, help_name, near_name, near_unit, name_help, unit_help, first_help, digit_help, help_or_units, help_at, missing_unit_help};
+ghost use Rattle.duration_str.specs.declared.one_line.TheConstants.{MAX_ONE_LINE_LEN};
 
 use crate::cause::{Cause, Expected};
 use crate::fault::Fault;
 use crate::message::{chars_before, put, put_decimal};
+use crate::more_names;
+use crate::more_names::added_unit;
+use crate::options::Options;
+use crate::packed::packed_word;
 use crate::token::is_blank;
+use crate::unit::TimeUnit;
 
 /// No fault's line has more bytes than this.
 ///
@@ -112,7 +116,7 @@ fn column_at(text: &str, place: usize) -> usize
 
 fn put_unknown(buffer: &mut [u8], column: usize, word: &str, help: &str) -> Option<usize>
     ensures { IsInFront (unknown_line column (chars word.now)
-        (unit_help (near_name word.now) help.now))
+        (unit_help (near_name (chars word.now)) help.now))
         result buffer.new }
 {
     let start = put(buffer, 0, b"unknown unit ")?;
@@ -351,11 +355,11 @@ fn expected_words(expected: Expected) -> &'static str
 
 fn put_unit_help(buffer: &mut [u8], at: usize, word: &str, help: &str) -> Option<usize>
     requires { at ≤ length buffer.old }
-    ensures { IsInFront (take at buffer.old ++ unit_help (near_name word.now) help.now)
+    ensures { IsInFront (take at buffer.old ++ unit_help (near_name (chars word.now)) help.now)
         result buffer.new }
 {
-    match near_row(word) {
-        Some(row) => put_name_help(buffer, at, row.1.trim_ascii_end()),
+    match near_unit(word) {
+        Some(unit) => put_name_help(buffer, at, help_name(unit)),
         None => put_text(buffer, at, help_or_units(help)),
     }
 }
@@ -379,69 +383,32 @@ fn put_name_help(buffer: &mut [u8], at: usize, name: &[u8]) -> Option<usize>
     put(buffer, end, b"\"?)")
 }
 
-fn near_row(word: &str) -> Option<([u8; 9], [u8; 3])>
-    ensures { result ≡ (if is_megabyte word.now then None
-        else find (λ row. is_near row.0 word.now) NEAR_WORDS) }
+/// Returns the unit for which people write a word that the library's own table lacks.
+fn near_unit(word: &str) -> Option<TimeUnit>
+    ensures { result ≡ near_unit (chars word.now) }
 {
-    if is_megabyte(word) {
-        return None;
+    if word == "mo" || word == "mos" {
+        return Some(TimeUnit::Month);
     }
-    row_beside(word)
+    let (packed, greek) = packed_word(word, Options::off(), true)?;
+    if greek {
+        more_names::unit_of_packed(packed)
+    } else {
+        added_unit(packed)
+    }
 }
 
-fn row_beside(word: &str) -> Option<([u8; 9], [u8; 3])>
-    ensures { result ≡ find (λ row. is_near row.0 word.now) NEAR_WORDS }
-{
-    NEAR_WORDS.iter().copied().find(|row| is_near(&row.0, word))
-}
-
-/// Whether the word is `mo` or `mos` with a capital. No name is advised for such a word, since `Mo`
-/// can mean a megabyte.
-fn is_megabyte(word: &str) -> bool
-    ensures { result ≡ is_megabyte word.now }
-{
-    (is_word(word, "mo") || is_word(word, "mos")) && word != "mo" && word != "mos"
-}
-
-fn is_near(near: &[u8; 9], word: &str) -> bool
-    ensures { result ≡ is_near near.now word.now }
-{
-    word.as_bytes().eq_ignore_ascii_case(near.trim_ascii_end())
-}
-
-/// Words that people write for a unit but that the library's own table lacks, each with the name to
-/// write instead. Words and names are filled up with spaces to a fixed length, since the addresses
-/// in string slices would make a program larger. The five words after `micros` have a Greek mu.
-static NEAR_WORDS: [([u8; 9], [u8; 3]); 28] = [
-    (*b"usecs    ", *b"us "),
-    (*b"useconds ", *b"us "),
-    (*b"micros   ", *b"us "),
-    (*b"\xCE\xBCs      ", *b"us "),
-    (*b"\xCE\xBCsec    ", *b"us "),
-    (*b"\xCE\xBCsecs   ", *b"us "),
-    (*b"\xCE\xBCsecond ", *b"us "),
-    (*b"\xCE\xBCseconds", *b"us "),
-    (*b"yr       ", *b"y  "),
-    (*b"yrs      ", *b"y  "),
-    (*b"qtr      ", *b"q  "),
-    (*b"qtrs     ", *b"q  "),
-    (*b"mons     ", *b"mon"),
-    (*b"mth      ", *b"mon"),
-    (*b"mths     ", *b"mon"),
-    (*b"mo       ", *b"mon"),
-    (*b"mos      ", *b"mon"),
-    (*b"wk       ", *b"w  "),
-    (*b"wks      ", *b"w  "),
-    (*b"hrs      ", *b"h  "),
-    (*b"mins     ", *b"min"),
-    (*b"secs     ", *b"s  "),
-    (*b"msecs    ", *b"ms "),
-    (*b"millis   ", *b"ms "),
-    (*b"\xC2\xB5secs   ", *b"\xC2\xB5s"),
-    (*b"\xC2\xB5seconds", *b"\xC2\xB5s"),
-    (*b"nsecs    ", *b"ns "),
-    (*b"nanos    ", *b"ns "),
+/// The name of each unit that a help names, the longest unit first, filled up with spaces.
+static HELP_NAMES: [[u8; 3]; 11] = [
+    *b"y  ", *b"q  ", *b"mon", *b"w  ", *b"d  ", *b"h  ", *b"min", *b"s  ", *b"ms ", *b"us ",
+    *b"ns ",
 ];
+
+fn help_name(unit: TimeUnit) -> &'static [u8]
+    ensures { result.now ≡ encode_utf8_all (help_name unit) }
+{
+    HELP_NAMES[unit.rank()].trim_ascii_end()
+}
 
 fn is_word(word: &str, name: &str) -> bool
     ensures { result ≡ bytes_eq (map to_ascii_lowercase word.now)

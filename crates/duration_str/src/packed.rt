@@ -3,10 +3,12 @@
 //! small letter.
 ghost use Rattle.std.specs.Prelude.{◌≡◌, ◌+◌, ◌*◌, ◌%◌, ◌^◌, ◌&&◌, ◌||◌, ◌==◌, true, if◌then◌else◌, Some};
 ghost use Rattle.std.specs.Char.{is_ascii_alphabetic};
+ghost use Rattle.std.specs.List.{list_any};
+ghost use Rattle.std.specs.Option.{option_map};
 ghost use Rattle.std.specs.Str.{chars};
 ghost use Rattle.duration_str.specs.Text.{is_unit_letter, is_chinese};
 ghost use Rattle.duration_str.specs.Internal.Positions.{letter_number, wide_number};
-ghost use Rattle.duration_str.specs.Internal.UnitTable.{unit_of_packed};
+ghost use Rattle.duration_str.specs.Internal.UnitTable.{is_greek_mu, micro_if, packed_word, unit_of_packed, with_micro};
 ghost use Rattle.duration_str.specs.Units.{row_of};
 ghost use Rattle.duration_str.specs.declared.unit.TimeUnit.{TimeUnit};
 
@@ -34,16 +36,36 @@ impl TimeUnit {
         ensures only { (unit : TimeUnit) → is_named (rules_of o) (chars word.now) unit ≡ true
             → unit_of_word (rules_of o) (chars word.now) ≡ Some unit }
     {
-        if word.len() > MOST_BYTES {
-            return None;
-        }
-        let mut packed = 0;
-        let mut chars = word.chars();
-        while let Some(c) = chars.next() {
-            packed = with_letter(packed, letter_number(c, o)?);
-        }
-        unit_of_packed(packed)
+        unit_of_packed(packed_word(word, o, false)?.0)
     }
+}
+
+/// Returns the packed number of a word that can be a name, and whether it has a Greek letter mu. All
+/// characters are unit letters, and it has no more bytes than the longest name. If `folds` is true,
+/// the micro sign stands in place of each Greek letter mu.
+#[inline(always)]
+pub(crate) fn packed_word(word: &str, o: Options, folds: bool) -> Option<(u64, bool)>
+    ensures { result ≡ option_map (λ n. (n, list_any is_greek_mu (chars word.now)))
+        (packed_word o (with_micro folds (chars word.now))) }
+{
+    if word.len() > MOST_BYTES {
+        return None;
+    }
+    let mut packed = 0;
+    let mut greek = false;
+    let mut chars = word.chars();
+    while let Some(c) = chars.next() {
+        greek = greek | (c == 'μ');
+        packed = with_letter(packed, letter_number(micro_if(folds, c), o)?);
+    }
+    Some((packed, greek))
+}
+
+#[inline(always)]
+fn micro_if(folds: bool, c: char) -> char
+    ensures { result ≡ micro_if folds c }
+{
+    if folds && c == 'μ' { 'µ' } else { c }
 }
 
 /// The most bytes that a name has. The packed number of 12 letters fits into a `u64`.
@@ -136,7 +158,7 @@ fn wide_number(c: char, cn_unit: bool) -> u64
 /// name.
 const CAPITAL: u64 = 26;
 
-const CAPITAL_M: u64 = 39;
+pub(crate) const CAPITAL_M: u64 = 39;
 
 #[inline]
 pub(crate) fn unit_of_packed(packed: u64) -> Option<TimeUnit>

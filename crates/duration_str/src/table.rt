@@ -1,17 +1,21 @@
 //! The tables of units by which a text can be read.
 ghost use Rattle.std.specs.Prelude.{◌≡◌};
 ghost use Rattle.duration_str.specs.Internal.Numbers.{checked_term};
-ghost use Rattle.duration_str.specs.Internal.UnitTable.{table_of, unit_of_packed};
+ghost use Rattle.duration_str.specs.Internal.UnitTable.{unit_of_packed};
+ghost use Rattle.duration_str.specs.Meaning.{table_of};
 
 use crate::cause::Cause;
 use crate::humantime;
+use crate::more_names;
 use crate::packed::unit_of_packed;
 use crate::unit::TimeUnit;
 
-#[derive(Clone, Copy)]
+#[derive(Clone, Copy, Debug, PartialEq, Eq)]
 pub(crate) enum UnitTable {
     Own,
-    /// The table of the crate humantime, with the library's own names added.
+    /// The library's own table with more names, such as `mins`.
+    More,
+    /// The table of the crate humantime, with the names that the library reads added.
     Humantime,
 }
 
@@ -22,6 +26,7 @@ impl UnitTable {
     {
         match self {
             UnitTable::Own => unit_of_packed(packed),
+            UnitTable::More => more_names::unit_of_packed(packed),
             UnitTable::Humantime => humantime::unit_of_packed(packed),
         }
     }
@@ -41,7 +46,7 @@ impl UnitTable {
             return Err(Cause::NumberTooLarge { place });
         };
         match self {
-            UnitTable::Own => {
+            UnitTable::Own | UnitTable::More => {
                 let row = unit.printed();
                 // In WebAssembly `checked_mul` would be a call.
                 if n > row.most {

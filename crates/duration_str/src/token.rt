@@ -9,7 +9,7 @@ ghost use Rattle.duration_str.specs.Internal.Positions.{ahead, Stands, StandsAt,
 ghost use Rattle.duration_str.specs.Tokens.{tokens_of};
 ghost use Rattle.duration_str.specs.Value.{fits};
 ghost use Rattle.duration_str.specs.Rules.{rules_of};
-ghost use Rattle.duration_str.specs.Internal.UnitTable.{meaning_of};
+ghost use Rattle.duration_str.specs.Meaning.{meaning_of};
 ghost use Rattle.duration_str.specs.declared.token.TokenStart.{TokenStart};
 ghost use Rattle.duration_str.specs.declared.token.TokenStart.TheVariants.{Number as a_number, Word as a_word};
 
@@ -19,7 +19,7 @@ use crate::options::Options;
 use crate::packed::{
     MODULUS, MOST_BYTES, first_number, is_unit_letter, letter_number, with_letter,
 };
-use crate::settings::Settings;
+use crate::rules::Rules;
 use crate::unit::TimeUnit;
 
 /// What a token is: a number, a word with the unit that it names, if any, an operator, or another
@@ -258,16 +258,16 @@ impl<'a> Tokens<'a> {
     }
 
     #[inline(always)]
-    pub(crate) fn take_word(&mut self, settings: Settings) -> Option<TimeUnit>
+    pub(crate) fn take_word(&mut self, rules: Rules) -> Option<TimeUnit>
         requires { IsAhead self.old (Some a_word) }
-        ensures { TakesToken (meaning_of settings) self.old self.new (word result) }
+        ensures { TakesToken (meaning_of rules) self.old self.new (word result) }
     {
         let start = self.eye.place();
         let packed = self.take_letters();
         if self.eye.place() - start > MOST_BYTES {
             return None;
         }
-        settings.table.unit_of_packed(packed)
+        rules.table.unit_of_packed(packed)
     }
 
     #[inline(always)]
@@ -281,7 +281,7 @@ impl<'a> Tokens<'a> {
                 let _ = self.take_number();
                 What::Number
             }
-            TokenStart::Word => What::Word(self.take_word(Settings::of(self.options))),
+            TokenStart::Word => What::Word(self.take_word(Rules::of(self.options))),
             TokenStart::Operator(operator) => {
                 self.advance();
                 What::Operator(operator)

@@ -1,19 +1,20 @@
 -- Examples that are computed, such as which bits are options, and the counts of units.
 use Rattle.std.proofs.Common.{◌≡◌, ◌+◌, ◌∷◌, [], codes, false, negsuc, None, pos, Some, true}
 use Rattle.duration_str.specs.Options.{off}
-use Rattle.duration_str.specs.declared.unit.TimeUnit.TheVariants.{Day, Hour, MilliSecond, NanoSecond, Second, Year}
+use Rattle.duration_str.specs.declared.unit.TimeUnit.TheVariants.{Day, Hour, MilliSecond, Minute, NanoSecond, Second, Year}
 use Rattle.duration_str.specs.Breakdown.{parts_in, sum_of_parts}
+use Rattle.duration_str.specs.MoreNames.{more_row_of}
 use Rattle.duration_str.specs.Rules.{rules_of, unit_of_word}
-use Rattle.duration_str.specs.Units.{units}
-use Rattle.duration_str_c.specs.Answers.{are_options, default_unit_of_bits}
+use Rattle.duration_str.specs.Units.{row_of, units}
+use Rattle.duration_str_c.specs.Answers.{are_options, default_unit_of_bits, rules_of_bits}
 use Rattle.duration_str_c.specs.Breakdown.{counts_of}
 use Rattle.duration_str_c.specs.Units.{number_of}
 
 pub record Bits : Type 0 where
   -- ---- The options
   pub none : are_options 0 ≡ true
-  pub all : are_options 15 ≡ true
-  pub fifth_bit : are_options 16 ≡ false
+  pub all : are_options 31 ≡ true
+  pub sixth_bit : are_options 32 ≡ false
   pub between : are_options 0x8001 ≡ false
   pub year : are_options 0x10001 ≡ true
   pub milliseconds : are_options 0x90001 ≡ true
@@ -24,6 +25,9 @@ pub record Bits : Type 0 where
   pub fifth_above : are_options 0x100001 ≡ false
   pub milliseconds-operators : are_options 0x90000 ≡ false
   pub milliseconds-required : are_options 0x90009 ≡ false
+  -- ---- The names
+  pub names-more : (rules_of_bits 17).table Minute ≡ more_row_of Minute
+  pub names-own : (rules_of_bits 15).table Minute ≡ row_of Minute
   -- ---- The default unit
   pub unit-none_given : default_unit_of_bits 1 ≡ Some Second
   pub unit-required : default_unit_of_bits 8 ≡ None

@@ -15,6 +15,7 @@ use Rattle.duration_str.specs.Faults.{place_of, found_token}
 use Rattle.duration_str.specs.declared.unit.TimeUnit.{TimeUnit}
 use Rattle.duration_str.specs.declared.unit.TimeUnit.TheVariants.{Second}
 use Rattle.duration_str.specs.Units.{units}
+use Rattle.duration_str.specs.MoreNames.{more_rules}
 use Rattle.duration_str.specs.Rules.{Rules, rules_with}
 use Rattle.duration_str.specs.Reading.{IsRead, IsRefused}
 use Rattle.duration_str_c.specs.declared.answer.Answer.{Answer}
@@ -27,12 +28,12 @@ has_flag bits flag = not (bit_and bits flag == 0)
 abbrev pub unit_field : ℕ → ℕ
 unit_field bits = bits / 2 ^ 16
 
--- whether the bits are options: the flags 1, 2, 4 and 8, and a field of the four bits from 2^16 to
--- 2^19. The field is 0, or a unit's index plus 1. If it is not 0, the flag 1 must be set, so that
+-- whether the bits are options: the flags 1, 2, 4, 8 and 16, and a field of the four bits from 2^16
+-- to 2^19. The field is 0, or a unit's index plus 1. If it is not 0, the flag 1 must be set, so that
 -- no operators are read, and the flag 8, which requires a unit, must not be set
 abbrev pub are_options : ℕ → Bool
 are_options bits =
-    bit_and bits 0xF000F == bits
+    bit_and bits 0xF001F == bits
     && (unit_field bits == 0
     || (nat_le (unit_field bits) (length units) && has_flag bits 1 && not (has_flag bits 8)))
 
@@ -48,8 +49,11 @@ default_unit_of_bits bits =
     else if unit_field bits == 0 then Some Second
     else slice_get units (unit_field bits - 1)
 
+-- the rules that the bits stand for. The flag 16 is for more names
 abbrev pub rules_of_bits : ℕ → Rules
-rules_of_bits bits = rules_with (options_of_bits bits) (default_unit_of_bits bits)
+rules_of_bits bits =
+    if has_flag bits 16 then more_rules (options_of_bits bits) (default_unit_of_bits bits)
+    else rules_with (options_of_bits bits) (default_unit_of_bits bits)
 
 abbrev pub cause_number : Cause → ℕ
 cause_number Empty = 1

@@ -8,6 +8,7 @@ ghost use Rattle.std.specs.Bool.{MatchBool};
 ghost use Rattle.std.specs.Str.{chars};
 ghost use Rattle.duration_str.specs.Options.{off};
 ghost use Rattle.duration_str.specs.OtherResults.{Reads};
+ghost use Rattle.duration_str.specs.Meaning.{meaning_of};
 ghost use Rattle.duration_str.specs.Rules.{rules_of};
 ghost use Rattle.duration_str.specs.Reading.{IsRead};
 ghost use Rattle.duration_str.specs.Printing.{IsPrinted};
@@ -24,8 +25,8 @@ pub mod unit;
 use crate::answer::Answer;
 use crate::message::refusal_of;
 use duration_str::{
-    Fault, HUMAN_BUFFER_SIZE, Options, TimeUnit, UNITS, parse_nanos, parse_nanos_specialized,
-    write_human,
+    Fault, HUMAN_BUFFER_SIZE, Options, Rules, TimeUnit, UNITS, parse_nanos,
+    parse_nanos_specialized, write_human,
 };
 use std::time::Duration;
 
@@ -37,10 +38,12 @@ const CN_UNIT: u32 = 4;
 
 const REQUIRE_UNIT: u32 = 8;
 
+const MORE_NAMES: u32 = 16;
+
 /// The bits from bit 16 on hold 0, or the default unit's index in `UNITS` plus 1.
 const DEFAULT_UNIT: u32 = 16;
 
-const OPTIONS: u32 = 0xF_000F;
+const OPTIONS: u32 = 0xF_001F;
 
 pub(crate) fn options_of_bits(bits: u32) -> Options
     ensures { result ≡ options_of_bits bits }
@@ -86,7 +89,7 @@ pub fn duration_str_parse(text: &[u8], nanos: &mut u64) -> bool
     let Some(text) = text_of(text) else {
         return false;
     };
-    match parse_nanos_specialized(text, Options::off(), Some(TimeUnit::Second)) {
+    match parse_nanos_specialized(text, Rules::of(Options::off())) {
         Ok(value) => {
             *nanos = value;
             true
@@ -138,7 +141,20 @@ pub fn duration_str_parse_with(text: &[u8], options: u32, answer: &mut Answer) -
 pub(crate) fn read_by(text: &str, bits: u32) -> Result<u64, Fault<'_>>
     ensures { Reads (rules_of_bits bits) text.now result }
 {
-    parse_nanos(text, options_of_bits(bits), default_unit_of_bits(bits))
+    if bits == 0 {
+        return parse_nanos(text, Rules::of(Options::off()));
+    }
+    let own = Rules::of(options_of_bits(bits)).default_unit(default_unit_of_bits(bits));
+    let more = bits & MORE_NAMES != 0;
+    read_chosen(text, if more { own.more_names() } else { own })
+}
+
+/// One copy of the reader serves all options, so that the library is small.
+#[inline(never)]
+fn read_chosen(text: &str, rules: Rules) -> Result<u64, Fault<'_>>
+    ensures { Reads (meaning_of rules) text.now result }
+{
+    parse_nanos_specialized(text, rules)
 }
 
 /// The version: the major number times a million, plus the minor number times a thousand, plus the

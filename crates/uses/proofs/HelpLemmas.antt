@@ -1,4 +1,4 @@
-use Rattle.std.proofs.Common.{encode_utf8_all, List, Result, Some, sym, ℕ, ◌∙◌, ◌≡◌}
+use Rattle.std.proofs.Common.{List, Result, Some, sym, ℕ, ◌∙◌, ◌≡◌}
 use Rattle.duration_str.specs.Laws.{NearWords}
 use Rattle.duration_str.specs.OneLine.{near_name}
 use Rattle.duration_str.proofs.Common.{answer, AnswerIsReading, Rules}
@@ -12,5 +12,5 @@ computed_is_only law r text a e = record {
   refused = λ cause. (λ h. e ∙ (law.refused r text cause).1 h, λ is. (law.refused r text cause).0 (sym e ∙ is));
 }
 
-pub replaced : NearWords → (name word : List ℕ) → near_name (encode_utf8_all word) ≡ Some name → IsReplacedBy name word
+pub replaced : NearWords → (name word : List ℕ) → near_name word ≡ Some name → IsReplacedBy name word
 replaced law name word near o = law o word name near

@@ -1,6 +1,9 @@
 -- Lemmas about texts that mean the same under all options, and by two tables of units.
-use Rattle.std.proofs.Common.{arith, Bool, false, IsTrue, List, not, subst, sym, true, ℕ, ◌↔◌, ◌∙◌, ◌≡◌}
-use Rattle.duration_str.proofs.Common.{HasNoCapital, HasNoChinese, HasNoOperator, is_ascii_uppercase, is_operator, list_all, NoCalcAgrees, OneReading, OptionsIdle, rules, IsRead, IsRefused, Rules, rules_with}
+use Rattle.std.proofs.Common.{ap, arith, Bool, chars, Err, false, IsTrue, List, not, Ok, Option, Result, subst, sym, true, ℕ, ◌↔◌, ◌∙◌, ◌≡◌}
+use Rattle.duration_str.proofs.Common.{HasNoCapital, HasNoChinese, HasNoOperator, is_ascii_uppercase, is_operator, list_all, more_rules, MoreNames, NoCalcAgrees, OneReading, OptionsIdle, rules, IsRead, IsRefused, Rules, rules_with}
+use Rattle.duration_str.specs.declared.fault.Fault.{Fault}
+use Rattle.duration_str.specs.declared.unit.TimeUnit.{TimeUnit}
+use Rattle.duration_str.specs.OtherResults.{Reads}
 use Rattle.uses.proofs.Common.{Cause, Options}
 use Rattle.uses.specs.Common.{is_chinese}
 use Rattle.duration_str.proofs.Characters.CharacterLemmas.{all_weaker}
@@ -74,3 +77,14 @@ module _ (law : OneReading) (r s : Rules) (text : List ℕ) where
     λ h. absurd (law.not_both r text k cause h refused),
     λ h. absurd (law.not_both s text k other h other_refused),
   )
+
+-- A text that is read without more names is read as the same value with them.
+pub kept_value : MoreNames → OneReading → (o : Options) (default_unit : Option TimeUnit) (r : Rules) (bytes : List ℕ)
+    (result : Result ℕ Fault) → r ≡ more_rules o default_unit → Reads r bytes result → (nanos : ℕ)
+    → IsRead (rules_with o default_unit) (chars bytes) nanos → result ≡ Ok nanos
+kept_value law one o default_unit r bytes (Ok n) same reads nanos is =
+    let more : IsRead r (chars bytes) nanos = rw same (law.value o default_unit (chars bytes) nanos is) in
+    ap Ok (one.one_value r (chars bytes) n nanos reads.read more)
+kept_value law one o default_unit r bytes (Err fault) same reads nanos is =
+    let more : IsRead r (chars bytes) nanos = rw same (law.value o default_unit (chars bytes) nanos is) in
+    absurd (let ok = reads.accepts nanos more in cc)

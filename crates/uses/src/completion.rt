@@ -8,7 +8,7 @@ ghost use Rattle.uses.specs.Completion.{IsCompletion};
 
 use duration_str::laws::{one_sentence, place_and_kinds};
 use duration_str::{
-    Cause, Expected, Options, TimeUnit, parse_humantime_specialized, parse_with_default_unit,
+    Cause, Expected, Options, Rules, TimeUnit, parse_by, parse_nanos_specialized,
 };
 
 /// The place of a syntax fault, and what can be typed there.
@@ -39,7 +39,7 @@ pub fn complete(text: &str, o: Options, default_unit: Option<TimeUnit>) -> Optio
 {
     one_sentence();
     place_and_kinds();
-    let answer = parse_with_default_unit(text, o, default_unit);
+    let answer = parse_by(text, Rules::of(o).default_unit(default_unit));
     match answer {
         Ok(_) => None,
         Err(fault) => at_place(fault.cause()),
@@ -60,7 +60,7 @@ pub fn complete_humantime(text: &str, o: Options) -> Option<Completion>
 {
     one_sentence();
     place_and_kinds();
-    match parse_humantime_specialized(text, o) {
+    match parse_nanos_specialized(text, Rules::humantime(o)) {
         Ok(_) => None,
         Err(fault) => at_place(fault.cause()),
     }
@@ -90,7 +90,7 @@ pub fn is_unfinished(text: &str, o: Options, default_unit: Option<TimeUnit>) -> 
         → (IsTrue result ↔ (place ≡ length text.now)) }
 {
     one_sentence();
-    match parse_with_default_unit(text, o, default_unit) {
+    match parse_by(text, Rules::of(o).default_unit(default_unit)) {
         Ok(_) => false,
         Err(fault) => matches!(fault.cause(), Cause::Syntax { .. }) && fault.found(o).is_none(),
     }

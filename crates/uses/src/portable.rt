@@ -1,13 +1,15 @@
 //! Expressions that mean the same under all options, or by two tables of units.
 #![tactic(auto, using(crate::proofs::PortableLemmas::plain_is_portable))]
 
-ghost use Rattle.std.specs.Prelude.{◌≡◌, ◌↔◌, IsTrue, None, chars};
-ghost use Rattle.uses.specs.Common.{list_all, is_chinese, rules_with};
+ghost use Rattle.std.specs.Prelude.{◌≡◌, ◌↔◌, ℕ, IsTrue, None, Ok, chars};
+ghost use Rattle.uses.specs.Common.{list_all, is_chinese, IsRead, rules_with};
 ghost use Rattle.duration_str.specs.Humantime.{humantime_rules};
 ghost use Rattle.uses.specs.Portable.{is_plain, IsPortable, IsReadAlike};
 
-use duration_str::laws::{no_calc_agrees, one_sentence, options_idle};
-use duration_str::{CondUnit, Options, parse_humantime_specialized, parse_nanos};
+use duration_str::laws::{more_names, no_calc_agrees, one_sentence, options_idle};
+use duration_str::{
+    CondUnit, Fault, Options, Rules, TimeUnit, parse_nanos, parse_nanos_specialized,
+};
 
 /// Returns whether a text is portable: it means the same to programs that read it under other
 /// options. With each default unit, and if units are required, all of them read it as the same
@@ -43,16 +45,36 @@ pub fn keeps_value_without_humantime(text: &str, o: Options) -> bool
         ↔ IsReadAlike (humantime_rules o) (rules_with o None) (chars text.now) }
 {
     one_sentence();
-    match parse_humantime_specialized(text, o) {
-        Ok(nanos) => match parse_nanos(text, o, None) {
+    match parse_nanos_specialized(text, Rules::humantime(o)) {
+        Ok(nanos) => match parse_nanos(text, Rules::of(o).default_unit(None)) {
             Ok(other) => nanos == other,
             Err(_) => false,
         },
-        Err(_) => match parse_nanos(text, o, None) {
+        Err(_) => match parse_nanos(text, Rules::of(o).default_unit(None)) {
             Ok(_) => false,
             Err(_) => true,
         },
     }
+}
+
+/// Reads a text with more names, such as `mins`. If the text is read without them, its value is the
+/// same. So a program can begin to read more names, and none of its stored texts changes.
+///
+/// ```text
+/// with_more_names("1h 30m", Options::off(), None) // Ok(5_400_000_000_000), as without them
+/// with_more_names("5 mins", Options::off(), None) // Ok(300_000_000_000)
+/// ```
+pub fn with_more_names(
+    text: &str,
+    o: Options,
+    default_unit: Option<TimeUnit>,
+) -> Result<u64, Fault<'_>>
+    ensures kept { (nanos : ℕ) → IsRead (rules_with o default_unit) (chars text.now) nanos
+        → result ≡ Ok nanos }
+{
+    one_sentence();
+    more_names();
+    parse_nanos(text, Rules::of(o).default_unit(default_unit).more_names())
 }
 
 fn are_plain(text: &str) -> bool

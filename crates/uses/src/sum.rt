@@ -7,7 +7,7 @@ ghost use Rattle.uses.specs.Sum.{Adds};
 
 use crate::product::Part;
 use duration_str::laws::{one_sentence, reorder, sum_of_texts};
-use duration_str::{Options, TimeUnit, parse_with_default_unit};
+use duration_str::{Options, Rules, TimeUnit, parse_by};
 use std::time::Duration;
 
 /// Sorts the terms of a sum in place, the longest first. The sorted sum is accepted exactly if the
@@ -55,10 +55,10 @@ pub fn total_of(
     if o.no_calc || !has_no_star(text) || !has_no_star(other) {
         return None;
     }
-    let Ok(length) = parse_with_default_unit(text, o, default_unit) else {
+    let Ok(length) = parse_by(text, Rules::of(o).default_unit(default_unit)) else {
         return None;
     };
-    let Ok(other_length) = parse_with_default_unit(other, o, default_unit) else {
+    let Ok(other_length) = parse_by(other, Rules::of(o).default_unit(default_unit)) else {
         return None;
     };
     match u64::try_from(length.as_nanos() + other_length.as_nanos()) {

@@ -4,7 +4,8 @@ use crate::MILLISECOND;
 use core::slice::from_raw_parts;
 use core::str::from_utf8_unchecked;
 use duration_str_core::{
-    Cause, Expected, Options, REPORT_BUFFER_SIZE, TimeUnit, Tokens, UNITS, parse_nanos_specialized,
+    Cause, Expected, Options, REPORT_BUFFER_SIZE, Rules, TimeUnit, Tokens, UNITS,
+    parse_nanos_specialized,
 };
 
 /// The text to read follows.
@@ -39,7 +40,9 @@ unsafe extern "C" fn read(answer: *mut Answer, length: usize, bits: u32) -> f64 
         lowercase: bits & 2 != 0,
         cn_unit: bits & 4 != 0,
     };
-    let fault = match parse_nanos_specialized(text, options, default_unit(bits)) {
+    let own = Rules::of(options).default_unit(default_unit(bits));
+    let rules = if bits & 16 != 0 { own.more_names() } else { own };
+    let fault = match parse_nanos_specialized(text, rules) {
         Ok(nanos) => {
             answer.nanos = nanos;
             return milliseconds(nanos);

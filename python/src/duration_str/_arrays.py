@@ -132,6 +132,7 @@ def to_timedelta(
     lowercase: bool = ...,
     cn_unit: bool = ...,
     require_unit: bool = ...,
+    more_names: bool = ...,
     default_unit: Unit = ...,
 ) -> None:
     ...
@@ -146,6 +147,7 @@ def to_timedelta(
     lowercase: bool = ...,
     cn_unit: bool = ...,
     require_unit: bool = ...,
+    more_names: bool = ...,
     default_unit: Unit = ...,
 ) -> NDArray[numpy.timedelta64]:
     ...
@@ -160,6 +162,7 @@ def to_timedelta(
     lowercase: bool = ...,
     cn_unit: bool = ...,
     require_unit: bool = ...,
+    more_names: bool = ...,
     default_unit: Unit = ...,
 ) -> Any:
     ...
@@ -173,6 +176,7 @@ def to_timedelta(
     lowercase: bool = False,
     cn_unit: bool = False,
     require_unit: bool = False,
+    more_names: bool = False,
     default_unit: Unit = UNNAMED,
 ) -> Any:
     """Reads texts as timedelta64[ns], like `pandas.to_timedelta`. It needs
@@ -210,6 +214,7 @@ def to_timedelta(
         lowercase=lowercase,
         cn_unit=cn_unit,
         require_unit=require_unit,
+        more_names=more_names,
         default_unit=default_unit,
     )
     if values is None:

@@ -116,6 +116,7 @@ def parse_many(
     lowercase: bool = ...,
     cn_unit: bool = ...,
     require_unit: bool = ...,
+    more_names: bool = ...,
 ) -> array[int]:
     ...
 
@@ -129,6 +130,7 @@ def parse_many(
     lowercase: bool = ...,
     cn_unit: bool = ...,
     require_unit: Literal[False] = ...,
+    more_names: bool = ...,
     default_unit: Unit,
 ) -> array[int]:
     ...
@@ -143,6 +145,7 @@ def parse_many(
     lowercase: bool = ...,
     cn_unit: bool = ...,
     require_unit: bool = ...,
+    more_names: bool = ...,
     default_unit: Unit = ...,
 ) -> tuple[array[int], array[int]]:
     ...
@@ -156,6 +159,7 @@ def parse_many(
     lowercase: bool = False,
     cn_unit: bool = False,
     require_unit: bool = False,
+    more_names: bool = False,
     default_unit: Unit = UNNAMED,
 ) -> array[int] | tuple[array[int], array[int]]:
     """Reads the texts of an iterable, such as a list, and returns their values
@@ -186,6 +190,7 @@ def parse_many(
         lowercase=lowercase,
         cn_unit=cn_unit,
         require_unit=require_unit,
+        more_names=more_names,
         default_unit=default_unit,
     )
     given = values_of(texts, type_name(texts))

@@ -25,13 +25,14 @@
 
 #define SECOND 1000000000u
 
-/* The Python objects that the module keeps. The first four are names of flags, in the order of
+/* The Python objects that the module keeps. The first five are names of flags, in the order of
  * their bits. */
 enum kept {
     NO_CALC,
     LOWERCASE,
     CN_UNIT,
     REQUIRE_UNIT,
+    MORE_NAMES,
     DEFAULT_UNIT,
     PARTS,
     UNITS,
@@ -60,8 +61,8 @@ enum kept {
 /* The objects before ERROR are these names, in this order. From PART on they are the package's
  * objects that are taken at the first call of `breakdown`, since they need the module typing. */
 static const char *const kept_names[] = {"no_calc", "lowercase", "cn_unit", "require_unit",
-    "default_unit", "parts", "units", "largest", "smallest", "rounding", "style", "days", "seconds",
-    "microseconds"};
+    "more_names", "default_unit", "parts", "units", "largest", "smallest", "rounding", "style",
+    "days", "seconds", "microseconds"};
 
 /* timedelta64's NaT as a number, and a count of days that a timedelta64 of nanoseconds can hold
  * with any seconds and microseconds of a timedelta */
@@ -311,7 +312,7 @@ static int read_call(struct state *state, const char *call, PyObject *const *arg
     return is_read == 1 ? 0 : -1;
 }
 
-/* reading(*, no_calc, lowercase, cn_unit, require_unit, default_unit): returns how values are read,
+/* reading(*, no_calc, lowercase, cn_unit, require_unit, more_names, default_unit): returns how values are read,
  * in the form that read_list takes */
 static PyObject *reading(
     PyObject *self, PyObject *const *arguments, Py_ssize_t count, PyObject *keywords) {
@@ -924,7 +925,7 @@ static PyObject *read_list(PyObject *self, PyObject *arguments) {
 
 #define OPTIONS_DOC                                                                                \
     "($module, text, /, *, no_calc=False, lowercase=False, cn_unit=False, "                        \
-    "require_unit=False, default_unit='s')\n--\n\n"
+    "require_unit=False, more_names=False, default_unit='s')\n--\n\n"
 PyDoc_STRVAR(parse_ns_doc,
     "parse_ns" OPTIONS_DOC "Returns the value of a text in nanoseconds.\n\n"
     "The options are off by default, and the default unit is the second:\n\n"
@@ -933,6 +934,7 @@ PyDoc_STRVAR(parse_ns_doc,
     "                minute\n"
     "  cn_unit       the Chinese names of the units are read too\n"
     "  require_unit  a number without a unit is refused, such as in `90` and `1h 30`\n"
+    "  more_names    more names of units are read, such as `mins`, `hrs` and `yr`\n"
     "  default_unit  a number without a unit counts this unit; with any unit except\n"
     "                seconds, `+` and `*` are not read\n\n"
     "You can give the default unit by any of its names, except for the Chinese ones.\n"

@@ -24,6 +24,7 @@ def parse_ns(
     lowercase: bool = False,
     cn_unit: bool = False,
     require_unit: bool = False,
+    more_names: bool = False,
 ) -> int: ...
 @overload
 def parse_ns(
@@ -34,6 +35,7 @@ def parse_ns(
     lowercase: bool = False,
     cn_unit: bool = False,
     require_unit: Literal[False] = False,
+    more_names: bool = False,
     default_unit: Unit,
 ) -> int: ...
 @overload
@@ -45,6 +47,7 @@ def parse(
     lowercase: bool = False,
     cn_unit: bool = False,
     require_unit: bool = False,
+    more_names: bool = False,
 ) -> timedelta: ...
 @overload
 def parse(
@@ -55,6 +58,7 @@ def parse(
     lowercase: bool = False,
     cn_unit: bool = False,
     require_unit: Literal[False] = False,
+    more_names: bool = False,
     default_unit: Unit,
 ) -> timedelta: ...
 @overload
@@ -66,6 +70,7 @@ def parse_seconds(
     lowercase: bool = False,
     cn_unit: bool = False,
     require_unit: bool = False,
+    more_names: bool = False,
 ) -> float: ...
 @overload
 def parse_seconds(
@@ -76,6 +81,7 @@ def parse_seconds(
     lowercase: bool = False,
     cn_unit: bool = False,
     require_unit: Literal[False] = False,
+    more_names: bool = False,
     default_unit: Unit,
 ) -> float: ...
 def format(
@@ -105,6 +111,7 @@ def reading(
     lowercase: bool,
     cn_unit: bool,
     require_unit: bool,
+    more_names: bool,
     default_unit: Unit = "s",
 ) -> tuple[int, bool]: ...
 def limits(

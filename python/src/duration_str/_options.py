@@ -19,6 +19,7 @@ class WithOptions:
         lowercase: bool = False,
         cn_unit: bool = False,
         require_unit: bool = False,
+        more_names: bool = False,
         default_unit: Unit = UNNAMED,
     ) -> None:
         given: dict[str, Any] = {
@@ -26,6 +27,7 @@ class WithOptions:
             "lowercase": lowercase,
             "cn_unit": cn_unit,
             "require_unit": require_unit,
+            "more_names": more_names,
             "default_unit": default_unit,
         }
         # This raises an error if the default unit is unknown, or if the options contradict each

@@ -13,6 +13,7 @@ def pattern(
     lowercase: bool = False,
     cn_unit: bool = False,
     require_unit: bool = False,
+    more_names: bool = False,
     default_unit: Unit = UNNAMED,
 ) -> str:
     """Returns a regular expression for JSON Schema, OpenAPI and other validators
@@ -34,8 +35,9 @@ def pattern(
         lowercase=lowercase,
         cn_unit=cn_unit,
         require_unit=require_unit,
+        more_names=more_names,
         default_unit=default_unit,
     )
     # The bits are those of the library for C, in the order of the keywords.
     sentence = SENTENCES[bits & 1 | bits >> 2 & 2]
-    return sentence.replace("U", UNIT_PATTERNS[bits >> 1 & 3])
+    return sentence.replace("U", UNIT_PATTERNS[bits >> 1 & 3 | bits >> 2 & 4])

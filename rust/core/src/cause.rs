@@ -2,7 +2,7 @@
 //! Why a text is refused: the cause, its line, and what could stand at the place of a syntax fault.
 
 use crate::operator::CondUnit;
-use crate::settings::Settings;
+use crate::rules::Rules;
 
 /// What could stand at the place of a syntax fault. Each field says whether one kind of item could
 /// stand there.
@@ -41,21 +41,21 @@ impl Expected {
     }
 
     #[inline(always)]
-    pub(crate) fn after_number(settings: Settings) -> Expected {
+    pub(crate) fn after_number(rules: Rules) -> Expected {
         Expected {
             number: false,
             unit_word: true,
-            operator: settings.default_unit.is_some() && !settings.options.no_calc,
-            text_end: settings.default_unit.is_some(),
+            operator: rules.default_unit.is_some() && !rules.options.no_calc,
+            text_end: rules.default_unit.is_some(),
         }
     }
 
     #[inline(always)]
-    pub(crate) fn after_unit(settings: Settings) -> Expected {
+    pub(crate) fn after_unit(rules: Rules) -> Expected {
         Expected {
             number: true,
             unit_word: false,
-            operator: !settings.options.no_calc,
+            operator: !rules.options.no_calc,
             text_end: true,
         }
     }

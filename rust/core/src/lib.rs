@@ -21,6 +21,8 @@ mod format;
 mod humantime;
 #[allow(unsafe_code)] // Blocks: 1.
 mod message;
+#[forbid(unsafe_code)]
+mod more_names;
 #[allow(unsafe_code)] // Blocks: 1.
 mod one_line;
 #[forbid(unsafe_code)]
@@ -40,7 +42,7 @@ mod report;
 #[forbid(unsafe_code)]
 mod rounding;
 #[forbid(unsafe_code)]
-mod settings;
+mod rules;
 #[forbid(unsafe_code)]
 mod table;
 #[forbid(unsafe_code)]
@@ -52,13 +54,14 @@ pub use self::breakdown::Breakdown;
 pub use self::format::{Format, Style, Units};
 pub use self::one_line::{MAX_ONE_LINE_LEN, ONE_LINE_BUFFER_SIZE};
 pub use self::parser::{
-    Cause, Expected, Fault, parse, parse_humantime_specialized, parse_looked, parse_nanos,
-    parse_nanos_specialized, parse_std, parse_with, parse_with_default_unit,
+    Cause, Expected, Fault, parse, parse_by, parse_looked, parse_nanos, parse_nanos_specialized,
+    parse_std, parse_with,
 };
 pub use self::printing::{
     FORMAT_BUFFER_SIZE, HUMAN_BUFFER_SIZE, MAX_LONG_LEN, MAX_PRINTED_LEN, write_format, write_human,
 };
 pub use self::report::REPORT_BUFFER_SIZE;
 pub use self::rounding::{Rounding, round_to};
+pub use self::rules::Rules;
 pub use self::token::{Token, Tokens, What};
 pub use self::unit::{CondUnit, Options, TimeUnit, UNITS};

@@ -20,16 +20,31 @@ impl TimeUnit {
     /// ```
     #[must_use]
     pub fn from_word(word: &str, o: Options) -> Option<TimeUnit> {
-        if word.len() > MOST_BYTES {
-            return None;
-        }
-        let mut packed = 0;
-        let mut chars = word.chars();
-        while let Some(c) = chars.next() {
-            packed = with_letter(packed, letter_number(c, o)?);
-        }
-        unit_of_packed(packed)
+        unit_of_packed(packed_word(word, o, false)?.0)
     }
+}
+
+/// Returns the packed number of a word that can be a name, and whether it has a Greek letter mu. All
+/// characters are unit letters, and it has no more bytes than the longest name. If `folds` is true,
+/// the micro sign stands in place of each Greek letter mu.
+#[inline(always)]
+pub(crate) fn packed_word(word: &str, o: Options, folds: bool) -> Option<(u64, bool)> {
+    if word.len() > MOST_BYTES {
+        return None;
+    }
+    let mut packed = 0;
+    let mut greek = false;
+    let mut chars = word.chars();
+    while let Some(c) = chars.next() {
+        greek = greek | (c == 'μ');
+        packed = with_letter(packed, letter_number(micro_if(folds, c), o)?);
+    }
+    Some((packed, greek))
+}
+
+#[inline(always)]
+fn micro_if(folds: bool, c: char) -> char {
+    if folds && c == 'μ' { 'µ' } else { c }
 }
 
 /// The most bytes that a name has. The packed number of 12 letters fits into a `u64`.
@@ -108,7 +123,7 @@ fn wide_number(c: char, cn_unit: bool) -> u64 {
 /// name.
 const CAPITAL: u64 = 26;
 
-const CAPITAL_M: u64 = 39;
+pub(crate) const CAPITAL_M: u64 = 39;
 
 #[inline]
 pub(crate) fn unit_of_packed(packed: u64) -> Option<TimeUnit> {

@@ -5,7 +5,7 @@ pub use crate::cause::{Cause, Expected};
 pub use crate::fault::Fault;
 use crate::options::Options;
 use crate::reader::read;
-use crate::settings::Settings;
+use crate::rules::Rules;
 use crate::table::UnitTable;
 use crate::token::Tokens;
 use crate::unit::TimeUnit;
@@ -76,57 +76,53 @@ pub fn parse_std(input: &str) -> Result<Duration, Fault<'_>> {
 /// ```
 #[inline]
 pub fn parse_with(input: &str, o: Options) -> Result<Duration, Fault<'_>> {
-    parse_with_default_unit(input, o, Some(TimeUnit::Second))
+    parse_by(input, Rules::of(o))
 }
 
-/// Reads a text under these options, and returns the duration that it means. A number without a
-/// unit has the default unit.
+/// Reads a text by these rules, and returns the duration that it means. It allocates nothing.
 ///
-/// `parse_with` is this call with the second as the default unit. If the default unit is `None`,
-/// each number must have its unit, so only a unit can follow a number.
-///
-/// A product multiplies its terms in seconds, and a factor without a unit counts the default unit
-/// too: with milliseconds, `90s*2` is 180 ms. If the numbers in your texts are milliseconds, turn
-/// on `no_calc`, so that operators are refused. The call allocates nothing.
+/// `parse_with` is this call with `Rules::of` of its options.
 ///
 /// # Errors
 ///
 /// It returns a [`Fault`] if the text means no duration.
 ///
 /// ```text
-/// let milliseconds = Some(TimeUnit::MilliSecond);
-/// let in_milliseconds = |text| parse_with_default_unit(text, Options::off(), milliseconds);
+/// let rules = Rules::of(Options::off());
+/// let in_milliseconds = |text| parse_by(text, rules.default_unit(Some(TimeUnit::MilliSecond)));
 /// in_milliseconds("1500")  // Ok(Duration::from_millis(1_500))
 /// in_milliseconds("90s*2") // Ok(Duration::from_millis(180))
-/// parse_with_default_unit("1h 30", Options::off(), None).unwrap_err().cause().place() // Some(5)
+/// parse_by("1h 30", rules.default_unit(None)).unwrap_err().cause().place() // Some(5)
+/// parse_by("5 mins", rules.more_names()) // Ok(Duration::from_secs(300))
 /// ```
 #[inline]
-pub fn parse_with_default_unit(
-    input: &str,
-    o: Options,
-    default_unit: Option<TimeUnit>,
-) -> Result<Duration, Fault<'_>> {
-    parse_nanos(input, o, default_unit).map(Duration::from_nanos)
+pub fn parse_by(input: &str, rules: Rules) -> Result<Duration, Fault<'_>> {
+    parse_nanos(input, rules).map(Duration::from_nanos)
 }
 
-/// Reads a text as `parse_with_default_unit` does, and returns the duration in nanoseconds.
+/// Reads a text as `parse_by` does, and returns the duration in nanoseconds.
 ///
-/// For this call the reader is compiled twice: once for the case that all options are off and the
-/// default unit is the second, and once for all other cases. The first is faster.
+/// For this call the reader is compiled once for each table of units, and once more for the rules of
+/// `parse`, for which it is faster. A program contains the copies that its rules can need.
 ///
 /// # Errors
 ///
-/// It refuses the same texts as [`parse_with_default_unit`], for the same causes.
+/// It refuses the same texts as [`parse_by`], for the same causes.
 ///
 /// ```text
-/// parse_nanos("1ms 5ns", Options::off(), None) // Ok(1_000_005)
+/// parse_nanos("1ms 5ns", Rules::of(Options::off())) // Ok(1_000_005)
 /// ```
 #[inline]
-pub fn parse_nanos(
-    input: &str,
-    o: Options,
-    default_unit: Option<TimeUnit>,
-) -> Result<u64, Fault<'_>> {
+pub fn parse_nanos(input: &str, rules: Rules) -> Result<u64, Fault<'_>> {
+    match rules.table {
+        UnitTable::Own => nanos_own(input, rules.options, rules.default_unit),
+        UnitTable::More => nanos_more(input, rules.options, rules.default_unit),
+        UnitTable::Humantime => nanos_humantime(input, rules.options, rules.default_unit),
+    }
+}
+
+#[inline]
+fn nanos_own(input: &str, o: Options, default_unit: Option<TimeUnit>) -> Result<u64, Fault<'_>> {
     if o.are_off() && default_unit == Some(TimeUnit::Second) {
         return nanos_off(input);
     }
@@ -135,59 +131,52 @@ pub fn parse_nanos(
 
 #[inline(never)]
 fn nanos_off(input: &str) -> Result<u64, Fault<'_>> {
-    parse_nanos_specialized(input, Options::off(), Some(TimeUnit::Second))
+    parse_nanos_specialized(input, Rules::of(Options::off()))
 }
 
 #[inline(never)]
-fn nanos_chosen(input: &str, o: Options, default_unit: Option<TimeUnit>) -> Result<u64, Fault<'_>> {
-    parse_nanos_specialized(input, o, default_unit)
+fn nanos_chosen(
+    input: &str,
+    options: Options,
+    default_unit: Option<TimeUnit>,
+) -> Result<u64, Fault<'_>> {
+    parse_nanos_specialized(input, Rules::of(options).default_unit(default_unit))
+}
+
+#[inline(never)]
+fn nanos_more(
+    input: &str,
+    options: Options,
+    default_unit: Option<TimeUnit>,
+) -> Result<u64, Fault<'_>> {
+    let rules = Rules::of(options).default_unit(default_unit);
+    parse_nanos_specialized(input, rules.more_names())
+}
+
+#[inline(never)]
+fn nanos_humantime(
+    input: &str,
+    options: Options,
+    default_unit: Option<TimeUnit>,
+) -> Result<u64, Fault<'_>> {
+    parse_nanos_specialized(input, Rules::humantime(options).default_unit(default_unit))
 }
 
 /// Returns what `parse_nanos` returns. The whole reader is compiled into each place in the source
 /// that calls this, and adds some kilobytes to the program there. The reader is faster if the
-/// compiler knows the options of the call.
+/// compiler knows the rules of the call.
 ///
 /// # Errors
 ///
 /// It refuses the same texts as [`parse_nanos`], for the same causes.
 ///
 /// ```text
-/// parse_nanos_specialized("1ms 5ns", Options::off(), None) // Ok(1_000_005)
-/// ```
-#[inline(always)]
-pub fn parse_nanos_specialized(
-    input: &str,
-    o: Options,
-    default_unit: Option<TimeUnit>,
-) -> Result<u64, Fault<'_>> {
-    read_text(input, Settings::with(o, default_unit)).0
-}
-
-/// Reads a text by the names and the lengths of the units of the crate humantime, and returns the
-/// duration in nanoseconds.
-///
-/// A month has 30.44 days and a year 365.25 days. Each number needs a unit. The library's own names
-/// are read too. So are `+` and `*`, unless `no_calc` is on. For humantime's texts turn on
-/// `lowercase`, so that `1M` is a month and `1m` a minute. As with `parse_nanos_specialized`, the
-/// whole reader is compiled into each place in the source that calls this.
-///
-/// # Errors
-///
-/// It returns a [`Fault`] if the text means no duration.
-///
-/// ```text
 /// let case_sensitive = Options { lowercase: true, ..Options::off() };
-/// parse_humantime_specialized("1M 5mins", case_sensitive) // Ok(2_630_316_000_000_000)
-/// parse_humantime_specialized("90", case_sensitive).unwrap_err().cause().place() // Some(2)
+/// parse_nanos_specialized("1M 5mins", Rules::humantime(case_sensitive)) // Ok(2_630_316_000_000_000)
 /// ```
 #[inline(always)]
-pub fn parse_humantime_specialized(input: &str, o: Options) -> Result<u64, Fault<'_>> {
-    let settings = Settings {
-        table: UnitTable::Humantime,
-        default_unit: None,
-        options: o,
-    };
-    read_text(input, settings).0
+pub fn parse_nanos_specialized(input: &str, rules: Rules) -> Result<u64, Fault<'_>> {
+    read_text(input, rules).0
 }
 
 /// Returns what `parse_with` returns, and how many times a character of the text was looked at.
@@ -201,12 +190,12 @@ pub fn parse_humantime_specialized(input: &str, o: Options) -> Result<u64, Fault
 /// ```
 #[inline]
 pub fn parse_looked(input: &str, o: Options) -> (Result<Duration, Fault<'_>>, u64) {
-    let (answer, looks) = read_text(input, Settings::of(o));
+    let (answer, looks) = read_text(input, Rules::of(o));
     (answer.map(Duration::from_nanos), looks)
 }
 
 #[inline(always)]
-fn read_text(input: &str, settings: Settings) -> (Result<u64, Fault<'_>>, u64) {
+fn read_text(input: &str, rules: Rules) -> (Result<u64, Fault<'_>>, u64) {
     if input.is_empty() {
         let fault = Fault {
             text: input,
@@ -214,8 +203,8 @@ fn read_text(input: &str, settings: Settings) -> (Result<u64, Fault<'_>>, u64) {
         };
         return (Err(fault), 0);
     }
-    let mut tokens = Tokens::new(input, settings.options);
-    match read(&mut tokens, settings) {
+    let mut tokens = Tokens::new(input, rules.options);
+    match read(&mut tokens, rules) {
         Ok(nanos) => (Ok(nanos), tokens.looked()),
         Err(cause) => (Err(Fault { text: input, cause }), tokens.looked()),
     }

@@ -3,7 +3,7 @@
 
 use crate::cause::{Cause, Expected};
 use crate::operator::CondUnit;
-use crate::settings::Settings;
+use crate::rules::Rules;
 use crate::token::{TokenStart, Tokens};
 use crate::unit::TimeUnit;
 
@@ -18,22 +18,22 @@ type Later = Result<Option<(CondUnit, u64)>, Cause>;
 /// instead, and the first fault of a later term is returned at once. Otherwise that fault is kept
 /// in place of the total while the rest is read, since a syntax fault in the rest comes first.
 #[inline(always)]
-pub(crate) fn read(tokens: &mut Tokens<'_>, settings: Settings) -> Result<u64, Cause> {
+pub(crate) fn read(tokens: &mut Tokens<'_>, rules: Rules) -> Result<u64, Cause> {
     expect_number(tokens)?;
     let number = tokens.take_number();
-    let value = settings
+    let value = rules
         .table
-        .times(read_unit(tokens, settings)?, number, Some(0))?;
-    let (first, mut later) = if settings.options.no_calc {
+        .times(read_unit(tokens, rules)?, number, Some(0))?;
+    let (first, mut later) = if rules.options.no_calc {
         (0, Ok(Some((CondUnit::Plus, value))))
     } else {
         (value, Ok(None))
     };
-    while let Some(next) = read_operator(tokens, settings)? {
+    while let Some(next) = read_operator(tokens, rules)? {
         let number = tokens.take_number();
-        let unit = read_unit(tokens, settings)?;
-        later = with_term(later, next, number, settings, unit);
-        if settings.options.no_calc {
+        let unit = read_unit(tokens, rules)?;
+        later = with_term(later, next, number, rules, unit);
+        if rules.options.no_calc {
             later?;
         }
     }
@@ -52,58 +52,58 @@ fn expect_number(tokens: &mut Tokens<'_>) -> Result<(), Cause> {
 }
 
 #[inline(always)]
-fn read_unit(tokens: &mut Tokens<'_>, settings: Settings) -> Result<TimeUnit, Cause> {
+fn read_unit(tokens: &mut Tokens<'_>, rules: Rules) -> Result<TimeUnit, Cause> {
     let Some(sort) = tokens.sort_after_number() else {
-        return unit_left_out(tokens.place(), settings);
+        return unit_left_out(tokens.place(), rules);
     };
     let place = tokens.place();
     match sort {
-        TokenStart::Word => match tokens.take_word(settings) {
+        TokenStart::Word => match tokens.take_word(rules) {
             Some(unit) => Ok(unit),
-            None => Err(no_unit(place, settings)),
+            None => Err(no_unit(place, rules)),
         },
-        TokenStart::Operator(_) if !settings.options.no_calc => unit_left_out(place, settings),
+        TokenStart::Operator(_) if !rules.options.no_calc => unit_left_out(place, rules),
         // Operators have an arm of their own, so that the prover knows that one stands here.
-        TokenStart::Operator(_) => Err(no_unit(place, settings)),
-        TokenStart::Number | TokenStart::Other => Err(no_unit(place, settings)),
+        TokenStart::Operator(_) => Err(no_unit(place, rules)),
+        TokenStart::Number | TokenStart::Other => Err(no_unit(place, rules)),
     }
 }
 
 #[inline(always)]
-fn unit_left_out(place: usize, settings: Settings) -> Result<TimeUnit, Cause> {
-    match settings.default_unit {
+fn unit_left_out(place: usize, rules: Rules) -> Result<TimeUnit, Cause> {
+    match rules.default_unit {
         Some(unit) => Ok(unit),
-        None => Err(no_unit(place, settings)),
+        None => Err(no_unit(place, rules)),
     }
 }
 
 #[inline(always)]
-fn no_unit(place: usize, settings: Settings) -> Cause {
-    Cause::syntax(place, Expected::after_number(settings))
+fn no_unit(place: usize, rules: Rules) -> Cause {
+    Cause::syntax(place, Expected::after_number(rules))
 }
 
 #[inline(always)]
-fn read_operator(tokens: &mut Tokens<'_>, settings: Settings) -> Result<Option<CondUnit>, Cause> {
+fn read_operator(tokens: &mut Tokens<'_>, rules: Rules) -> Result<Option<CondUnit>, Cause> {
     let Some(sort) = tokens.sort_ahead() else {
         return Ok(None);
     };
     let place = tokens.place();
     match sort {
         TokenStart::Number => Ok(Some(CondUnit::Plus)),
-        TokenStart::Operator(operator) if !settings.options.no_calc => {
+        TokenStart::Operator(operator) if !rules.options.no_calc => {
             tokens.advance();
             expect_number(tokens)?;
             Ok(Some(operator))
         }
         // Operators have an arm of their own, as in `read_unit`.
-        TokenStart::Operator(_) => Err(no_operator(place, settings)),
-        TokenStart::Word | TokenStart::Other => Err(no_operator(place, settings)),
+        TokenStart::Operator(_) => Err(no_operator(place, rules)),
+        TokenStart::Word | TokenStart::Other => Err(no_operator(place, rules)),
     }
 }
 
 #[inline(always)]
-fn no_operator(place: usize, settings: Settings) -> Cause {
-    Cause::syntax(place, Expected::after_unit(settings))
+fn no_operator(place: usize, rules: Rules) -> Cause {
+    Cause::syntax(place, Expected::after_unit(rules))
 }
 
 /// Combines the later terms so far with a new term. `next` is the operator before it.
@@ -112,11 +112,11 @@ fn with_term(
     later: Later,
     next: CondUnit,
     number: Option<u64>,
-    settings: Settings,
+    rules: Rules,
     unit: TimeUnit,
 ) -> Later {
     let Some((operator, total)) = later? else {
-        return Ok(Some((next, settings.table.times(unit, number, None)?)));
+        return Ok(Some((next, rules.table.times(unit, number, None)?)));
     };
     if next != operator {
         return Err(Cause::Mixed {
@@ -124,7 +124,7 @@ fn with_term(
             later: next,
         });
     }
-    let value = settings.table.times(unit, number, None)?;
+    let value = rules.table.times(unit, number, None)?;
     Ok(Some((next, within(combination(next, total, value))?)))
 }
 

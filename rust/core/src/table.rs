@@ -3,13 +3,16 @@
 
 use crate::cause::Cause;
 use crate::humantime;
+use crate::more_names;
 use crate::packed::unit_of_packed;
 use crate::unit::TimeUnit;
 
-#[derive(Clone, Copy)]
+#[derive(Clone, Copy, Debug, PartialEq, Eq)]
 pub(crate) enum UnitTable {
     Own,
-    /// The table of the crate humantime, with the library's own names added.
+    /// The library's own table with more names, such as `mins`.
+    More,
+    /// The table of the crate humantime, with the names that the library reads added.
     Humantime,
 }
 
@@ -18,6 +21,7 @@ impl UnitTable {
     pub(crate) fn unit_of_packed(self, packed: u64) -> Option<TimeUnit> {
         match self {
             UnitTable::Own => unit_of_packed(packed),
+            UnitTable::More => more_names::unit_of_packed(packed),
             UnitTable::Humantime => humantime::unit_of_packed(packed),
         }
     }
@@ -35,7 +39,7 @@ impl UnitTable {
             return Err(Cause::NumberTooLarge { place });
         };
         match self {
-            UnitTable::Own => {
+            UnitTable::Own | UnitTable::More => {
                 let row = unit.printed();
                 // In WebAssembly `checked_mul` would be a call.
                 if n > row.most {

@@ -7,7 +7,7 @@ use crate::options::Options;
 use crate::packed::{
     MODULUS, MOST_BYTES, first_number, is_unit_letter, letter_number, with_letter,
 };
-use crate::settings::Settings;
+use crate::rules::Rules;
 use crate::unit::TimeUnit;
 
 /// What a token is: a number, a word with the unit that it names, if any, an operator, or another
@@ -196,13 +196,13 @@ impl<'a> Tokens<'a> {
     }
 
     #[inline(always)]
-    pub(crate) fn take_word(&mut self, settings: Settings) -> Option<TimeUnit> {
+    pub(crate) fn take_word(&mut self, rules: Rules) -> Option<TimeUnit> {
         let start = self.eye.place();
         let packed = self.take_letters();
         if self.eye.place() - start > MOST_BYTES {
             return None;
         }
-        settings.table.unit_of_packed(packed)
+        rules.table.unit_of_packed(packed)
     }
 
     #[inline(always)]
@@ -212,7 +212,7 @@ impl<'a> Tokens<'a> {
                 let _ = self.take_number();
                 What::Number
             }
-            TokenStart::Word => What::Word(self.take_word(Settings::of(self.options))),
+            TokenStart::Word => What::Word(self.take_word(Rules::of(self.options))),
             TokenStart::Operator(operator) => {
                 self.advance();
                 What::Operator(operator)

@@ -1,7 +1,7 @@
 //! The macro `duration!`, which `duration-str` exports under the feature `macros`.
 #![forbid(unsafe_code)]
 
-use duration_str_core::{ONE_LINE_BUFFER_SIZE, Options, TimeUnit, parse_with_default_unit};
+use duration_str_core::{ONE_LINE_BUFFER_SIZE, Options, Rules, TimeUnit, parse_by};
 use proc_macro::{Delimiter, Span, TokenStream, TokenTree};
 
 /// Reads a duration when the program is compiled, and gives a constant of type
@@ -51,7 +51,7 @@ fn value(input: TokenStream) -> Result<TokenStream, Refusal> {
     let (options, require_unit) = options(tokens)?;
     let default_unit = (!require_unit).then_some(TimeUnit::Second);
     let mut buffer = [0; ONE_LINE_BUFFER_SIZE];
-    let value = parse_with_default_unit(text, options, default_unit)
+    let value = parse_by(text, Rules::of(options).default_unit(default_unit))
         .map_err(|fault| (fault.write_one_line(&mut buffer).to_string(), span))?;
     let (secs, nanos) = (value.as_secs(), value.subsec_nanos());
     Ok(code(&format!(

@@ -95,7 +95,7 @@
 //! assert_eq!(serde_json::to_string(&settings)?, r#"{"retention":"30d"}"#);
 //! # Ok::<(), serde_json::Error>(())
 //! ```
-use crate::default_unit::{naming, parse_with_default_unit};
+use crate::default_unit::{REQUIRING_UNITS, naming, parse_by};
 use crate::human_duration::HumanDuration;
 use crate::human_format::Sealed;
 use crate::humantime;
@@ -291,12 +291,9 @@ impl<'de, T: Length, const HOW: u8> Visitor<'de> for Text<T, HOW> {
 
     fn visit_str<E: de::Error>(self, text: &str) -> Result<T, E> {
         let read = match HOW {
-            REQUIRE_UNIT => parse_with_default_unit(text, ADDITIONS, None),
+            REQUIRE_UNIT => parse_by(text, REQUIRING_UNITS),
             STRICT => humantime::read(text),
-            MILLIS => {
-                let unit = TimeUnit::MilliSecond;
-                parse_with_default_unit(text, naming(unit), Some(unit))
-            }
+            MILLIS => parse_by(text, naming(TimeUnit::MilliSecond)),
             _ => parse_with(text, ADDITIONS),
         };
         // A format can add a line and a column of its own, so the message says what it is about.

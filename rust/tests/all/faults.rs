@@ -1,7 +1,7 @@
 use crate::{FEATURES, Refused, by_usual_calls, default_unit_of, options_of, vectors};
 use duration_str::{
-    Cause, DError, Expected, Fault, Options, TimeUnit, parse, parse_require_unit, parse_with,
-    parse_with_default_unit,
+    Cause, DError, Expected, Fault, Options, Rules, TimeUnit, parse, parse_by, parse_require_unit,
+    parse_with,
 };
 use duration_str_core as proved;
 use std::error::Error;
@@ -53,7 +53,7 @@ fn tells_all_of_a_refusal() {
     for row in &vectors().refused {
         let Refused(text, names, cause, place, found, kinds, line, spaces) = row;
         let (options, default_unit) = (options_of(names), default_unit_of(names));
-        let fault = parse_with_default_unit(text, options, default_unit).expect_err(text);
+        let fault = parse_by(text, Rules::of(options).default_unit(default_unit)).expect_err(text);
         let got = (fault.place(), fault.found());
         assert_eq!(got, (*place, found.as_deref()), "{text}");
         assert_eq!(name_of(fault.cause()), cause, "{text}");

@@ -41,8 +41,8 @@ fn refuses_for_the_first_cause() {
             "expected a number, '+', '*' or the end at column 14",
         ),
         (
-            "1y 5 mins 5 mons",
-            r#"unknown unit "mons" at column 13 (did you mean "mon"?)"#,
+            "1y 5 mins 5 mos",
+            r#"unknown unit "mos" at column 13 (did you mean "mon"?)"#,
         ),
     ] {
         let printed = refusal(text).to_string();

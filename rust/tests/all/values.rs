@@ -1,8 +1,8 @@
 use crate::near::near;
 use crate::{FEATURES, Group, by_usual_calls, choices, default_unit_of, has, options_of, vectors};
 use duration_str::{
-    Fault, Options, Style, TimeUnit, UNITS, parse, parse_in, parse_std, parse_with,
-    parse_with_default_unit,
+    Fault, Options, Rules, Style, TimeUnit, UNITS, parse, parse_by, parse_in, parse_std,
+    parse_with,
 };
 use duration_str_core as proved;
 use std::collections::BTreeSet;
@@ -25,7 +25,7 @@ fn check(group: &Group, options: Options, is_read: bool) {
     let default_unit = default_unit_of(&group.on);
     for (secs, nanos, texts) in &group.rows {
         for text in texts {
-            let answer = parse_with_default_unit(text, options, default_unit);
+            let answer = parse_by(text, Rules::of(options).default_unit(default_unit));
             let wanted = is_read.then_some(Duration::new(*secs, *nanos));
             assert_eq!(
                 answer.as_ref().ok().copied(),
@@ -43,7 +43,7 @@ fn check(group: &Group, options: Options, is_read: bool) {
 }
 
 fn check_seconds(text: &str, options: Options) {
-    let wanted = parse_with_default_unit(text, options, Some(TimeUnit::Second));
+    let wanted = parse_by(text, Rules::of(options).default_unit(Some(TimeUnit::Second)));
     assert_eq!(parse_with(text, options), wanted, "{text:?}");
     if options == FEATURES {
         let wanted = proved::parse_with(text, options).map_err(|fault| fault.to_string());

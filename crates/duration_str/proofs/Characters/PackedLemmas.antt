@@ -1,11 +1,12 @@
 -- Lemmas about packed names and their slots in the table.
-use Rattle.duration_str.proofs.Common.{[], all_names_in, and_from, and_parts, ap, arith, Bool, byte_len, bytes_eq, cases_Bool, chinese_letters, comparison_form, eq-eqb, eqb, eqb-true, false, false_from_ne_true, get_or, Humantime, if◌then◌else◌, inl, inr, is_chinese, is_in_row, is_named, is_unit_letter, leb, leb-true, length, length-reverse, letter_number, List, list_all, list_any, list_any-append, lit<, map, meaning_of, nat_tests, None, off, Options, or_cases, Own, packed_number, packed_number_after, packs_to, pow-le-pow_right, pow-succ', refl, reverse-reverse, row_of, table_of, Rules, rules, rules_of, Second, Some, suc, sym, Table, TimeUnit, to_ascii_lowercase, true, unit_of_word, units, UnitTable, width, ℕ, ◌%◌, ◌&&◌, ◌*◌, ◌+◌, ◌-◌, ◌/◌, ◌<◌, ◌==◌, ◌^◌, ◌||◌, ◌∙◌, ◌∷◌, ◌≡◌, ◌≤◌, ◌⊎◌}
+use Rattle.duration_str.proofs.Common.{[], all_names_in, and_from, and_parts, ap, arith, Bool, byte_len, bytes_eq, cases_Bool, chinese_letters, comparison_form, eq-eqb, eqb, eqb-true, false, false_from_ne_true, get_or, Humantime, if◌then◌else◌, inl, inr, is_chinese, is_in_row, is_named, is_some, is_unit_letter, leb, leb-true, length, length-reverse, letter_number, List, list_all, list_any, list_any-append, lit<, map, Month, meaning_of, nat_tests, None, off, Option, Options, or_cases, Own, packed_number, packed_number_after, packs_to, pow-le-pow_right, pow-succ', refl, reverse-reverse, row_of, table_of, Rules, rules, rules_of, Second, Some, suc, sym, Table, TimeUnit, to_ascii_lowercase, true, unit_of_word, units, UnitTable, width, ℕ, ◌%◌, ◌&&◌, ◌*◌, ◌+◌, ◌-◌, ◌/◌, ◌<◌, ◌==◌, ◌^◌, ◌||◌, ◌∙◌, ◌∷◌, ◌≡◌, ◌≤◌, ◌⊎◌, added_row_of, humantime_row_of, More, more_row_of, nat_le, packed_word, nanos_of, more_rules, micro_if, with_micro}
 use mathlib.Core.List.{reverse, reverse_aux}
-use Rattle.duration_str.specs.declared.settings.Settings.{Settings}
+use Rattle.duration_str.specs.declared.rules.Rules.{Rules as CodeRules}
 use Rattle.duration_str.specs.Internal.UnitTable.{unit_of_packed}
+use Rattle.std.specs.Option.{option_map}
 use Rattle.std.proofs.lemmas.List.{get_or-map, length-map}
 use Rattle.std.proofs.lemmas.List.Folds.{list_all_at}
-use Rattle.duration_str.proofs.Characters.UnitLemmas.{all_units, among_all, named_passes}
+use Rattle.duration_str.proofs.Characters.UnitLemmas.{all_units, among_all, named_passes, same_length}
 
 -- ---- the numbers of letters
 
@@ -152,31 +153,49 @@ names_test v (name ∷ names) letters own =
     let parts = and_parts (are_name_letters name) _ own in
     rw (name_test v name letters parts.0, names_test v names letters parts.1)
 
-letters_in_table : (table : UnitTable) (u : TimeUnit) → list_all are_name_letters (all_names_in (table_of table) u) ≡ true
-letters_in_table Own = all_units (λ u. list_all are_name_letters (all_names_in (table_of Own) u)) refl
-letters_in_table Humantime = all_units (λ u. list_all are_name_letters (all_names_in (table_of Humantime) u)) refl
+-- The letters of these names are those that are packed, and the Chinese names have a Chinese letter.
+pub record IsPackable (table : Table) : Type 0 where
+  pub letters : (u : TimeUnit) → list_all are_name_letters (all_names_in table u) ≡ true
+  pub chinese : (u : TimeUnit) → list_all (list_any is_chinese) (table u).chinese ≡ true
 
-chinese_in_table : (table : UnitTable) (u : TimeUnit) → list_all (list_any is_chinese) (table_of table u).chinese ≡ true
-chinese_in_table Own = all_units (λ u. list_all (list_any is_chinese) (table_of Own u).chinese) refl
-chinese_in_table Humantime = all_units (λ u. list_all (list_any is_chinese) (table_of Humantime u).chinese) refl
+abbrev are_packed : Table → TimeUnit → Bool
+are_packed table u = list_all are_name_letters (all_names_in table u) && list_all (list_any is_chinese) (table u).chinese
+
+packable : (table : Table) → list_all (are_packed table) units ≡ true → IsPackable table
+packable table all = record {
+  letters = λ u. (and_parts _ _ (all_units (are_packed table) all u)).0;
+  chinese = λ u. (and_parts _ _ (all_units (are_packed table) all u)).1;
+}
+
+pub is_packable : (table : UnitTable) → IsPackable (table_of table)
+is_packable Own = packable row_of refl
+is_packable More = packable more_row_of refl
+is_packable Humantime = packable humantime_row_of refl
 
 no_chinese_letter : (o : Options) (w : List ℕ) → o.cn_unit ≡ false → list_all (is_unit_letter o) w ≡ true
     → list_any is_chinese (comparison_form o w) ≡ false
 no_chinese_letter o [] off e = search (rules, cases_Bool)
 no_chinese_letter o (c ∷ w) off e = search (rules, cases_Bool, and_parts, no_chinese_letter o w)
 
-no_chinese_name : (table : UnitTable) (o : Options) (w : List ℕ) (u : TimeUnit) → o.cn_unit ≡ false
+no_chinese_name : (table : Table) (o : Options) (w : List ℕ) (u : TimeUnit) → IsPackable table → o.cn_unit ≡ false
     → list_all (is_unit_letter o) w ≡ true
-    → list_any (bytes_eq (comparison_form o w)) (table_of table u).chinese ≡ false
-no_chinese_name table o w u off e = false_from_ne_true _ (λ named. cc (
+    → list_any (bytes_eq (comparison_form o w)) (table u).chinese ≡ false
+no_chinese_name table o w u is off e = false_from_ne_true _ (λ named. cc (
   no_chinese_letter o w off e,
-  named_passes (list_any is_chinese) (comparison_form o w) (table_of table u).chinese (chinese_in_table table u) named,
+  named_passes (list_any is_chinese) (comparison_form o w) (table u).chinese (is.chinese u) named,
 ))
 
-named_by_number : (table : UnitTable) (o : Options) (w : List ℕ) (u : TimeUnit) → list_all (is_unit_letter o) w ≡ true
-    → is_in_row o w (table_of table u) ≡ list_any (packs_to (packed_number o w)) (all_names_in (table_of table) u)
-named_by_number table o w u letters =
-    search (rules, cases_Bool, names_test, form_letters, letters_in_table, list_any-append, form_packed, no_chinese_name)
+named_by_number : (table : Table) (o : Options) (w : List ℕ) (u : TimeUnit) → IsPackable table
+    → list_all (is_unit_letter o) w ≡ true
+    → is_in_row o w (table u) ≡ list_any (packs_to (packed_number o w)) (all_names_in table u)
+named_by_number table o w u is letters =
+    let form = comparison_form o w in
+    let all = names_test form (all_names_in table u) (form_letters o w letters) (is.letters u) in
+    let parts = list_any-append (bytes_eq form) (table u).names (table u).chinese in
+    rw (form_packed o w, ← all, parts) (elim (cases_Bool o.cn_unit) [
+      | inl on ↦ rw on refl
+      | inr off ↦ rw (off, no_chinese_name table o w u is off letters) (grind arith)
+    ])
 
 -- ---- words that name no unit
 
@@ -223,11 +242,12 @@ byte_len-form o w = elim (cases_Bool o.lowercase) [ inl on ↦ rw on refl | inr 
 short_names : (table : UnitTable)
     → list_all (λ u. list_all (λ name. leb (byte_len name) 12) (all_names_in (table_of table) u)) units ≡ true
 short_names Own = refl
+short_names More = refl
 short_names Humantime = refl
 
-pub no_long_name : (settings : Settings) (w : List ℕ) → 12 < byte_len w → None ≡ unit_of_word (meaning_of settings) w
-no_long_name settings w long = no_name (meaning_of settings) w (λ name. leb (byte_len name) 12) (short_names settings.table)
-    (false_from_ne_true _ (λ t. absurd (omega (arith, leb-true _ _ t, byte_len-form settings.options w))))
+pub no_long_name : (given : CodeRules) (w : List ℕ) → 12 < byte_len w → None ≡ unit_of_word (meaning_of given) w
+no_long_name given w long = no_name (meaning_of given) w (λ name. leb (byte_len name) 12) (short_names given.table)
+    (false_from_ne_true _ (λ t. absurd (omega (arith, leb-true _ _ t, byte_len-form given.options w))))
 
 absent : (test : ℕ → Bool) (n : ℕ) → test n ≡ false → (ns : List (List ℕ))
     → list_all (λ name. test (packed_number kept_capitals name)) ns ≡ true → list_any (packs_to n) ns ≡ false
@@ -247,13 +267,224 @@ no_packed_name table test n fails all =
     (all_units (λ v. list_all (λ name. test (packed_number kept_capitals name)) (all_names_in table v)) all u) in
     simp none
 
-abbrev pub own_settings : Options → Settings
-own_settings o = record { table = Own; default_unit = Some Second; options = o }
+abbrev pub own_rules : Options → CodeRules
+own_rules o = record { table = Own; default_unit = Some Second; options = o }
 
-pub unit_by_number : (settings : Settings) (w : List ℕ) → list_all (is_unit_letter settings.options) w ≡ true
-    → unit_of_word (meaning_of settings) w ≡ unit_of_packed (table_of settings.table) (packed_number settings.options w)
+by_number : (table : Table) (default_unit : Option TimeUnit) (o : Options) (w : List ℕ) → IsPackable table
+    → list_all (is_unit_letter o) w ≡ true
+    → unit_of_word (record { table = table; default_unit = default_unit; options = o }) w
+    ≡ unit_of_packed table (packed_number o w)
 unfolding unit_of_packed
-unit_by_number settings w letters = search (rules, named_by_number)
+by_number table default_unit o w is letters = search (rules, named_by_number)
+
+pub unit_by_number : (given : CodeRules) (w : List ℕ) → list_all (is_unit_letter given.options) w ≡ true
+    → unit_of_word (meaning_of given) w ≡ unit_of_packed (table_of given.table) (packed_number given.options w)
+unit_by_number given w letters =
+    by_number (table_of given.table) given.default_unit given.options w (is_packable given.table) letters
+
+-- ---- words that are packed
+
+packed_some : (o : Options) (w : List ℕ) (n : ℕ) → Some n ≡ packed_word o w
+    → (list_all (is_unit_letter o) w ≡ true) × (n ≡ packed_number o w)
+packed_some o w n is = elim (cases_Bool (nat_le (byte_len w) 12 && list_all (is_unit_letter o) w)) [
+  | inl fits ↦ ((and_parts _ _ fits).1, (let some = rw fits at is in cc))
+  | inr other ↦ absurd (let none = rw other at is in cc)
+]
+
+packed_none : (o : Options) (w : List ℕ) → None ≡ packed_word o w → (12 < byte_len w) ⊎ (list_all (is_unit_letter o) w ≡ false)
+packed_none o w is = elim (cases_Bool (nat_le (byte_len w) 12 && list_all (is_unit_letter o) w)) [
+  | inl fits ↦ absurd (let none = rw fits at is in cc)
+  | inr other ↦ grind (arith, nat_tests)
+]
+
+pub own_word_some : (o : Options) (w : List ℕ) (n : ℕ) → Some n ≡ packed_word o w
+    → unit_of_packed row_of n ≡ unit_of_word (rules_of o) w
+own_word_some o w n is =
+    let packed = packed_some o w n is in
+    ap (unit_of_packed row_of) packed.1 ∙ sym (unit_by_number (own_rules o) w packed.0)
+
+pub own_word_none : (o : Options) (w : List ℕ) → None ≡ packed_word o w → None ≡ unit_of_word (rules_of o) w
+own_word_none o w is = elim (packed_none o w is) [
+  | inl long ↦ no_long_name (own_rules o) w long
+  | inr other ↦ no_letter_name o w other
+]
+
+-- the rules by which only the added names are read
+abbrev pub added_rules : Rules
+added_rules = record { table = added_row_of; default_unit = None; options = off }
+
+pub added_word_some : (w : List ℕ) (n : ℕ) → Some n ≡ packed_word off w
+    → unit_of_packed added_row_of n ≡ unit_of_word added_rules w
+added_word_some w n is =
+    let packed = packed_some off w n is in
+    ap (unit_of_packed added_row_of) packed.1 ∙ sym (by_number added_row_of None off w (packable added_row_of refl) packed.0)
+
+pub added_word_none : (w : List ℕ) → None ≡ packed_word off w → None ≡ unit_of_word added_rules w
+added_word_none w is = elim (packed_none off w is) [
+  | inl long ↦ no_name added_rules w (λ name. leb (byte_len name) 12) refl
+      (false_from_ne_true _ (λ t. absurd (omega (arith, leb-true _ _ t, byte_len-form off w, long))))
+  | inr other ↦ no_name added_rules w (list_all (is_unit_letter off)) refl (letters_form off w ∙ other)
+]
+
+abbrev pub more_off : Rules
+more_off = more_rules off None
+
+pub more_word_some : (w : List ℕ) (n : ℕ) → Some n ≡ packed_word off w
+    → unit_of_packed more_row_of n ≡ unit_of_word more_off w
+more_word_some w n is =
+    let packed = packed_some off w n is in
+    ap (unit_of_packed more_row_of) packed.1 ∙ sym (by_number more_row_of None off w (packable more_row_of refl) packed.0)
+
+more_letters : (u : TimeUnit) → list_all (list_all (is_unit_letter off)) (more_row_of u).names ≡ true
+more_letters = all_units (λ u. list_all (list_all (is_unit_letter off)) (more_row_of u).names) refl
+
+pub more_word_none : (w : List ℕ) → None ≡ packed_word off w → None ≡ unit_of_word more_off w
+more_word_none w is = elim (packed_none off w is) [
+  | inl long ↦ no_name more_off w (λ name. leb (byte_len name) 12) refl
+      (false_from_ne_true _ (λ t. absurd (omega (arith, leb-true _ _ t, byte_len-form off w, long))))
+  | inr other ↦
+      let unnamed = λ (u : TimeUnit). false_from_ne_true (is_named more_off w u) (λ t.
+          let among : list_any (bytes_eq (comparison_form off w)) (more_row_of u).names ≡ true = grind arith in
+          cc (other, letters_form off w,
+          named_passes (list_all (is_unit_letter off)) (comparison_form off w) (more_row_of u).names (more_letters u) among)) in
+      simp unnamed
+]
+
+-- ---- the micro sign in place of the Greek letter mu
+
+micro_width : (greek : Bool) (c : ℕ) → width (micro_if greek c) ≡ width c
+micro_width greek c = elim (cases_Bool (greek && c == 0x3BC)) [
+  | inl is ↦ let same : c ≡ 0x3BC = eqb-true c 0x3BC (and_parts _ _ is).1 in rw is (rw same refl)
+  | inr other ↦ rw other refl
+]
+
+pub micro_len : (greek : Bool) (w : List ℕ) → byte_len (with_micro greek w) ≡ byte_len w
+micro_len greek [] = refl
+micro_len greek (c ∷ w) = rw (micro_width greek c, micro_len greek w) refl
+
+pub no_micro : (w : List ℕ) → with_micro false w ≡ w
+no_micro [] = refl
+no_micro (c ∷ w) = rw (no_micro w) refl
+
+-- ---- a packed number with a flag
+
+abbrev pub flagged : Bool → ℕ → ℕ × Bool
+flagged flag n = (n, flag)
+
+pub or_assoc : (a b c : Bool) → (a || (b || c)) ≡ ((a || b) || c)
+or_assoc true b c = refl
+or_assoc false b c = refl
+
+pub unpacked : (found : Option ℕ) (flag : Bool) → None ≡ found → None ≡ option_map (flagged flag) found
+unpacked None flag e = refl
+unpacked (Some n) flag e = absurd cc
+
+pub packed_with : (found : Option ℕ) (flag seen : Bool) (n : ℕ) → Some n ≡ found → flag ≡ (seen || false)
+    → Some (flagged seen n) ≡ option_map (flagged flag) found
+packed_with found flag seen n is same =
+    let flags : flag ≡ seen = grind arith in rw (← is, flags) refl
+
+pub packed_parts : (found : Option ℕ) (flag : Bool) (pair : ℕ × Bool) → Some pair ≡ option_map (flagged flag) found
+    → (Some pair.0 ≡ found) × (pair.1 ≡ flag)
+packed_parts None flag pair e = absurd cc
+packed_parts (Some n) flag pair e = let same : pair ≡ flagged flag n = cc in rw same (refl, refl)
+
+pub packed_empty : (found : Option ℕ) (flag : Bool) → None ≡ option_map (flagged flag) found → None ≡ found
+packed_empty None flag e = refl
+packed_empty (Some n) flag e = absurd cc
+
+pub no_letter_mu : (o : Options) (w : List ℕ) → list_any (λ c. c == 0x3BC) w ≡ true → list_all (is_unit_letter o) w ≡ false
+no_letter_mu o [] h = absurd cc
+no_letter_mu o (c ∷ w) h = elim (or_cases (c == 0x3BC) (list_any (λ d. d == 0x3BC) w) h) [
+  | inl is ↦
+      let same : c ≡ 0x3BC = eqb-true c 0x3BC is in
+      let other : is_unit_letter o 0x3BC ≡ false = search (rules, cases_Bool) in
+      rw same (rw other refl)
+  | inr more ↦ elim (cases_Bool (is_unit_letter o c)) [
+    | inl letter ↦ rw letter (no_letter_mu o w more)
+    | inr none ↦ rw none refl
+  ]
+]
+
+-- ---- tables that have the names of another one
+
+abbrev is_same : Option TimeUnit → Option TimeUnit → Bool
+is_same None None = true
+is_same (Some u) (Some v) = eqb (nanos_of u) (nanos_of v)
+is_same _ _ = false
+
+is_same-true : (u : TimeUnit) (found : Option TimeUnit) → is_same (Some u) found ≡ true → found ≡ Some u
+is_same-true u None e = absurd cc
+is_same-true u (Some v) e = ap Some (sym (same_length u v (eqb-true (nanos_of u) (nanos_of v) e)))
+
+-- whether a packed number names the same unit in both tables
+abbrev pub agree : Table → Table → ℕ → Bool
+agree table wide n = is_same (unit_of_packed table n) (unit_of_packed wide n)
+
+pub wider_unit : (table wide : Table) (n : ℕ) (u : TimeUnit)
+    → list_all (λ v. list_all (λ name. agree table wide (packed_number kept_capitals name)) (all_names_in table v)) units
+    ≡ true
+    → Some u ≡ unit_of_packed table n → Some u ≡ unit_of_packed wide n
+wider_unit table wide n u all found = elim (cases_Bool (agree table wide n)) [
+  | inl same ↦ sym (is_same-true u (unit_of_packed wide n) (rw (← found) at same))
+  | inr other ↦ absurd (let none = no_packed_name table (agree table wide) n other all in cc)
+]
+
+abbrev all_numbers : (ℕ → Bool) → Table → Bool
+all_numbers test table = list_all (λ u. list_all (λ name. test (packed_number kept_capitals name)) (all_names_in table u)) units
+
+own_kept : all_numbers (agree row_of more_row_of) row_of ≡ true
+unfolding unit_of_packed
+own_kept = refl
+
+added_kept : all_numbers (agree added_row_of more_row_of) added_row_of ≡ true
+unfolding unit_of_packed
+added_kept = refl
+
+more_known : all_numbers (λ n. is_some (unit_of_packed row_of n) || is_some (unit_of_packed added_row_of n)) more_row_of ≡ true
+unfolding unit_of_packed
+more_known = refl
+
+more_kept : all_numbers (agree more_row_of humantime_row_of) more_row_of ≡ true
+unfolding unit_of_packed
+more_kept = refl
+
+humantime_known : all_numbers (λ n. is_some (unit_of_packed more_row_of n) || eqb n 39) humantime_row_of ≡ true
+unfolding unit_of_packed
+humantime_known = refl
+
+pub own_in_more : (n : ℕ) (u : TimeUnit) → Some u ≡ unit_of_packed row_of n → Some u ≡ unit_of_packed more_row_of n
+own_in_more n u = wider_unit row_of more_row_of n u own_kept
+
+pub added_in_more : (n : ℕ) (found : Option TimeUnit) → None ≡ unit_of_packed row_of n → found ≡ unit_of_packed added_row_of n
+    → found ≡ unit_of_packed more_row_of n
+added_in_more n (Some u) none is = wider_unit added_row_of more_row_of n u added_kept is
+added_in_more n None none is =
+    no_packed_name more_row_of (λ m. is_some (unit_of_packed row_of m) || is_some (unit_of_packed added_row_of m)) n
+    (rw (← none, ← is) refl) more_known
+
+pub month_in_humantime : Some Month ≡ unit_of_packed humantime_row_of 39
+unfolding unit_of_packed
+month_in_humantime = refl
+
+pub more_in_humantime : (n : ℕ) (found : Option TimeUnit) → eqb n 39 ≡ false → found ≡ unit_of_packed more_row_of n
+    → found ≡ unit_of_packed humantime_row_of n
+more_in_humantime n (Some u) other is = wider_unit more_row_of humantime_row_of n u more_kept is
+more_in_humantime n None other is =
+    no_packed_name humantime_row_of (λ m. is_some (unit_of_packed more_row_of m) || eqb m 39) n
+    (rw (← is, other) refl) humantime_known
+
+-- A word that names a unit by the library's own table names it with more names, too.
+pub named_with_more : (default_unit : Option TimeUnit) (o : Options) (w : List ℕ) (u : TimeUnit)
+    → unit_of_word (record { table = row_of; default_unit = default_unit; options = o }) w ≡ Some u
+    → unit_of_word (record { table = more_row_of; default_unit = default_unit; options = o }) w ≡ Some u
+named_with_more default_unit o w u is = elim (cases_Bool (list_all (is_unit_letter o) w)) [
+  | inl letters ↦
+      let own = by_number row_of default_unit o w (packable row_of refl) letters in
+      let wide = by_number more_row_of default_unit o w (packable more_row_of refl) letters in
+      wide ∙ sym (own_in_more (packed_number o w) u (sym is ∙ own))
+  | inr other ↦ absurd (let none = no_letter_name o w other in cc)
+]
 
 -- ---- slots
 

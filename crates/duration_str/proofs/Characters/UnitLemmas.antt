@@ -49,7 +49,7 @@ all_apart u v = all_units (same_or_apart u) (all_units (λ w. list_all (same_or_
 unit_by_length : (u : TimeUnit) → find (λ v. eqb (nanos_of v) (nanos_of u)) units ≡ Some u
 unit_by_length = each_unit (λ u. find (λ v. eqb (nanos_of v) (nanos_of u)) units ≡ Some u) assumption
 
-same_length : (u v : TimeUnit) → nanos_of u ≡ nanos_of v → u ≡ v
+pub same_length : (u v : TimeUnit) → nanos_of u ≡ nanos_of v → u ≡ v
 same_length u v e = let found = rw e at (unit_by_length u) in cc (unit_by_length v)
 
 pub named_passes : (test : List ℕ → Bool) (w : List ℕ) (names : List (List ℕ)) → list_all test names ≡ true

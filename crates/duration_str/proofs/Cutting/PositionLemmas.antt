@@ -1,12 +1,12 @@
 -- Lemmas about the steps of cutting, in terms of a text, the byte up to which it is cut, and the
 -- number of looks.
-use Rattle.duration_str.proofs.Common.{[], add-zero, ahead, and_from, ap, append-nil, append_assoc, append_cancel_right, arith, Between, Bool, byte_len, chars, chars-append, drop, drop-drop, encodes-chars, EndsRun, false, ForSome, if◌then◌else◌, is_digit, is_some, is_unit_letter, IsCharBoundary, IsLexeme, IsTrue, IsUtf8, IsUtf8-drop, IsUtf8-take, length, length-append, length-drop, length-le-encodes, letter_number, List, list_all, list_all-append, meaning_of, None, number_after, number_of, Option, Options, packed_number, packed_number_after, Passes, refl, row_of, table_of, Rules, rules_of, slice_range, Some, Stands, StandsAt, sym, take, take-append-drop, TakesDigits, TakesLetters, TimeUnit, tokens_from, true, u64_from, unit_of_packed, unit_of_word, width, ℕ, ◌%◌, ◌*◌, ◌++◌, ◌+◌, ◌-◌, ◌<◌, ◌^◌, ◌∙◌, ◌∷◌, ◌≡◌, ◌≤◌, rules}
+use Rattle.duration_str.proofs.Common.{[], add-zero, ahead, and_from, ap, append-nil, append_assoc, append_cancel_right, arith, Between, Bool, byte_len, chars, chars-append, drop, drop-drop, encodes-chars, EndsRun, false, ForSome, if◌then◌else◌, is_digit, is_some, is_unit_letter, IsCharBoundary, IsLexeme, IsTrue, IsUtf8, IsUtf8-drop, IsUtf8-take, length, length-append, length-drop, length-le-encodes, letter_number, List, list_all, list_all-append, meaning_of, None, number_after, number_of, Option, Options, packed_number, packed_number_after, Passes, refl, row_of, table_of, Rules, rules_of, slice_range, Some, Stands, StandsAt, sym, take, take-append-drop, TakesDigits, TakesLetters, TimeUnit, tokens_from, true, u64_from, unit_of_packed, unit_of_word, width, ℕ, ◌%◌, ◌*◌, ◌++◌, ◌+◌, ◌-◌, ◌<◌, ◌^◌, ◌∙◌, ◌∷◌, ◌≡◌, ◌≤◌, rules, packed_word, nat_le, nat_tests, cases_Bool, inl, inr}
 pub use Rattle.duration_str.proofs.Cutting.TokenLemmas.{blanks_no_token, tokens_step}
-use Rattle.duration_str.specs.declared.settings.Settings.{Settings}
+use Rattle.duration_str.specs.declared.rules.Rules.{Rules as CodeRules}
 use Rattle.duration_str.proofs.Characters.CharacterLemmas.{byte_len-append, width_some}
 use Rattle.duration_str.proofs.Characters.NumberLemmas.{decimal_digits}
 use Rattle.std.proofs.lemmas.Str.Parse.{digits_value_short}
-use Rattle.duration_str.proofs.Characters.PackedLemmas.{own_settings, exact, no_letter_name, no_long_name, unit_by_number}
+use Rattle.duration_str.proofs.Characters.PackedLemmas.{exact, no_long_name, unit_by_number}
 
 -- ---- looks
 
@@ -124,22 +124,22 @@ pub record TakesWord (r : Rules) (text : List ℕ) (place next : ℕ) (unit : Op
   pub run : Passes (is_unit_letter r.options) text place next
   pub named : unit ≡ unit_of_word r run.characters
 
-module _ (settings : Settings) {text : List ℕ} {place next value : ℕ}
-    (taken : TakesLetters settings.options text place next value) where
-  pub short_word : {unit : Option TimeUnit} → next - place ≤ 12 → unit ≡ unit_of_packed (table_of settings.table) value
-      → TakesWord (meaning_of settings) text place next unit
+module _ (given : CodeRules) {text : List ℕ} {place next value : ℕ}
+    (taken : TakesLetters given.options text place next value) where
+  pub short_word : {unit : Option TimeUnit} → next - place ≤ 12 → unit ≡ unit_of_packed (table_of given.table) value
+      → TakesWord (meaning_of given) text place next unit
   short_word short found =
       let cs = taken.run.characters in
       let few : length cs ≤ 12 = omega (arith, length-le-byte_len cs, taken.run.between.bytes, short) in
       record {
         run = taken.run;
-        named = rw (found, exact settings.options cs value few taken.number, unit_by_number settings cs taken.run.all);
+        named = rw (found, exact given.options cs value few taken.number, unit_by_number given cs taken.run.all);
       }
 
-  pub long_word : 12 < next - place → TakesWord (meaning_of settings) text place next None
+  pub long_word : 12 < next - place → TakesWord (meaning_of given) text place next None
   long_word long = record {
     run = taken.run;
-    named = no_long_name settings taken.run.characters (omega (arith, taken.run.between.bytes));
+    named = no_long_name given taken.run.characters (omega (arith, taken.run.between.bytes));
   }
 
 -- ---- a word by itself
@@ -162,18 +162,24 @@ packs_more {o} {c = c} passed letter more = record {
   number = omega (arith, more, passed.number, packed_after-push o 0 passed.letters c);
 }
 
-pub packs_unit : {o : Options} {word : List ℕ} {n : ℕ} {unit : Option TimeUnit} → Packs o word [] n → byte_len word ≤ 12
-    → unit ≡ unit_of_packed row_of n → unit ≡ unit_of_word (rules_of o) word
-packs_unit {o} {word} {n} packed short found =
+pub packs_whole : {o : Options} {word : List ℕ} {n : ℕ} → Packs o word [] n → byte_len word ≤ 12 → Some n ≡ packed_word o word
+packs_whole {o} {word} {n} packed short =
     let cs = packed.letters in
     let same : cs ≡ word = rw append-nil at (sym packed.whole) in
     let few : length cs ≤ 12 = omega (arith, length-le-byte_len word, ap length same, short) in
-    found ∙ ap (unit_of_packed row_of) (exact o cs n few packed.number) ∙ sym (unit_by_number (own_settings o) cs packed.all)
-    ∙ ap (unit_of_word (rules_of o)) same
+    let fits : nat_le (byte_len word) 12 ≡ true = grind (arith, nat_tests) in
+    rw (fits, rw same at packed.all) (ap Some (exact o cs n few packed.number ∙ ap (packed_number o) same))
 
 pub packs_other : {o : Options} {word rest : List ℕ} {c n : ℕ} → Packs o word (c ∷ rest) n → is_unit_letter o c ≡ false
-    → None ≡ unit_of_word (rules_of o) word
-packs_other packed other = search (rules, no_letter_name, list_all-append)
+    → None ≡ packed_word o word
+packs_other {o} {word} {rest} {c} packed other =
+    let no : list_all (is_unit_letter o) word ≡ false =
+    rw packed.whole (list_all-append (is_unit_letter o) packed.letters (c ∷ rest) ∙ rw (packed.all, other) refl) in
+    elim (cases_Bool (nat_le (byte_len word) 12)) [ inl short ↦ rw (short, no) refl | inr long ↦ rw long refl ]
+
+pub packs_long : (o : Options) (word : List ℕ) → 12 < byte_len word → None ≡ packed_word o word
+packs_long o word long =
+    let unfit : nat_le (byte_len word) 12 ≡ false = grind (arith, nat_tests) in rw unfit refl
 
 -- ---- the first token that is left
 

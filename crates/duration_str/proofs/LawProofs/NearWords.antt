@@ -1,10 +1,9 @@
-use Rattle.duration_str.proofs.Common.{[], all_names, ap, arith, Bool, bytes_eq, cases_Bool, codes, comparison_form, encode_utf8_all, find, inl, inr, List, list_all, list_any, map, MicroSecond, Month, not, Options, refl, row_of, rules, rules_of, Some, sym, TimeUnit, to_ascii_lowercase, true, unit_of_word, units, ℕ, ◌∙◌, ◌∷◌, ◌≡◌}
+use Rattle.duration_str.proofs.Common.{[], all_names, ap, arith, bytes_eq, bytes_eq-Decides, Bool, cases_Bool, codes, comparison_form, false, find, inl, inr, List, list_all, list_any, map, more_names, None, not, Option, Options, or_cases, refl, row_of, rules, rules_of, Some, sym, TimeUnit, to_ascii_lowercase, true, unit_of_word, units, ℕ, ◌∙◌, ◌∷◌, ◌≡◌, ◌||◌, ◌==◌}
 use Rattle.std.specs.Option.{option_map}
 use Rattle.duration_str.specs.Laws.{IsAdvised, NearWords}
-use Rattle.duration_str.specs.OneLine.{is_among, near_words, small_words, us_words}
-use Rattle.duration_str.proofs.Characters.UnitLemmas.{all_units, bytes_eq-encodes, each_unit, lower-encodes, named_unit}
-use Rattle.duration_str.proofs.Characters.PackedLemmas.{no_name}
-use Rattle.duration_str.proofs.Printer.NearLemmas.{otherwise}
+use Rattle.duration_str.specs.OneLine.{help_name, near_unit, small_words}
+use Rattle.duration_str.proofs.Characters.UnitLemmas.{all_units, each_unit, named_unit}
+use Rattle.duration_str.proofs.Characters.PackedLemmas.{no_letter_mu, no_letter_name, no_name}
 
 lower_twice : (word : List ℕ) → map to_ascii_lowercase (map to_ascii_lowercase word) ≡ map to_ascii_lowercase word
 lower_twice [] = refl
@@ -14,22 +13,50 @@ lower_form : (o : Options) (word : List ℕ)
     → map to_ascii_lowercase (comparison_form o word) ≡ map to_ascii_lowercase word
 lower_form o word = elim (cases_Bool o.lowercase) [ inl on ↦ rw on refl | inr off ↦ rw off (lower_twice word) ]
 
-among_same : (word : List ℕ) (words : List (List ℕ))
-    → is_among words (encode_utf8_all word) ≡ list_any (bytes_eq word) words
-among_same word [] = refl
-among_same word (w ∷ words) = rw (bytes_eq-encodes word w, among_same word words) refl
+-- whether a name is not among these words in small letters
+abbrev is_apart : List (List ℕ) → List ℕ → Bool
+is_apart words name = not (list_any (bytes_eq (map to_ascii_lowercase name)) words)
 
-abbrev is_near : TimeUnit → List ℕ → Bool
-is_near u name = list_any (bytes_eq (map to_ascii_lowercase name)) (near_words u)
+abbrev are_apart : List (List ℕ) → Bool
+are_apart words = list_all (λ v. list_all (is_apart words) (all_names v)) units
 
-near_apart : (u : TimeUnit) → list_all (λ v. list_all (λ name. not (is_near u name)) (all_names v)) units ≡ true
-near_apart = all_units (λ u. list_all (λ v. list_all (λ name. not (is_near u name)) (all_names v)) units) refl
+more_apart : (u : TimeUnit) → are_apart (more_names u) ≡ true
+more_apart = all_units (λ u. are_apart (more_names u)) refl
 
-printed_small : (u : TimeUnit) → map to_ascii_lowercase (row_of u).printed ≡ (row_of u).printed
-printed_small = each_unit (λ u. map to_ascii_lowercase (row_of u).printed ≡ (row_of u).printed) assumption
+unread_among : (o : Options) (word : List ℕ) (words : List (List ℕ)) → are_apart words ≡ true
+    → list_any (bytes_eq (map to_ascii_lowercase word)) words ≡ true → None ≡ unit_of_word (rules_of o) word
+unread_among o word words apart among = no_name (rules_of o) word (is_apart words) apart (rw (lower_form o word, among) refl)
 
-printed_named : (u : TimeUnit) → list_any (bytes_eq (row_of u).printed) (row_of u).names ≡ true
-printed_named = all_units (λ u. list_any (bytes_eq (row_of u).printed) (row_of u).names) refl
+found_among : (small : List ℕ) (us : List TimeUnit) (u : TimeUnit)
+    → find (λ v. list_any (bytes_eq small) (more_names v)) us ≡ Some u → list_any (bytes_eq small) (more_names u) ≡ true
+found_among small [] u e = absurd cc
+found_among small (v ∷ us) u e = elim (cases_Bool (list_any (bytes_eq small) (more_names v))) [
+  | inl near ↦ let found = rw near at e in let same : v ≡ u = cc in rw (← same) near
+  | inr far ↦ found_among small us u (rw far at e)
+]
+
+unread_small : (o : Options) (word : List ℕ) → list_any (bytes_eq word) small_words ≡ true → None ≡ unit_of_word (rules_of o) word
+unread_small o word small = elim (or_cases (bytes_eq word (codes "mo")) (bytes_eq word (codes "mos") || false) small) [
+  | inl mo ↦ rw ((bytes_eq-Decides word (codes "mo")).0 mo) (unread_among o (codes "mo") small_words refl refl)
+  | inr mos ↦ rw ((bytes_eq-Decides word (codes "mos")).0 (grind arith)) (unread_among o (codes "mos") small_words refl refl)
+]
+
+unread : (o : Options) (word : List ℕ) (u : TimeUnit) → near_unit word ≡ Some u → None ≡ unit_of_word (rules_of o) word
+unread o word u near = elim (cases_Bool (list_any (bytes_eq word) small_words)) [
+  | inl small ↦ unread_small o word small
+  | inr other ↦ elim (cases_Bool (list_any (λ c. c == 0x3BC) word)) [
+    | inl greek ↦ no_letter_name o word (no_letter_mu o word greek)
+    | inr latin ↦
+        let found = rw (other, latin) at near in
+        unread_among o word (more_names u) (more_apart u) (found_among (map to_ascii_lowercase word) units u found)
+  ]
+]
+
+advised_small : (u : TimeUnit) → map to_ascii_lowercase (help_name u) ≡ help_name u
+advised_small = each_unit (λ u. map to_ascii_lowercase (help_name u) ≡ help_name u) assumption
+
+advised_named : (u : TimeUnit) → list_any (bytes_eq (help_name u)) (row_of u).names ≡ true
+advised_named = all_units (λ u. list_any (bytes_eq (help_name u)) (row_of u).names) refl
 
 named : (o : Options) (name : List ℕ) (u : TimeUnit) → map to_ascii_lowercase name ≡ name
     → list_any (bytes_eq name) (row_of u).names ≡ true → unit_of_word (rules_of o) name ≡ Some u
@@ -37,44 +64,17 @@ named o name u small among =
     let form : comparison_form o name ≡ name = elim (cases_Bool o.lowercase) [ inl on ↦ rw on refl | inr off ↦ rw off small ] in
     named_unit o name u (rw (form, among) refl)
 
-found_near : (small : List ℕ) (us : List TimeUnit) (name : List ℕ)
-    → option_map (λ u. (row_of u).printed) (find (λ u. is_among (near_words u) small) us) ≡ Some name
-    → (u : TimeUnit) × (is_among (near_words u) small ≡ true) × ((row_of u).printed ≡ name)
-found_near small [] name e = absurd cc
-found_near small (u ∷ us) name e = search (rules, cases_Bool, found_near small us name)
-
-advised : (o : Options) (word name : List ℕ) (u : TimeUnit)
-    → is_among (near_words u) (map to_ascii_lowercase (encode_utf8_all word)) ≡ true → unit_of_word (rules_of o) name ≡ Some u
-    → IsAdvised o word name
-advised o word name u near read =
-    let is = rw (lower-encodes word, among_same (map to_ascii_lowercase word)) at near in
+advised : (o : Options) (word name : List ℕ) (unit : Option TimeUnit) → near_unit word ≡ unit
+    → option_map help_name unit ≡ Some name → IsAdvised o word name
+advised o word name None near e = absurd cc
+advised o word name (Some u) near e =
+    let same : help_name u ≡ name = cc in
     record {
       unit = u;
       near = near;
-      unread = sym (no_name (rules_of o) word (λ name. not (is_near u name)) (near_apart u) (rw (lower_form o word, is) refl));
-      read = read;
+      unread = sym (unread o word u near);
+      read = rw (← same) (named o (help_name u) u (advised_small u) (advised_named u));
     }
 
 pub near_words_hold : NearWords
-near_words_hold o word name e =
-    let bytes = encode_utf8_all word in
-    let small = map to_ascii_lowercase bytes in
-    elim (cases_Bool (is_among small_words small)) [
-      | inl month ↦ elim (cases_Bool (is_among small_words bytes)) [
-        | inl exact ↦
-            let same : codes "mon" ≡ name = let is = rw (month, exact) at e in cc in
-            let near : is_among (near_words Month) small ≡ true = grind arith in
-            advised o word name Month near (rw (← same) (named o (codes "mon") Month refl refl))
-        | inr other ↦ absurd (let clash = rw (month, other) at e in cc)
-      ]
-      | inr none ↦ elim (cases_Bool (is_among us_words small)) [
-        | inl us ↦
-            let same : codes "us" ≡ name = let is = rw (none, us) at e in cc in
-            let near : is_among (near_words MicroSecond) small ≡ true = grind arith in
-            advised o word name MicroSecond near (rw (← same) (named o (codes "us") MicroSecond refl refl))
-        | inr other ↦
-            let found = found_near small units name (otherwise _ _ _ other ∙ otherwise _ _ _ none ∙ e) in
-            let read = named o (row_of found.0).printed found.0 (printed_small found.0) (printed_named found.0) in
-            advised o word name found.0 found.1 (ap (unit_of_word (rules_of o)) (sym found.2) ∙ read)
-      ]
-    ]
+near_words_hold o word name e = advised o word name (near_unit word) refl e

@@ -1,108 +1,62 @@
-use Rattle.duration_str.proofs.Common.{ap, arith, Bool, bytes_eq, bytes_eq-Decides, cases_Bool, codes, encode_utf8_all, false, find, if◌then◌else◌, inl, inr, List, map, MicroSecond, None, Option, or_cases, refl, row_of, Some, sym, TimeUnit, to_ascii_lowercase, units, [], ℕ, ◌||◌, ◌∙◌, ◌∷◌, ◌≡◌, rules}
-use Rattle.duration_str.proofs.Characters.UnitLemmas.{each_unit}
-use Rattle.duration_str.specs.declared.one_line.TheConstants.{NEAR_WORDS}
-use Rattle.std.specs.Option.{option_map}
-use Rattle.duration_str.specs.OneLine.{help_or_units, is_among, name_help, near_name, near_words, small_words, unit_help, us_words}
-use Rattle.duration_str.specs.Internal.UnitTable.{is_megabyte, is_near, trimmed}
+-- Lemmas about words that are near a unit.
+use Rattle.duration_str.proofs.Common.{ap, arith, bytes_eq, bytes_eq-Decides, cases_Bool, codes, encode_utf8_all, encodes-chars, false, find, get_or, inl, inr, is_named, IsUtf8, length, List, list_any, map, None, off, Option, packed_word, rank_of, refl, Some, sym, take, TimeUnit, to_ascii_lowercase, true, units, unit_of_word, with_micro, Bool, Month, [], ℕ, ◌∙◌, ◌∷◌, ◌≡◌, ◌-◌, ◌==◌, more_names, rules}
+use Rattle.duration_str.proofs.Characters.PackedLemmas.{added_rules, added_word_none, more_off, more_word_none}
+use Rattle.duration_str.proofs.Characters.UnitLemmas.{bytes_eq-encodes, each_unit}
+use Rattle.duration_str.specs.declared.one_line.TheConstants.{HELP_NAMES}
+use Rattle.std.specs.Char.{is_ascii_whitespace}
+use Rattle.std.specs.List.{suffix_len}
+use Rattle.std.specs.Str.{chars}
+use Rattle.duration_str.specs.OneLine.{help_name, near_unit, small_words, with_micro_sign}
 
--- a row of a table: a word, and the name to write, both in bytes
-abbrev Row : Type 0
-Row = List ℕ × List ℕ
+added_found : (word : List ℕ) (us : List TimeUnit)
+    → find (λ u. list_any (bytes_eq (map to_ascii_lowercase word)) (more_names u)) us ≡ find (is_named added_rules word) us
+added_found word [] = refl
+added_found word (u ∷ us) = elim (cases_Bool (list_any (bytes_eq (map to_ascii_lowercase word)) (more_names u))) [
+  | inl near ↦ rw near refl
+  | inr far ↦ rw far (added_found word us)
+]
 
-abbrev with_words : List (List ℕ) → List ℕ → List Row → List Row
-with_words [] name rows = rows
-with_words (word ∷ words) name rows = (encode_utf8_all word, encode_utf8_all name) ∷ with_words words name rows
+pub near_mo : (word : List ℕ) → bytes_eq word (codes "mo") ≡ true → near_unit (chars word) ≡ Some Month
+unfolding chars
+near_mo word same = rw ((bytes_eq-Decides word (codes "mo")).0 same) refl
 
--- the near words of a unit, without those for which `us` is written
-abbrev own_words : TimeUnit → List (List ℕ)
-own_words MicroSecond = codes "µsecs" ∷ codes "µseconds" ∷ []
-own_words u = near_words u
+pub near_mos : (word : List ℕ) → bytes_eq word (codes "mos") ≡ true → near_unit (chars word) ≡ Some Month
+unfolding chars
+near_mos word same = rw ((bytes_eq-Decides word (codes "mos")).0 same) refl
 
-abbrev rows_of : List TimeUnit → List Row
-rows_of [] = []
-rows_of (u ∷ us) = with_words (own_words u) (row_of u).printed (rows_of us)
+no_mu : (word : List ℕ) → list_any (λ c. c == 0x3BC) word ≡ false → with_micro true word ≡ word
+no_mu [] h = refl
+no_mu (c ∷ word) h = elim (cases_Bool (c == 0x3BC)) [
+  | inl is ↦ absurd (let clash = rw is at h in cc)
+  | inr other ↦ rw (other, no_mu word (rw other at h)) refl
+]
 
-abbrev name_beside : List ℕ → List Row → Option (List ℕ)
-name_beside word rows = option_map (λ row. row.1) (find (λ row. bytes_eq word row.0) rows)
+module _ (bytes : List ℕ) (utf8 : IsUtf8 bytes) (mo : bytes_eq bytes (codes "mo") ≡ false)
+    (mos : bytes_eq bytes (codes "mos") ≡ false) where
+  no_small : list_any (bytes_eq (chars bytes)) small_words ≡ false
+  unfolding lib.Utf8.encode
+  no_small =
+      let first : bytes_eq (encode_utf8_all (chars bytes)) (codes "mo") ≡ false = rw (encodes-chars bytes utf8) mo in
+      let second : bytes_eq (encode_utf8_all (chars bytes)) (codes "mos") ≡ false = rw (encodes-chars bytes utf8) mos in
+      rw (sym (bytes_eq-encodes (chars bytes) (codes "mo")) ∙ first, sym (bytes_eq-encodes (chars bytes) (codes "mos")) ∙ second)
+      refl
 
-found_among : (small : List ℕ) (words : List (List ℕ)) (name : List ℕ) (rows : List Row)
-    → name_beside small (with_words words name rows)
-    ≡ (if is_among words small then Some (encode_utf8_all name) else name_beside small rows)
-found_among small [] name rows = refl
-found_among small (word ∷ words) name rows = search (rules, cases_Bool, found_among small words name rows)
+  pub near_greek : list_any (λ c. c == 0x3BC) (chars bytes) ≡ true → near_unit (chars bytes) ≡ unit_of_word more_off (with_micro true (chars bytes))
+  near_greek greek = rw (no_small, greek) refl
 
-own_among : (small : List ℕ) → is_among us_words small ≡ false → (u : TimeUnit)
-    → is_among (own_words u) small ≡ is_among (near_words u) small
-own_among small none = search (rules, each_unit)
+  pub near_added : list_any (λ c. c == 0x3BC) (chars bytes) ≡ false
+      → near_unit (chars bytes) ≡ unit_of_word added_rules (with_micro true (chars bytes))
+  near_added other = rw (no_small, other, no_mu (chars bytes) other) (added_found (chars bytes) units)
 
-found_unit : (small : List ℕ) (us : List TimeUnit) → is_among us_words small ≡ false → name_beside small (rows_of us)
-    ≡ option_map encode_utf8_all (option_map (λ u. (row_of u).printed) (find (λ u. is_among (near_words u) small) us))
-found_unit small [] none = refl
-found_unit small (u ∷ us) none =
-    let found = found_among small (own_words u) (row_of u).printed (rows_of us) in
-    let own = own_among small none u in
-    elim (cases_Bool (is_among (near_words u) small)) [
-      | inl near ↦ found ∙ rw (own, near) refl
-      | inr far ↦ found ∙ rw (own, far) (found_unit small us none)
-    ]
+  pub near_none : None ≡ packed_word off (with_micro true (chars bytes)) → None ≡ near_unit (chars bytes)
+  near_none none = elim (cases_Bool (list_any (λ c. c == 0x3BC) (chars bytes))) [
+    | inl greek ↦ more_word_none (with_micro true (chars bytes)) none ∙ sym (near_greek greek)
+    | inr latin ↦ added_word_none (with_micro true (chars bytes)) none ∙ sym (near_added latin)
+  ]
 
-abbrev row_said : Row → Row
-row_said row = (map to_ascii_lowercase (trimmed row.0), trimmed row.1)
+abbrev trimmed : List ℕ → List ℕ
+trimmed bytes = take (length bytes - suffix_len is_ascii_whitespace bytes) bytes
 
-found_said : (small : List ℕ) (rows : List Row)
-    → option_map (λ row. trimmed row.1) (find (λ row. bytes_eq small (map to_ascii_lowercase (trimmed row.0))) rows)
-    ≡ name_beside small (map row_said rows)
-found_said small [] = refl
-found_said small (row ∷ rows) = search (rules, cases_Bool, found_said small rows)
-
-pub otherwise : {A : Type 0} (b : Bool) (x y : A) → b ≡ false → y ≡ (if b then x else y)
-otherwise b x y e = rw e refl
-
-abbrev near_row : List ℕ → Option Row
-near_row word = if is_megabyte word then None else find (λ row. is_near row.0 word) NEAR_WORDS
-
--- The code's table has first the words for which `us` is written, and then the words of each unit.
-near_found : (word : List ℕ)
-    → option_map (λ row. trimmed row.1) (near_row word) ≡ option_map encode_utf8_all (near_name word)
+pub help_name_at : (u : TimeUnit) → trimmed (get_or HELP_NAMES (rank_of u) []) ≡ encode_utf8_all (help_name u)
 unfolding lib.Utf8.encode
-near_found word =
-    let lower = map to_ascii_lowercase word in
-    elim (cases_Bool (is_among small_words lower)) [
-      | inl month ↦ elim (cases_Bool (is_among small_words word)) [
-        | inl exact ↦ elim (or_cases (bytes_eq word (codes "mo")) (bytes_eq word (codes "mos") || false) exact) [
-          | inl mo ↦ rw ((bytes_eq-Decides word (codes "mo")).0 mo) refl
-          | inr mos ↦ rw ((bytes_eq-Decides word (codes "mos")).0 (grind arith)) refl
-        ]
-        | inr other ↦ rw (month, other) refl
-      ]
-      | inr none ↦
-          let right : map row_said NEAR_WORDS ≡ with_words us_words (codes "us") (rows_of units) = refl in
-          let found = found_said lower NEAR_WORDS ∙ ap (name_beside lower) right
-          ∙ found_among lower us_words (codes "us") (rows_of units) in
-          elim (cases_Bool (is_among us_words lower)) [
-            | inl us ↦ rw none (found ∙ rw us refl)
-            | inr other ↦
-                let read : is_megabyte word ≡ false = rw none refl in
-                ap (option_map (λ row. trimmed row.1)) (sym (otherwise (is_megabyte word) None _ read)) ∙ found
-                ∙ sym (otherwise (is_among us_words lower) _ _ other) ∙ found_unit lower units other
-                ∙ ap (option_map encode_utf8_all)
-                (otherwise (is_among us_words lower) _ _ other ∙ otherwise (is_among small_words lower) _ _ none)
-          ]
-    ]
-
-advised : (name : Option (List ℕ)) (bytes help : List ℕ) → Some bytes ≡ option_map encode_utf8_all name
-    → unit_help name help ≡ name_help bytes
-advised None bytes help e = absurd cc
-advised (Some name) bytes help e = let same : encode_utf8_all name ≡ bytes = cc in rw same refl
-
-no_name : (name : Option (List ℕ)) (help : List ℕ) → None ≡ option_map encode_utf8_all name
-    → unit_help name help ≡ help_or_units help
-no_name None help e = refl
-no_name (Some name) help e = absurd cc
-
-pub help_found : (word help : List ℕ) (row : Row) → near_row word ≡ Some row
-    → unit_help (near_name word) help ≡ name_help (trimmed row.1)
-help_found word help row is = advised (near_name word) (trimmed row.1) help (rw is at (near_found word))
-
-pub help_none : (word help : List ℕ) → near_row word ≡ None → unit_help (near_name word) help ≡ help_or_units help
-help_none word help is = no_name (near_name word) help (rw is at (near_found word))
+help_name_at = each_unit (λ u. trimmed (get_or HELP_NAMES (rank_of u) []) ≡ encode_utf8_all (help_name u)) assumption

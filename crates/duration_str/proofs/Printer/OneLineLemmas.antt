@@ -3,7 +3,7 @@ use Rattle.std.proofs.Common.{lit≤, nat_lt}
 use Rattle.std.proofs.lemmas.Bool.{le-leb, lt-leb}
 use Rattle.std.proofs.lemmas.List.{length-take, nil_from_length}
 use Rattle.duration_str.specs.Messages.{chars_before}
-use Rattle.duration_str.specs.OneLine.{at_column, begins_with_letter, expected_words, first_piece, found_line, found_words, help_at, is_among, is_clear, is_like, is_plain, listed_names, missing_unit_help, near_name, near_words, one_line_of, overflow_line, quoted, quoted_end, shown, small_words, syntax_line, text_line, unit_help, us_words}
+use Rattle.duration_str.specs.OneLine.{at_column, begins_with_letter, expected_words, first_piece, found_line, found_words, help_at, is_clear, is_like, is_plain, listed_names, missing_unit_help, help_name, near_name, near_unit, one_line_of, overflow_line, quoted, quoted_end, shown, syntax_line, text_line, unit_help}
 use Rattle.std.specs.Char.Escape.{escape_default, escape_unicode, hex_digit_at, short_escape}
 use Rattle.std.specs.Prelude.{not}
 use Rattle.std.specs.Int.{is_in_range}
@@ -183,7 +183,7 @@ help_short : (expected : Expected) (text : List ℕ) (place : ℕ) (piece : List
     → IsShort 52 (help_at expected text place piece)
 help_short expected text place piece = search (chosen, literal) depth 30
 
-name_short : (u : TimeUnit) → IsShort 3 (encode_utf8_all (row_of u).printed)
+name_short : (u : TimeUnit) → IsShort 3 (encode_utf8_all (help_name u))
 unfolding lib.Utf8.encode
 name_short u = search rules
 
@@ -192,26 +192,12 @@ near_short name help is =
     less (lit≤ tt) (joined (literal 16 (codes " (did you mean \"") refl) (joined is (literal 3 (codes "\"?)") refl)))
 
 unit_help_short : (word help : List ℕ) → IsShort 52 help → IsShort 52 (unit_help (near_name word) help)
-unfolding lib.Utf8.encode
-unit_help_short word help short =
-    let small = map to_ascii_lowercase word in
-    let unit = find (λ u. is_among (near_words u) small) units in
-    picked (is_among small_words small) _ _
-    (picked (is_among small_words word) (Some (codes "mon")) None (near_short (codes "mon") help (literal 3 (codes "mon") refl)) none)
-    (picked (is_among us_words small) (Some (codes "us")) _ (near_short (codes "us") help (literal 3 (codes "us") refl)) (by_unit unit))
+unit_help_short word help short = by_unit (near_unit word)
   where
-    none : IsShort 52 (unit_help None help)
-    none =
+    by_unit : (unit : Option TimeUnit) → IsShort 52 (unit_help (option_map help_name unit) help)
+    by_unit None =
         chosen (length help == 0) (literal 52 (codes " (write y, q, mon, w, d, h, min, s, ms, us or ns)") refl) short
-
-    picked : (b : Bool) (x y : Option (List ℕ)) → IsShort 52 (unit_help x help) → IsShort 52 (unit_help y help)
-        → IsShort 52 (unit_help (if b then x else y) help)
-    picked true x y first second = first
-    picked false x y first second = second
-
-    by_unit : (unit : Option TimeUnit) → IsShort 52 (unit_help (option_map (λ u. (row_of u).printed) unit) help)
-    by_unit None = none
-    by_unit (Some u) = near_short (row_of u).printed help (name_short u)
+    by_unit (Some u) = near_short (help_name u) help (name_short u)
 
 -- ---- The line
 
@@ -250,7 +236,7 @@ syntax_short text place expected is =
     (first_scalars rest (scalars-chars (drop place text) (IsUtf8-drop text place is.utf8 is.boundary))) in
     let column = column_short text place is in
     let help = help_short expected text place (encode_utf8_all (first_piece rest)) in
-    chosen _ (less (lit≤ tt) (joined (literal 13 (codes "unknown unit ") refl) (joined piece (joined column (unit_help_short _ _ help)))))
+    chosen _ (less (lit≤ tt) (joined (literal 13 (codes "unknown unit ") refl) (joined piece (joined column (unit_help_short (first_piece rest) _ help)))))
     (words_short expected text _ column (found_short _ piece) help)
 
 text_short : (problem text help : List ℕ) → IsUtf8 text → IsShort 26 problem → IsShort 41 help

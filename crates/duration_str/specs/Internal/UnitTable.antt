@@ -1,19 +1,14 @@
--- The tables in the code: of units, of names by their packed numbers, and of near words.
-use Rattle.std.specs.Prelude.{Bool, true, List, Option, bytes_eq, encode_utf8_all, length, map, not, take, [], ℕ, ◌&&◌, ◌++◌, ◌-◌, ◌/◌, ◌==◌, ◌^◌, ◌∷◌}
-use Rattle.std.specs.Char.{is_ascii_whitespace, to_ascii_lowercase}
-use Rattle.std.specs.List.{find, list_any, suffix_len}
+-- The tables in the code: of units, and of names by their packed numbers.
+use Rattle.std.specs.Prelude.{Bool, true, List, Option, Some, None, encode_utf8_all, length, map, take, [], ℕ, ◌&&◌, ◌++◌, ◌-◌, ◌/◌, ◌==◌, ◌^◌, ◌∷◌, if◌then◌else◌, nat_le}
+use Rattle.std.specs.List.{find, list_all, list_any}
 use Rattle.duration_str.specs.declared.unit.Printed.{Printed}
 use Rattle.duration_str.specs.declared.unit.TimeUnit.{TimeUnit}
-use Rattle.duration_str.specs.Text.{Bytes, Characters}
+use Rattle.duration_str.specs.Text.{Characters, byte_len, is_unit_letter}
 use Rattle.duration_str.specs.Format.{chosen}
-use Rattle.duration_str.specs.Humantime.{humantime_row_of}
+use Rattle.duration_str.specs.MoreNames.{more_names}
 use Rattle.duration_str.specs.Units.{nanos_of, row_of, UnitRow, units}
-use Rattle.duration_str.specs.Rules.{Rules}
-use Rattle.duration_str.specs.declared.settings.Settings.{Settings}
-use Rattle.duration_str.specs.declared.table.UnitTable.{UnitTable}
-use Rattle.duration_str.specs.declared.table.UnitTable.TheVariants.{Own, Humantime}
+use Rattle.duration_str.specs.declared.options.Options.{Options}
 use Rattle.duration_str.specs.Options.{off}
-use Rattle.duration_str.specs.OneLine.{is_among, small_words}
 use Rattle.duration_str.specs.Internal.Positions.{packed_number}
 
 -- the row of a unit in the table for printing
@@ -32,12 +27,9 @@ units_of bits = chosen (record { bits = bits }) units
 abbrev pub Table : Type 0
 Table = TimeUnit → UnitRow
 
-abbrev pub table_of : UnitTable → Table
-table_of Own = row_of
-table_of Humantime = humantime_row_of
-
-abbrev pub meaning_of : Settings → Rules
-meaning_of s = record { table = table_of s.table; default_unit = s.default_unit; options = s.options }
+-- the names that the table with more names adds
+abbrev pub added_row_of : Table
+added_row_of u = record (row_of u) { names = more_names u; chinese = [] }
 
 abbrev pub all_names_in : Table → TimeUnit → List Characters
 all_names_in table u = (table u).names ++ (table u).chinese
@@ -54,14 +46,19 @@ packs_to n name = packed_number (record off { lowercase = true }) name == n
 unfoldable pub unit_of_packed : Table → ℕ → Option TimeUnit
 unit_of_packed table n = find (λ u. list_any (packs_to n) (all_names_in table u)) units
 
-abbrev pub trimmed : Bytes → Bytes
-trimmed bytes = take (length bytes - suffix_len is_ascii_whitespace bytes) bytes
+-- the packed number of a word, if all its characters are unit letters and it has no more bytes than
+-- the longest name
+abbrev pub packed_word : Options → Characters → Option ℕ
+packed_word o word =
+    if nat_le (byte_len word) 12 && list_all (is_unit_letter o) word then Some (packed_number o word) else None
 
--- whether a word is `mo` or `mos` with a capital
-abbrev pub is_megabyte : Bytes → Bool
-is_megabyte word = is_among small_words (map to_ascii_lowercase word) && not (is_among small_words word)
+-- whether the character is the Greek letter mu, which looks like the micro sign
+abbrev pub is_greek_mu : ℕ → Bool
+is_greek_mu c = c == 0x3BC
 
--- whether a word is `near` without the ASCII white space at the end of `near`, if ASCII capitals
--- are read as small letters
-abbrev pub is_near : Bytes → Bytes → Bool
-is_near near word = bytes_eq (map to_ascii_lowercase word) (map to_ascii_lowercase (trimmed near))
+-- the character, but the micro sign in place of the Greek letter mu if `folds` is true
+abbrev pub micro_if : Bool → ℕ → ℕ
+micro_if folds c = if folds && c == 0x3BC then 0xB5 else c
+
+abbrev pub with_micro : Bool → Characters → Characters
+with_micro folds word = map (micro_if folds) word

@@ -1,23 +1,11 @@
-use Rattle.duration_str.proofs.Common.{arith, eqb-true, false_from_ne_true, refl}
-use Rattle.duration_str.specs.Humantime.{humantime_row_of}
-use Rattle.duration_str.specs.declared.humantime.TheConstants.{NAMED_UNITS, NAMES, SLOTS, SPREAD}
-use Rattle.duration_str.specs.Internal.UnitTable.{unit_of_packed}
-use Rattle.duration_str.proofs.Characters.PackedLemmas.{is_kept, name_found, no_packed_name, slot, slot_below}
+use Rattle.duration_str.proofs.Common.{eqb-true, false_from_ne_true}
+use Rattle.duration_str.proofs.Characters.PackedLemmas.{month_in_humantime, more_in_humantime}
 use Rattle.duration_str.proofs.humantime.unit_of_packed.Goals as goal
 
-pub bounds-name : goal.bounds-name
-bounds-name c = slot_below SLOTS _ (slot 8 SPREAD c.args.packed) (omega arith) refl
+pub returns-then-packed-eq-CAPITAL_M : goal.returns-then-packed-eq-CAPITAL_M
+returns-then-packed-eq-CAPITAL_M c = rw c.if-packed-eq-CAPITAL_M.true month_in_humantime
 
-pub bounds-name-then-name-packed : goal.bounds-name-then-name-packed
-bounds-name-then-name-packed c = slot_below SLOTS _ (slot 8 SPREAD c.args.packed) (omega arith) refl
-
-pub returns-then-name-packed : goal.returns-then-name-packed
-unfolding unit_of_packed
-returns-then-name-packed c =
-    name_found humantime_row_of NAMES NAMED_UNITS _ _ c.args.packed _ refl
-    (slot_below SLOTS _ (slot 8 SPREAD c.args.packed) (omega arith) refl) c.if-name-packed.true
-
-pub returns-else-name-packed : goal.returns-else-name-packed
-returns-else-name-packed c =
-    no_packed_name humantime_row_of (is_kept 8 SPREAD SLOTS NAMES _ _) c.args.packed
-    (false_from_ne_true _ (λ e. c.if-name-packed.false (eqb-true _ _ e))) refl
+pub returns : goal.returns
+returns c =
+    more_in_humantime c.args.packed _ (false_from_ne_true _ (λ e. c.if-packed-eq-CAPITAL_M.false (eqb-true _ _ e)))
+    c.unit_of_packed.ensures

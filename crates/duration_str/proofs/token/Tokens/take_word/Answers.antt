@@ -6,12 +6,12 @@ use Rattle.duration_str.proofs.token.Tokens.take_word.Goals as goal
 pub returns-then-place-start-gt-MOST_BYTES : goal.returns-then-place-start-gt-MOST_BYTES
 returns-then-place-start-gt-MOST_BYTES c =
     let e = c.take_letters-packed.ensures in
-    takes_word (meaning_of c.args.settings) c.requires e.kept (long_word (record (c.args.settings) { options = options_of c.args.self.now }) e.letters
+    takes_word (meaning_of c.args.rules) c.requires e.kept (long_word (record (c.args.rules) { options = options_of c.args.self.now }) e.letters
     (omega (arith, c.if-place-start-gt-MOST_BYTES.true, c.place.ensures, c.place-start.ensures))) e.stops
 
 pub returns : goal.returns
 returns c =
     let e = c.take_letters-packed.ensures in
-    takes_word (meaning_of c.args.settings) c.requires e.kept (short_word (record (c.args.settings) { options = options_of c.args.self.now }) e.letters
+    takes_word (meaning_of c.args.rules) c.requires e.kept (short_word (record (c.args.rules) { options = options_of c.args.self.now }) e.letters
     (omega (arith, c.if-place-start-gt-MOST_BYTES.false, c.place.ensures, c.place-start.ensures))
     c.unit_of_packed.ensures) e.stops

@@ -1,40 +1,15 @@
-use Rattle.duration_str.proofs.Common.{arith, chars, chars_past_char, IsUtf8-past_char, refl, rules, ◌∙◌}
-use Rattle.duration_str.proofs.Characters.PackedLemmas.{no_long_name, numbered_letter, own_settings, unnumbered}
-use Rattle.duration_str.proofs.Cutting.PositionLemmas.{packs_more, packs_none, packs_other, packs_unit}
-use Rattle.duration_str.proofs.OnePass.PlaceLemmas.{byte_count}
-use Rattle.duration_str.proofs.Printer.OneLineLemmas.{chars_of_none}
+use Rattle.duration_str.proofs.Common.{chars, ◌∙◌}
+use Rattle.duration_str.proofs.Characters.PackedLemmas.{no_micro, own_word_none, own_word_some, packed_empty, packed_parts}
 use Rattle.duration_str.proofs.unit.TimeUnit.from_word.Goals as goal
-
-pub returns-then-word-gt-MOST_BYTES-clause-unit : goal.returns-then-word-gt-MOST_BYTES-clause-unit
-returns-then-word-gt-MOST_BYTES-clause-unit c =
-    no_long_name (own_settings c.args.o) (chars c.args.word.now)
-    (omega (arith, c.if-word-gt-MOST_BYTES.true, byte_count c.args.word.now c.utf8.word))
-
-pub loop-c-init : goal.loop-c-init
-loop-c-init c = search (rules, packs_none)
-
-pub returns-in_err-letter_number-clause-unit : goal.returns-in_err-letter_number-clause-unit
-returns-in_err-letter_number-clause-unit c =
-    let held = c.loop-c.invariant in
-    let next = c.in-Some.c in
-    let passed = chars_past_char _ _ next held.utf8 (c.in-Some.ensures {u = tt}).steps.0 in
-    c.from_residual.ensures
-    ∙ packs_other (rw passed at held.packs) (unnumbered c.args.o next (c.in_err-letter_number.ensures {u = tt}))
-
-pub loop-c-preserved : goal.loop-c-preserved
-loop-c-preserved c =
-    let held = c.loop-c.invariant in
-    let next = c.in-Some.c in
-    let steps = (c.in-Some.ensures {u = tt}).steps.0 in
-    let passed = chars_past_char _ _ next held.utf8 steps in
-    let letter = numbered_letter c.args.o next _ (c.in_ok-letter_number.ensures {u = tt}) in
-    record {
-      utf8 = IsUtf8-past_char _ _ next held.utf8 steps;
-      packs = packs_more (rw passed at held.packs) letter.0 (c.with_letter-packed.ensures ∙ rw letter.1 refl);
-    }
 
 pub returns-clause-unit : goal.returns-clause-unit
 returns-clause-unit c =
-    let ended = chars_of_none _ (c.in_default.ensures {u = tt}).steps.0.0 in
-    packs_unit (rw ended at c.loop-c.invariant.packs)
-    (omega (arith, c.if-word-gt-MOST_BYTES.false, byte_count c.args.word.now c.utf8.word)) c.unit_of_packed.ensures
+    let word = chars c.args.word.now in
+    let packed = packed_parts _ _ _ (c.in_ok-packed_word.ensures {u = tt}) in
+    c.unit_of_packed.ensures ∙ own_word_some c.args.o word _ (rw (no_micro word) at packed.0)
+
+pub returns-in_err-packed_word-clause-unit : goal.returns-in_err-packed_word-clause-unit
+returns-in_err-packed_word-clause-unit c =
+    let word = chars c.args.word.now in
+    c.from_residual.ensures
+    ∙ own_word_none c.args.o word (rw (no_micro word) at (packed_empty _ _ (c.in_err-packed_word.ensures {u = tt})))

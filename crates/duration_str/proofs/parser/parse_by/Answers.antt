@@ -1,0 +1,6 @@
+use Rattle.duration_str.proofs.Common.{meaning_of}
+use Rattle.duration_str.proofs.Sentences.AnswerLemmas.{parses_text}
+use Rattle.duration_str.proofs.parser.parse_by.Goals as goal
+
+pub returns : goal.returns
+returns c = parses_text (meaning_of c.args.rules) c.args.input.now _ _ c.map.ensures.cases c.parse_nanos.ensures

@@ -1,9 +1,0 @@
-use Rattle.duration_str.proofs.Common.{chars, chars_rest, IsUtf8}
-use Rattle.duration_str.proofs.Cutting.PositionLemmas.{Packs}
-use Rattle.duration_str.proofs.unit.TimeUnit.from_word.Given as goal
-
-abbrev pub invariant-loop-c : goal.invariant-loop-c
-invariant-loop-c l = record {
-  utf8 : IsUtf8 (chars_rest l.chars);
-  packs : Packs l.o (chars l.word) (chars (chars_rest l.chars)) l.packed;
-}
