@@ -5,10 +5,9 @@ ghost use Rattle.duration_str.specs.Internal.UnitTable.{unit_of_packed};
 ghost use Rattle.duration_str.specs.Meaning.{table_of};
 
 use crate::cause::Cause;
-use crate::humantime;
-use crate::more_names;
 use crate::packed::unit_of_packed;
 use crate::unit::TimeUnit;
+use crate::{humantime, more_names};
 
 #[derive(Clone, Copy, Debug, PartialEq, Eq)]
 pub(crate) enum UnitTable {

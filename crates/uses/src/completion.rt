@@ -7,9 +7,7 @@ ghost use Rattle.duration_str.specs.Humantime.{humantime_rules};
 ghost use Rattle.uses.specs.Completion.{IsCompletion};
 
 use duration_str::laws::{one_sentence, place_and_kinds};
-use duration_str::{
-    Cause, Expected, Options, Rules, TimeUnit, parse_by, parse_nanos_specialized,
-};
+use duration_str::{Cause, Expected, Options, Rules, TimeUnit, parse_by, parse_nanos_specialized};
 
 /// The place of a syntax fault, and what can be typed there.
 #[derive(Clone, Copy, Debug, PartialEq, Eq)]

@@ -2,10 +2,9 @@
 //! The tables of units by which a text can be read.
 
 use crate::cause::Cause;
-use crate::humantime;
-use crate::more_names;
 use crate::packed::unit_of_packed;
 use crate::unit::TimeUnit;
+use crate::{humantime, more_names};
 
 #[derive(Clone, Copy, Debug, PartialEq, Eq)]
 pub(crate) enum UnitTable {

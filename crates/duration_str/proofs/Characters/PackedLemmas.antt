@@ -344,9 +344,12 @@ more_word_none w is = elim (packed_none off w is) [
       (false_from_ne_true _ (λ t. absurd (omega (arith, leb-true _ _ t, byte_len-form off w, long))))
   | inr other ↦
       let unnamed = λ (u : TimeUnit). false_from_ne_true (is_named more_off w u) (λ t.
-          let among : list_any (bytes_eq (comparison_form off w)) (more_row_of u).names ≡ true = grind arith in
-          cc (other, letters_form off w,
-          named_passes (list_all (is_unit_letter off)) (comparison_form off w) (more_row_of u).names (more_letters u) among)) in
+      let among : list_any (bytes_eq (comparison_form off w)) (more_row_of u).names ≡ true = grind arith in
+      cc (
+        other,
+        letters_form off w,
+        named_passes (list_all (is_unit_letter off)) (comparison_form off w) (more_row_of u).names (more_letters u) among,
+      )) in
       simp unnamed
 ]
 
