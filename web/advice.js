@@ -1,29 +1,22 @@
 // What the page says about a text, which part it marks, and the texts that it offers instead.
 import { formatNs, tryParseNs } from "../js/dist/duration-str.js";
-import { clean, converted } from "./conversions.js";
 import { say } from "./sentences.js";
-import { defaultUnitOf, LONG, terms, UNITS, unitOf } from "./units.js";
+import { defaultUnitOf, terms, UNITS, unitOf } from "./units.js";
 import { inWords } from "./values.js";
-
-/** Dates have these signs, which `cn_unit` reads as units. */
-const DATE = /[0-9]\s*[日月]/;
 
 const CALC = { noCalc: false };
 const CAPITALS = { lowercase: false };
 const CHINESE = { cnUnit: true };
 
 /** Options with fewer changes come first. */
-function optionsToTry(options, text) {
+function optionsToTry(options) {
     const both = { ...CALC, ...CAPITALS };
     const changes = [{}, CALC, CAPITALS, CHINESE, both];
     for (const each of [CALC, CAPITALS, both]) changes.push({ ...each, ...CHINESE });
-    const isDate = DATE.test(text);
     // If the page names a default unit, it isn't the second, so operators are not read.
     const hasOperators = options.defaultUnit === undefined;
-    const tried = changes.filter(({ cnUnit, noCalc }) => (
-        !(isDate && cnUnit) && (hasOperators || noCalc === undefined)
-    ));
-    return tried.map((each) => ({ ...options, ...each }));
+    return changes.filter(({ noCalc }) => hasOperators || noCalc === undefined)
+        .map((each) => ({ ...options, ...each }));
 }
 
 /** How many of the next smaller unit a unit has, and the smaller unit's name. People leave the
@@ -50,15 +43,11 @@ function offer(text, options) {
     return [{ text, options, value, meaning: inWords(sum, options) }];
 }
 
+/** The text with other options, or with the unit that is left out. */
 export function offersFor(text, options) {
     if (text.trim() === "") return [];
-    for (const each of [text, clean(text)]) {
-        const found = optionsToTry(options, each)
-            .flatMap((tried) => offer(complete(each, tried), tried));
-        if (found.length > 0) return found.slice(0, 1);
-    }
-    const readings = converted(text, options)?.readings ?? [];
-    return readings.flatMap(({ text: each }) => offer(complete(each, options), options));
+    const offers = optionsToTry(options).flatMap((tried) => offer(complete(text, tried), tried));
+    return offers.slice(0, 1);
 }
 
 /** A list with the part that the fault is about, if there is one. */
@@ -72,15 +61,6 @@ export function markedParts({ words, start, fault }, options) {
     if (code === "SYNTAX") return part(index, Math.max(word.length, (found ?? "").length));
     const [term] = terms(words, options);
     return part(words.indexOf(term.words), term.words.length);
-}
-
-/** What the page says about a refused text, or nothing if it shows only the library's line. */
-export function sentence(text, code, options) {
-    if (text.trim() === "") return say`Type a duration, such as ${"1h 30m"}.`;
-    // The value of a product may be shorter than 584 years, although a step is longer.
-    const isLarge = code === "OVERFLOW" || code === "NUMBER_TOO_LARGE";
-    if (isLarge && !text.includes("*")) return say`Over 584 years, the longest duration.`;
-    return code === "SYNTAX" && text.length <= LONG ? converted(text, options)?.sentence : null;
 }
 
 function inDays(value, format) {

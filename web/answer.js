@@ -1,12 +1,14 @@
 import { formatNs, tryParseNs } from "../js/dist/duration-str.js";
-import { markedParts, notesOn, offersFor, sentence } from "./advice.js";
+import { markedParts, notesOn, offersFor } from "./advice.js";
 import {
     changedOptions, choose, chosenFormat, chosenOptions, switches,
 } from "./choices.js";
 import { button, element, make, MOST_LINES, parts, text, write } from "./elements.js";
-import { AROUND, lineOf } from "./sentences.js";
+import { AROUND, lineOf, say } from "./sentences.js";
 import { LONG } from "./units.js";
 import { counts, decimal, groupDigits, iso, seconds } from "./values.js";
+
+const HINT = say`Type a duration, such as ${"1h 30m"}.`;
 
 /** The texts that the copy buttons copy, by the ids of elements. */
 export const copied = {};
@@ -74,22 +76,21 @@ function showOffers(offers) {
 }
 
 function remarksOn({ words, value, fault }) {
-    const said = fault ? [sentence(words, fault.code, chosenOptions()) ?? lineOf(fault)] : [];
-    if (words.length > LONG) return { sentences: said, offers: [] };
-    if (!fault) return notesOn(words, value, chosenOptions(), chosenFormat());
-    return { sentences: said, offers: offersFor(words, chosenOptions()) };
+    const isLong = words.length > LONG;
+    if (fault) {
+        const sentences = words === "" ? [HINT] : [lineOf(fault)];
+        return { sentences, offers: isLong ? [] : offersFor(words, chosenOptions()) };
+    }
+    if (isLong) return { sentences: [], offers: [] };
+    return notesOn(words, value, chosenOptions(), chosenFormat());
 }
 
 // ---- A fault
 
 function showFault(line) {
-    const { sentences: [said, ...others], offers } = remarksOn(line);
-    const more = others.flatMap((each) => [" ", ...parts(each)]);
-    element("sentence").replaceChildren(...parts(said), ...more);
+    const { sentences: [said], offers } = remarksOn(line);
+    element("sentence").replaceChildren(...parts(said));
     element("sentence").classList.toggle("hint", text.value === "");
-    element("line").replaceChildren(...parts(lineOf(line.fault)));
-    const isOwn = element("sentence").textContent !== element("line").textContent;
-    element("library").hidden = !isOwn || text.value.trim() === "";
     showOffers(offers);
 }
 
@@ -181,7 +182,7 @@ export function showAnswer() {
     element("lines").hidden = isOne;
     text.setAttribute("aria-invalid", String(!isRead && text.value !== ""));
     showMarks(lines.flatMap((each) => markedParts(each, options)));
-    for (const id of ["sentence", "line"]) element(id).replaceChildren();
+    element("sentence").replaceChildren();
     if (!isOne || isRead) text.removeAttribute("aria-describedby");
     else text.setAttribute("aria-describedby", "sentence");
     if (!isOne) return showLines(lines);

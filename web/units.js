@@ -7,10 +7,10 @@ export const LONG = 2_000;
 
 /** `length` is in words, such as `30 days`. */
 export const UNITS = LISTED.map((rows) => {
-    const [names, chinese, near] = rows.map((row) => row.split(" ").filter(Boolean));
+    const [names, chinese] = rows.map((row) => row.split(" ").filter(Boolean));
     const nanos = parseNs(`1${names[0]}`);
     const length = formatNs(nanos, { largest: "d", style: "long" });
-    return { names, chinese, near, nanos, printed: formatNs(nanos).slice(1), length };
+    return { names, chinese, nanos, printed: formatNs(nanos).slice(1), length };
 });
 
 const CHINESE_LETTERS = UNITS.flatMap(({ chinese }) => chinese).join("");

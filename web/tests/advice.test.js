@@ -6,13 +6,11 @@ import { readFileSync } from "node:fs";
 import test from "node:test";
 
 import { formatNs, parseNs, tryParseNs } from "../../js/dist/duration-str.js";
-import { markedParts, notesOn, offersFor, sentence } from "../advice.js";
-import { lineOf, shorten } from "../sentences.js";
+import { markedParts, notesOn, offersFor } from "../advice.js";
+import { shorten } from "../sentences.js";
 import { counts, decimal, groupDigits, iso, seconds } from "../values.js";
 
 const TEXTS = JSON.parse(readFileSync(new URL("texts.json", import.meta.url), "utf8"));
-/** The most words in the page's own sentence. A quoted text counts as one. */
-const MOST_WORDS = 9;
 
 const OPTIONS = {
     noCalc: "no_calc",
@@ -30,17 +28,10 @@ function optionsOf(names) {
     return defaultUnit ? { ...options, noCalc: undefined, defaultUnit } : options;
 }
 
-function nanosOf(decimalSeconds) {
-    const [whole, fraction = ""] = decimalSeconds.split(".");
-    return BigInt(whole + fraction.padEnd(9, "0"));
-}
+const nanosOf = (wholeSeconds) => BigInt(wholeSeconds) * 1_000_000_000n;
 
 function wordsOf(parts) {
     return parts.map((part) => part.quoted === undefined ? part : shorten(part.quoted)).join("");
-}
-
-function countWords(parts) {
-    return wordsOf(parts.map((part) => (part.quoted === undefined ? part : "x"))).split(" ").length;
 }
 
 test("shows a value in each notation", () => {
@@ -74,16 +65,13 @@ test("has notes on texts that are read", () => {
     assert.deepEqual(sentences.map(wordsOf), ["That is 180d: a month has 30 days."]);
 });
 
-test("marks the fault, and has a sentence or the library's line", () => {
-    for (const [text, names, marked, words] of TEXTS.faults) {
+test("marks the fault", () => {
+    for (const [text, names, marked] of TEXTS.faults) {
         const options = optionsOf(names);
         const { fault } = tryParseNs(text, options);
         const [part] = markedParts({ words: text, start: 0, fault }, options);
         const mark = part && (text.slice(part.from, part.to) || "\u00a0");
         assert.equal(mark ?? null, marked, text);
-        const said = sentence(text, fault.code, options);
-        if (words) assert.equal(wordsOf(said ?? lineOf(fault)), words, text);
-        else assert.ok(!said, `${text}: ${JSON.stringify(said)}`);
     }
 });
 
@@ -98,36 +86,22 @@ test("offers a text with other options or units", () => {
 });
 
 test("offers no operators beside a default unit, which turns them off", () => {
-    for (const [text, ...offered] of [["90s*2"], ["1s+500ms", "1s 500ms"]]) {
-        const options = optionsOf(["default_unit=ms"]);
-        const offers = offersFor(text, options).map((each) => [each.text, each.options]);
-        assert.deepEqual(offers, offered.map((each) => [each, options]), text);
+    for (const text of ["90s*2", "1s+500ms"]) {
+        assert.deepEqual(offersFor(text, optionsOf(["default_unit=ms"])), [], text);
     }
 });
 
 for (const [group, rows] of Object.entries(TEXTS.meant)) {
     test(`offers what is meant: ${group}`, () => {
         for (const [text, ...meant] of rows) {
-            const { ok, value, fault } = tryParseNs(text);
-            const offers = ok ? notesOn(text, value, NONE).offers : offersFor(text, NONE);
-            // If the text is read, its own value is not offered.
-            const wanted = meant.filter(Boolean).map(nanosOf).filter((each) => each !== value);
+            const { offers } = notesOn(text, parseNs(text), NONE);
+            const wanted = meant.filter(Boolean).map(nanosOf);
             assert.deepEqual(offers.map((each) => each.value), wanted, text);
             for (const each of offers) {
                 // Without commas and `of 30 days`, the meaning can be read.
                 const inWords = each.meaning.replace(/,| of \d+ days/g, "");
                 assert.equal(parseNs(inWords), each.value, text);
             }
-            const said = fault ? sentence(text, fault.code, NONE) : null;
-            assert.ok(countWords(said ?? []) <= MOST_WORDS, text);
         }
     });
 }
-
-test("many words and signs around a duration", () => {
-    const options = { noCalc: false, lowercase: false, cnUnit: false, requireUnit: false };
-    for (const sign of ["+", "a=", "-t ", "every ", "'", "("]) {
-        const text = `${sign.repeat(1_900 / sign.length)}5m`;
-        assert.deepEqual(offersFor(text, options), [], sign);
-    }
-});

@@ -5,10 +5,11 @@ texts.json has texts and what the page shows for them, written by hand:
 
 "values"    the printed text, and the value in nanoseconds, milliseconds, seconds and ISO 8601
 "notes"     the notes on the text
-"faults"    the part that is marked, and for some texts the sentence
+"faults"    the part that is marked, and what the page says of the empty text
 "lines"     the parts that are marked, and the rows of the table of lines
 "switched"  the text that is offered, its meaning, and the options with which it is read
-"meant"     the values in seconds that people mean by the text; null if nothing may be offered
+"meant"     the values in seconds that people mean by a text that is read; null if nothing may be
+            offered
 
 advice.test.js tries most of this without a browser, so only some of those rows are tried here.
 "typed" texts are put in character by character. "hostile" texts must be shown and do nothing else,
@@ -214,21 +215,11 @@ def try_faults(page):
         )
         page.same(f"the value of {text!r}", None, page.text_of("printed"))
     page.choose()
-    page.put("1.5h")
-    page.same("the library's line, folded away", None, page.text_of("line"))
-    page.click("summary")
-    page.same("the library's line, unfolded", line_of("1.5h"), page.text_of("line"))
-    page.put("5 mins")
-    page.same("no second line", None, page.text_of("line"))
     page.put('1s "')
     page.same("a quotation mark that is quoted", [r"\""], page.words("#sentence code"))
     for text, hints in (("", 1), ("  ", 0)):
         page.put(text)
-        page.same(
-            f"no library and a hint for {text!r}",
-            [None, hints],
-            [page.text_of("library"), len(page.words(".hint"))],
-        )
+        page.same(f"hints for {text!r}", hints, len(page.words(".hint")))
     page.put("1\u200bh")
     page.same("a mark of no width", 1, len(page.words("mark.thin")))
     page.put("1h -x" + "😀" * 1_500)
@@ -249,9 +240,9 @@ def try_lines(page):
             [None] * 4,
             [page.text_of(name) for name in ("printed", "sentence", "iso", "suggestions")],
         )
-    page.put("30s\n 5 mins\n1h")
+    page.put("30s\n1h 30\n1h")
     page.click("#lines button")
-    page.same("a line that is mended", "30s\n5 min\n1h", page.text())
+    page.same("a line that is mended", "30s\n1h 30m\n1h", page.text())
     page.same("how many are read", ["3 of 3 lines are read."], page.words("#lines caption"))
     page.put("90s\n" * 200)
     page.same("200 lines", ["90s", "1min 30s"] * 200, page.words("#lines :is(th, td > *)"))
@@ -284,11 +275,11 @@ def try_switching(page):
         page.click("#offered button")
         page.same(f"pressed: {words} for {text}", [words, remain], [page.text(), page.chosen()])
     page.choose()
-    page.type("1h, 30m")
+    page.type("1h 30")
     page.click("#offered button")
     # The keys that WebKit's driver presses undo nothing.
     page.run("document.execCommand('undo')")
-    page.same("undone", "1h, 30m", page.text())
+    page.same("undone", "1h 30", page.text())
     page.run("document.execCommand('redo')")
     page.same("done again", ["1h 30m", "1h 30min"], [page.text(), page.text_of("printed")])
     page.click("#examples button")
@@ -643,7 +634,7 @@ def try_readers(page):
     told = {
         "1h\n5 mins\n2h": "2 of 3 lines are read.",
         "1h 30": "1h 30s. 30 has no unit: seconds. Try instead 1h 30m: 1 hour 30 minutes.",
-        "5 mins": f"{line_of('5 mins')} Try instead 5 min: 5 minutes.",
+        "5 mins": line_of("5 mins"),
         "1m+": line_of("1m+"),
     }
     for text, expected in told.items():
