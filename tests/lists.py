@@ -56,9 +56,12 @@ def in_javascript():
 
 
 def on_the_page():
-    joined = [(" ".join(unit.names), " ".join(unit.chinese)) for unit in UNITS]
-    yield "web/lists.js", "const UNITS = [\n", "\n];", rows(joined)
-    yield "web/lists.js", "const STYLES = [", "];", quoted(STYLES)
+    pairs = zip(UNITS, units.more())
+    lists = [(unit.names, more.names, unit.chinese) for unit, more in pairs]
+    lines = rows([" ".join(words) for words in each] for each in lists).splitlines()
+    # A line that is too long is divided after the names.
+    divided = [each if len(each) < 100 else each.replace(", ", ",\n     ", 1) for each in lines]
+    yield "web/units.js", "const ROWS = [\n", "\n];", "\n".join(divided)
 
 
 def in_python():

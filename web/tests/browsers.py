@@ -16,20 +16,17 @@ from selenium import webdriver
 from selenium.webdriver.chrome.service import Service
 from selenium.webdriver.webkitgtk.service import Service as WebKitService
 
+SCHEMES = ("light", "dark")
+
 
 class Chromium:
     TESTS = ("try_", "sized_", "chromium_")
 
     def __init__(self):
         options = webdriver.ChromeOptions()
-        for word in (
-            "--headless=new",
-            "--no-sandbox",
-            "--disable-gpu",
-            "--hide-scrollbars",
-            "--window-size=900,1100",
-        ):
-            options.add_argument(word)
+        words = "headless=new no-sandbox disable-gpu hide-scrollbars window-size=900,1100"
+        for word in words.split():
+            options.add_argument(f"--{word}")
         options.set_capability("goog:loggingPrefs", {"browser": "ALL", "performance": "ALL"})
         self.driver = webdriver.Chrome(service=Service("/usr/bin/chromedriver"), options=options)
         self.driver.execute_cdp_cmd("Performance.enable", {"timeDomain": "threadTicks"})
@@ -82,10 +79,8 @@ class Firefox(Copied):
         "ui.useOverlayScrollbars": 1,
     }
     COMMANDS = {
-        "clearElement": "ElementClear",
         "clickElement": "ElementClick",
         "get": "Navigate",
-        "getElementAriaLabel": "GetComputedLabel",
         "sendKeysToElement": "ElementSendKeys",
         "w3cExecuteScript": "ExecuteScript",
         "w3cExecuteScriptAsync": "ExecuteAsyncScript",
@@ -138,9 +133,6 @@ class Firefox(Copied):
             return self.ask("Marionette:Quit", {"flags": ["eForceQuit"]}) and {}
         words = {} if command == "newSession" else {**words}
         words.pop("sessionId", None)
-        if command.startswith("findChild"):
-            words["element"] = words.pop("id")
-            command = command.replace("Child", "")
         name = self.COMMANDS.get(command, f"{command[0].upper()}{command[1:]}")
         error, value = self.ask(f"WebDriver:{name}", words)
         if error:
