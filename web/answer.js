@@ -46,9 +46,10 @@ function showMark({ code, index }) {
 /** The library's line as a sentence, whose quotes are marked. */
 function lineOf({ message }) {
     const line = `${message.replace(/^./, (letter) => letter.toUpperCase())}.`;
-    // The second, fourth, .. part stands between quotation marks.
+    // The second, fourth, .. part stands between quotation marks. Those in it are escaped.
     const pieces = line.split(/"((?:[^"\\]|\\.)*)"/);
-    return pieces.map((piece, place) => place % 2 === 1 ? quoted(piece) : piece);
+    const unescape = (piece) => piece.replace(/\\(["\\])/g, "$1");
+    return pieces.map((piece, place) => place % 2 === 1 ? quoted(unescape(piece)) : piece);
 }
 
 /** Returns what it says. */

@@ -208,7 +208,9 @@ def line_of(text, options=""):
     names = options.replace("default_unit=refused", "require_unit").split()
     choice = reference_parser.as_packages_mean(reference_parser.Choice.named(names))
     line = reference_parser.one_line(text, choice.answer(text))
-    return re.sub(r'"((?:[^"\\]|\\.)*)"', r"\1", f"{line[0].upper()}{line[1:]}.")
+    parts = re.split(r'"((?:[^"\\]|\\.)*)"', f"{line[0].upper()}{line[1:]}.")
+    parts[1::2] = [re.sub(r'\\(["\\])', r"\1", part) for part in parts[1::2]]
+    return "".join(parts)
 
 
 def try_read(page):
@@ -449,10 +451,10 @@ def try_rules(page):
     page.same("the diagram", True, page.ask(drawn))
 
 
-def sized_looks(page):
+def chromium_looks(page):
     papers = set()
     # On 640 pixels, a page that is enlarged to 200 % has as much room as on 320.
-    for scheme in browsers.SCHEMES:
+    for scheme in ("light", "dark"):
         for width in (320, 900):
             emulate(page, scheme, width)
             page.open("#cn_unit")
@@ -482,7 +484,7 @@ def sized_looks(page):
 
 
 def take_pictures(page):
-    for scheme in browsers.SCHEMES:
+    for scheme in ("light", "dark"):
         emulate(page, scheme, 640)
         page.open("#text=5%20mins")
         page.ask("document.activeElement.blur()")
