@@ -16,11 +16,9 @@ from selenium import webdriver
 from selenium.webdriver.chrome.service import Service
 from selenium.webdriver.webkitgtk.service import Service as WebKitService
 
-SCHEMES = ("light", "dark")
-
 
 class Chromium:
-    TESTS = ("try_", "sized_", "chromium_")
+    TESTS = ("try_", "chromium_")
 
     def __init__(self):
         options = webdriver.ChromeOptions()
@@ -53,6 +51,8 @@ class Chromium:
 class Copied:
     """A browser that reads a copy of the page, with the scripts in it and in its policy."""
 
+    TESTS = ("try_",)
+
     def with_script(self, file, script):
         digest = base64.b64encode(hashlib.sha256(script.encode()).digest()).decode()
         text = file.read_text(encoding="utf-8")
@@ -72,11 +72,9 @@ class Firefox(Copied):
     Marionette.
     """
 
-    TESTS = ("try_", "sized_")
     PREFERENCES = {
         "dom.events.testing.asyncClipboard": True,
         "marionette.port": 0,
-        "ui.useOverlayScrollbars": 1,
     }
     COMMANDS = {
         "clickElement": "ElementClick",
@@ -86,14 +84,6 @@ class Firefox(Copied):
         "w3cExecuteScriptAsync": "ExecuteAsyncScript",
         "w3cGetActiveElement": "GetActiveElement",
     }
-    EMULATE = """const [dark, forced, ...sizes] = arguments;
-        Services.prefs.setIntPref("layout.css.prefers-color-scheme.content-override", dark ? 0 : 1);
-        Services.prefs.setIntPref("browser.display.document_color_use", forced ? 2 : 0);
-        for (const [place, name] of ["width", "height"].entries()) {
-            for (const bound of ["min", "max"]) {
-                gBrowser.selectedBrowser.style.setProperty(`${bound}-${name}`, `${sizes[place]}px`);
-            }
-        }"""
 
     def __init__(self):
         self.folder = tempfile.TemporaryDirectory()
@@ -143,18 +133,8 @@ class Firefox(Copied):
         self.process.wait()
         self.folder.cleanup()
 
-    def emulate(self, scheme, width, height, forced):
-        self.ask("Marionette:SetContext", {"value": "chrome"})
-        words = {"script": self.EMULATE, "args": [scheme == "dark", forced, width, height]}
-        self.ask("WebDriver:ExecuteScript", words)
-        self.ask("Marionette:SetContext", {"value": "content"})
-
 
 class WebKit(Copied):
-    """Its window can't be as narrow as a phone."""
-
-    TESTS = ("try_",)
-
     def __init__(self):
         options = webdriver.WebKitGTKOptions()
         options.add_argument("--automation")
