@@ -57,6 +57,7 @@ NOTES = [
     ("12h30", "", ["30 has no unit: seconds."], ["12h 30m", "12 hours 30 minutes"]),
     ("1d + 23 ", "", ["23 has no unit: seconds."], ["1d + 23h", "1 day 23 hours"]),
     ("1h 3", "default_unit=ms", ["3 has no unit: milliseconds."], ["1h 3m", "1 hour 3 minutes"]),
+    ("1h 59", "", ["59 has no unit: seconds."], ["1h 59m", "1 hour 59 minutes"]),
     ("1h 60", "", ["60 has no unit: seconds."], []),
     ("1m 30", "", ["30 has no unit: seconds."], []),
     ("1h 30", "default_unit=min", ["30 has no unit: minutes."], []),
@@ -68,6 +69,7 @@ NOTES = [
     ("1 day 2m 3h", "", [], []),
     ("180d", "", ["That is 180d: a quarter has 91 days, a month has 30 days."], []),
     ("2w", "", [], []),
+    ("1h " * 700 + "5", "", [], []),
 ]
 
 # Texts that are refused, the options, what is marked, and what is offered. The line is that of the
@@ -79,6 +81,7 @@ REFUSED = [
     ("5 mins 30", "", ["mins"], ["5 mins 30s", "with more names, 5 minutes 30 seconds"]),
     ("5 MINS", "lowercase", ["MINS"], ["5 MINS", "in capitals too, with more names, 5 minutes"]),
     ("1h 30", "default_unit=refused", AT_END, ["1h 30m", "1 hour 30 minutes"]),
+    ("1m 59", "default_unit=refused", AT_END, ["1m 59s", "1 minute 59 seconds"]),
     ("90", "default_unit=refused", AT_END, []),
     ("2 * 5m", "default_unit=refused", ["*"], []),
     ("90s*2", "default_unit=ms", ["*"], []),
