@@ -6,7 +6,6 @@ import pathlib
 import re
 
 import patterns
-import reference_parser
 import units
 
 CRATES = pathlib.Path(__file__).resolve().parent.parent / "crates"
@@ -36,14 +35,6 @@ constants = found(r"^const (\w+): u32 = \d+;$", "duration_str_c/src/answer.rt")
 CAUSES = ["READ", *constants[: constants.index("UNKNOWN_OPTION") + 1]]
 
 
-def near_words(name):
-    """Words with the Greek mu are left out, since the page replaces that by the micro sign."""
-    names = [name, "us"] if name == "µs" else [name]
-    rows = (reference_parser.NEAR_WORDS, reference_parser.SMALL_WORDS)
-    words = " ".join(row[each] for each in names for row in rows if each in row).split()
-    return " ".join(word for word in words if "μ" not in word)
-
-
 def quoted(words, between=", "):
     return between.join(f'"{word}"' for word in words)
 
@@ -65,10 +56,12 @@ def in_javascript():
 
 
 def on_the_page():
-    lists = [(unit.names, unit.chinese, near_words(unit.printed).split()) for unit in UNITS]
-    joined = [tuple(" ".join(words) for words in each) for each in lists]
-    yield "web/lists.js", "const UNITS = [\n", "\n];", rows(joined)
-    yield "web/lists.js", "const STYLES = [", "];", quoted(STYLES)
+    pairs = zip(UNITS, units.more())
+    lists = [(unit.names, more.names, unit.chinese) for unit, more in pairs]
+    lines = rows([" ".join(words) for words in each] for each in lists).splitlines()
+    # A line that is too long is divided after the names.
+    divided = [each if len(each) < 100 else each.replace(", ", ",\n     ", 1) for each in lines]
+    yield "web/units.js", "const ROWS = [\n", "\n];", "\n".join(divided)
 
 
 def in_python():

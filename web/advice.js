@@ -1,122 +1,65 @@
-// What the page says about a text, which part it marks, and the texts that it offers instead.
-import { formatNs, tryParseNs } from "../js/dist/duration-str.js";
-import { clean, converted } from "./conversions.js";
-import { say } from "./sentences.js";
-import { defaultUnitOf, LONG, terms, UNITS, unitOf } from "./units.js";
-import { inWords } from "./values.js";
-
-/** Dates have these signs, which `cn_unit` reads as units. */
-const DATE = /[0-9]\s*[日月]/;
-
-const CALC = { noCalc: false };
-const CAPITALS = { lowercase: false };
-const CHINESE = { cnUnit: true };
-
-/** Options with fewer changes come first. */
-function optionsToTry(options, text) {
-    const both = { ...CALC, ...CAPITALS };
-    const changes = [{}, CALC, CAPITALS, CHINESE, both];
-    for (const each of [CALC, CAPITALS, both]) changes.push({ ...each, ...CHINESE });
-    const isDate = DATE.test(text);
-    // If the page names a default unit, it isn't the second, so operators are not read.
-    const hasOperators = options.defaultUnit === undefined;
-    const tried = changes.filter(({ cnUnit, noCalc }) => (
-        !(isDate && cnUnit) && (hasOperators || noCalc === undefined)
-    ));
-    return tried.map((each) => ({ ...options, ...each }));
-}
+// What the page says about a text beside the library's answer, and the texts that it offers. It
+// offers a text only if the library reads it.
+import { breakdown, formatNs, tryParseNs } from "../js/dist/duration-str.js";
+import { quoted } from "./elements.js";
+import { UNITS, unitOf } from "./units.js";
 
 /** How many of the next smaller unit a unit has, and the smaller unit's name. People leave the
  * smaller unit out at the end, as in `1h 30`. */
-const LEFT_OUT = { d: [24n, "h"], h: [60n, "m"], m: [60n, "s"] };
+const LEFT_OUT = { d: [24n, "h"], h: [60n, "m"], min: [60n, "s"] };
+const END = /(?<unit>\p{L}+)(?<between>\s*\+?\s*)(?<number>[0-9]+)\s*$/u;
 
-/** Returns null if it isn't certain which unit is left out. */
-function complete(text, options) {
-    const found = Array.from(terms(text, options));
-    if (found.length < 2 || found[1].operator === "*") return text;
-    if (found.slice(0, -1).some(({ unit }) => !unit)) return null;
-    const [last, before] = [found.at(-1), found.at(-2)];
-    if (last.unit) return text;
-    const [limit, name] = LEFT_OUT[unitOf(before.unit)?.names[0]] ?? [0n];
-    if (BigInt(last.number) >= limit) return null;
-    const added = defaultUnitOf(options)?.names[0] === name ? "" : name;
-    return text.trimEnd().replace(/(?<=\p{L})(?=[0-9]+$)/u, " ") + added;
+/** Adds the unit that is left out at the end, if it is certain which one it is. */
+function complete(text) {
+    const { unit, between, number } = END.exec(text)?.groups ?? {};
+    const [limit, name] = LEFT_OUT[unitOf(unit ?? "")?.printed] ?? [0n];
+    if (!limit || BigInt(number) >= limit) return text;
+    return text.replace(END, `${unit}${between || " "}${number}${name}`);
 }
 
-function offer(text, options) {
-    const { ok, value } = text === null ? { ok: false } : tryParseNs(text, options);
-    if (!ok) return [];
-    const sum = text.includes("*") ? formatNs(value) : text;
-    return [{ text, options, value, meaning: inWords(sum, options) }];
-}
-
-export function offersFor(text, options) {
-    if (text.trim() === "") return [];
-    for (const each of [text, clean(text)]) {
-        const found = optionsToTry(options, each)
-            .flatMap((tried) => offer(complete(each, tried), tried));
-        if (found.length > 0) return found.slice(0, 1);
+/** The options, and then those with changes by which more texts are read. Of two that both read a
+ * text, the one with fewer changes comes first. */
+function optionsToTry(options) {
+    const changes = { moreNames: true, lowercase: false, cnUnit: true };
+    // With another default unit, the library takes no `noCalc: false`.
+    if (["s", undefined].includes(options.defaultUnit)) changes.noCalc = false;
+    const tried = [options];
+    for (const [name, value] of Object.entries(changes)) {
+        tried.push(...tried.map((each) => ({ ...each, [name]: value })));
     }
-    const readings = converted(text, options)?.readings ?? [];
-    return readings.flatMap(({ text: each }) => offer(complete(each, options), options));
+    return tried;
 }
 
-/** A list with the part that the fault is about, if there is one. */
-export function markedParts({ words, start, fault }, options) {
-    if (!fault || fault.index === null) return [];
-    const { code, index, found } = fault;
-    const part = (from, length) => [{ from: start + from, to: start + from + length }];
-    if (code === "NOT_TEXT") return part(index, 1);
-    // A word is marked as a whole, even if it has letters that no unit has.
-    const word = /^\p{L}*/u.exec(words.slice(index))[0];
-    if (code === "SYNTAX") return part(index, Math.max(word.length, (found ?? "").length));
-    const [term] = terms(words, options);
-    return part(words.indexOf(term.words), term.words.length);
+/** Returns a text with its options and its value, or undefined. `value` is that of the text that
+ * was typed, if it is read. */
+export function offerFor(text, options, value) {
+    const completed = complete(text);
+    const tried = value === undefined ? optionsToTry(options) : [options];
+    const read = tried.map((each) => (
+        { text: completed, options: each, ...tryParseNs(completed, each) }
+    ));
+    return read.find((each) => each.ok && each.value !== value);
 }
 
-/** What the page says about a refused text, or nothing if it shows only the library's line. */
-export function sentence(text, code, options) {
-    if (text.trim() === "") return say`Type a duration, such as ${"1h 30m"}.`;
-    // The value of a product may be shorter than 584 years, although a step is longer.
-    const isLarge = code === "OVERFLOW" || code === "NUMBER_TOO_LARGE";
-    if (isLarge && !text.includes("*")) return say`Over 584 years, the longest duration.`;
-    return code === "SYNTAX" && text.length <= LONG ? converted(text, options)?.sentence : null;
+const BARE = /[0-9]*[1-9][0-9]*(?=\s*(?:\+|$))/;
+/** People mean months by `M`, and by `m` after years. */
+const MONTH = /[0-9]\s*(?:(M)|[yY][A-Za-z]*[\s+]*[0-9]+\s*([mM]))(?![A-Za-z])/;
+const LONG_UNITS = UNITS.slice(0, 3);
+
+function inDays(value, { units, parts }) {
+    const printed = breakdown(value, { units, parts }).parts.map(({ unit }) => unit);
+    const long = LONG_UNITS.filter((unit) => printed.includes(unit.printed));
+    const lengths = long.map(({ names, length }) => `a ${names.at(-2)} has ${length}`);
+    if (lengths.length === 0) return [];
+    return [["That is ", quoted(formatNs(value, { largest: "d" })), `: ${lengths.join(", ")}.`]];
 }
 
-function inDays(value, format) {
-    const printed = formatNs(value, { ...format, style: "short" });
-    const isPrinted = ({ names: [name] }) => new RegExp(`[0-9]${name}\\b`).test(printed);
-    const units = UNITS.slice(0, 3).filter(isPrinted);
-    if (units.length === 0) return [];
-    const lengths = units.map(({ names, length }) => `a ${names.at(-2)} has ${length}`);
-    return [say`That is ${formatNs(value, { largest: "d" })}: ${[lengths.join(", ")]}.`];
-}
-
-/** People mean months by `m` after years, or before weeks or days. */
-function monthIn(sum) {
-    const unitAt = (place) => unitOf(sum[place]?.unit ?? "")?.names[0];
-    const isMonth = (place) => unitAt(place - 1) === "y" || ["w", "d"].includes(unitAt(place + 1));
-    return sum.find(({ unit }, place) => /^m$/i.test(unit) && isMonth(place));
-}
-
-function inMonths(sum, month) {
-    const words = (term) => term === month ? `${term.number}mon` : term.words;
-    return sum.map((term) => `${term.operator} ${words(term)}`.trim()).join(" ");
-}
-
-export function notesOn(text, value, options, format) {
-    const found = Array.from(terms(text, options));
-    const sum = found[1]?.operator === "*" ? [] : found;
-    const bare = sum.find(({ number, unit }) => !unit && !/^0+$/.test(number));
-    const month = monthIn(sum);
-    const minutes = month ?? found.find(({ unit }) => unit === "M");
-    const sentences = [];
-    const [unit] = bare ? defaultUnitOf(options).names.slice(-1) : [];
-    if (bare) sentences.push(say`${bare.number} has no unit: ${[unit]}.`);
-    if (minutes) sentences.push(say`${minutes.unit} is minutes; months are ${"mon"}.`);
-    sentences.push(...inDays(value, format));
-    if (!bare && !month) return { sentences, offers: [] };
-    const meant = complete(month ? inMonths(sum, month) : text, options);
-    const offers = offer(meant, options).filter((each) => each.value !== value);
-    return { sentences, offers };
+/** Sentences about a text that is read. */
+export function notesOn(text, value, { defaultUnit }, format) {
+    const notes = [];
+    const [bare] = text.includes("*") ? [] : BARE.exec(text) ?? [];
+    if (bare) notes.push([quoted(bare), ` has no unit: ${unitOf(defaultUnit).names.at(-1)}.`]);
+    const [month] = (MONTH.exec(text) ?? []).slice(1).filter(Boolean);
+    if (month) notes.push([quoted(month), " is minutes; months are ", quoted("mon"), "."]);
+    return [...notes, ...inDays(value, format)];
 }

@@ -1,195 +1,105 @@
-import { formatNs, tryParseNs } from "../js/dist/duration-str.js";
-import { markedParts, notesOn, offersFor, sentence } from "./advice.js";
-import {
-    changedOptions, choose, chosenFormat, chosenOptions, switches,
-} from "./choices.js";
-import { button, element, make, MOST_LINES, parts, text, write } from "./elements.js";
-import { AROUND, lineOf } from "./sentences.js";
+import { formatNs, parts, tryParseNs } from "../js/dist/duration-str.js";
+import { notesOn, offerFor } from "./advice.js";
+import { changes, choose, chosenFormat, chosenOptions } from "./choices.js";
+import { button, element, make, quoted, text, write } from "./elements.js";
 import { LONG } from "./units.js";
-import { counts, decimal, groupDigits, iso, seconds } from "./values.js";
 
-/** The texts that the copy buttons copy, by the ids of elements. */
-export const copied = {};
+const HINT = ["Type a duration, such as ", quoted("1h 30m"), "."];
+const MINUTE = 60_000_000_000n;
 
-function show(id, words, shown = words) {
-    copied[id] = words;
-    element(id).textContent = shown;
+/** `193,029.5`, exactly. The unit has ten to the power of `places` nanoseconds. */
+function decimal(nanos, places) {
+    const length = 10n ** BigInt(places);
+    const fraction = `${nanos % length}`.padStart(places, "0").replace(/0+$/, "");
+    const whole = (nanos / length).toLocaleString("en");
+    return fraction === "" ? whole : `${whole}.${fraction}`;
 }
 
-// ---- Marks
-
-function markParts(target, shown, marked) {
-    let end = 0;
-    target.replaceChildren(...marked.flatMap(({ from, to }) => {
-        // A fault at the end of the text is shown as a marked blank.
-        const mark = make("mark", from === to ? "\u00a0" : shown.slice(from, to));
-        mark.classList.toggle("thin", /^\p{Cf}$/u.test(mark.textContent));
-        const before = shown.slice(end, from);
-        end = to;
-        return [before, mark];
-    }), shown.slice(end));
+/** A duration of ISO 8601 with days of 24 hours, exactly: `PT3M13.029S`. */
+function iso(nanos) {
+    const { days, hours, minutes } = parts(nanos, { smallest: "min" });
+    let clock = "";
+    if (hours) clock += `${hours}H`;
+    if (minutes) clock += `${minutes}M`;
+    if (nanos % MINUTE) clock += `${decimal(nanos % MINUTE, 9)}S`;
+    const date = days ? `P${days}D` : "P";
+    if (clock) return `${date}T${clock}`;
+    return days ? date : "PT0S";
 }
 
-/** This keeps surrogate pairs whole. */
-function whole(shown, place) {
-    return /[\udc00-\udfff]/.test(shown.charAt(place)) ? place + 1 : place;
+/** Marks what the fault is about, in the mirror of the text. */
+function showMark({ code, index }) {
+    if (index === null) return;
+    const isTooLarge = code === "OVERFLOW" || code === "NUMBER_TOO_LARGE";
+    // A first term that is too large may have blanks before it. A word is marked as a whole, even
+    // if it has letters that no unit has.
+    const pattern = isTooLarge ? /[0-9]+\s*\p{L}*/u : /^(?:\p{L}+|[0-9]+|[^]?)/u;
+    const { 0: part, index: before } = pattern.exec(text.value.slice(index));
+    const from = index + before;
+    // A fault at the end of the text is shown as a marked blank.
+    const mark = make("mark", part || "\u00a0");
+    mark.classList.toggle("thin", /^\p{Cf}$/u.test(part));
+    const rest = text.value.slice(from + part.length);
+    element("mirror").append(text.value.slice(0, from), mark, rest);
 }
 
-function showMarks(marked) {
-    const long = text.value.length > LONG;
-    text.parentElement.classList.toggle("long", long);
-    const excerpt = element("excerpt");
-    excerpt.hidden = !long || marked.length === 0;
-    markParts(element("mirror"), long ? "" : text.value, long ? [] : marked);
-    if (excerpt.hidden) return;
-    const [part] = marked;
-    const start = whole(text.value, Math.max(0, part.from - AROUND));
-    const stop = whole(text.value, Math.min(part.to, part.from + AROUND));
-    const shown = text.value.slice(start, whole(text.value, stop + AROUND));
-    markParts(excerpt, shown, [{ from: part.from - start, to: stop - start }]);
+/** The library's line as a sentence, whose quotes are marked. */
+function lineOf({ message }) {
+    const line = `${message.replace(/^./, (letter) => letter.toUpperCase())}.`;
+    // The second, fourth, .. part stands between quotation marks. Those in it are escaped.
+    const pieces = line.split(/"((?:[^"\\]|\\.)*)"/);
+    const unescape = (piece) => piece.replace(/\\(["\\])/g, "$1");
+    return pieces.map((piece, place) => place % 2 === 1 ? quoted(unescape(piece)) : piece);
 }
 
-// ---- What is offered
-
-function changesTo(options) {
-    const changed = changedOptions(options).map((name) => switches[name].dataset.switched);
-    return changed.map((words) => `${words}, `).join("");
-}
-
-/** `part` is the start and the end if only a part of the text is replaced. */
-function offerButton({ text: words, options, meaning }, ...part) {
+/** Returns what it says. */
+function showOffer(offer) {
+    element("suggestion").hidden = !offer;
+    if (!offer) return [];
+    const printed = formatNs(offer.value, { ...chosenFormat(), style: "long" });
+    const said = [...changes(offer.options), printed].join(", ");
     const press = () => {
-        choose(options);
-        write(words, ...part);
+        choose(offer.options);
+        write(offer.text);
     };
-    const said = changesTo(options) + meaning;
-    const one = button(press, make("code", make("bdi", words)), make("span", said));
-    one.ariaLabel = `${words}: ${said}`;
-    return one;
+    const words = [make("code", make("bdi", offer.text)), make("span", said)];
+    element("offered").replaceChildren(button(press, ...words));
+    return [`Try instead ${offer.text}: ${said}.`];
 }
 
-function showOffers(offers) {
-    element("suggestions").hidden = offers.length === 0;
-    element("offered").replaceChildren(...offers.map((offer) => offerButton(offer)));
+function showValue(value) {
+    const shown = {
+        printed: formatNs(value, chosenFormat()),
+        nanoseconds: decimal(value, 0),
+        milliseconds: decimal(value, 6),
+        seconds: decimal(value, 9),
+        iso: iso(value),
+    };
+    for (const [id, words] of Object.entries(shown)) element(id).textContent = words;
 }
 
-function remarksOn({ words, value, fault }) {
-    const said = fault ? [sentence(words, fault.code, chosenOptions()) ?? lineOf(fault)] : [];
-    if (words.length > LONG) return { sentences: said, offers: [] };
-    if (!fault) return notesOn(words, value, chosenOptions(), chosenFormat());
-    return { sentences: said, offers: offersFor(words, chosenOptions()) };
-}
-
-// ---- A fault
-
-function showFault(line) {
-    const { sentences: [said, ...others], offers } = remarksOn(line);
-    const more = others.flatMap((each) => [" ", ...parts(each)]);
-    element("sentence").replaceChildren(...parts(said), ...more);
-    element("sentence").classList.toggle("hint", text.value === "");
-    element("line").replaceChildren(...parts(lineOf(line.fault)));
-    const isOwn = element("sentence").textContent !== element("line").textContent;
-    element("library").hidden = !isOwn || text.value.trim() === "";
-    showOffers(offers);
-}
-
-// ---- A value
-
-/** A row is a heading and what stands beside it. */
-function fill(table, rows) {
-    table.querySelector("tbody").replaceChildren(...rows.map(([words, ...content]) => {
-        const heading = make("th", words);
-        heading.scope = "row";
-        return make("tr", heading, make("td", ...content));
-    }));
-}
-
-function showValue(line) {
-    const { value } = line;
-    show("printed", formatNs(value, chosenFormat()));
-    for (const [id, length] of [["nanoseconds", 1n], ["milliseconds", 1_000_000n]]) {
-        show(id, decimal(value, length), groupDigits(decimal(value, length)));
-    }
-    show("seconds", seconds(value), groupDigits(seconds(value)));
-    show("iso", iso(value));
-    const counted = counts(value, chosenFormat());
-    show("counts", counted, counted.replace(/[0-9]+/g, groupDigits));
-    const { sentences, offers } = remarksOn(line);
-    element("notes").replaceChildren(...sentences.map((each) => make("p", ...parts(each))));
-    showOffers(offers);
-}
-
-// ---- Several lines
-
-/** If fewer than two lines are not blank, the whole text is one line. */
-function linesOf(whole) {
-    const found = Array.from(whole.matchAll(/(?<![^\n])[^\n]*\S[^\n]*/g));
-    const lines = found.map(({ 0: words, index }) => ({ words, start: index }));
-    return lines.length > 1 ? lines : [{ words: whole, start: 0 }];
-}
-
-/** If there are more than MOST_LINES, the refused ones come first. */
-function linesToShow(lines) {
-    if (lines.length <= MOST_LINES) return lines;
-    const refused = lines.filter(({ ok }) => !ok);
-    const read = lines.filter(({ ok }) => ok);
-    return [...refused, ...read].slice(0, MOST_LINES);
-}
-
-function lineRow(line) {
-    const { words, start, ok, value } = line;
-    const { sentences, offers } = remarksOn(line);
-    return [
-        words.trim(),
-        ...(ok ? [make("code", formatNs(value, chosenFormat()))] : []),
-        ...sentences.map((each) => make("p", ...parts(each))),
-        ...offers.map((offer) => offerButton(offer, start, start + words.length)),
-    ];
-}
-
-function howMany(lines) {
-    const read = groupDigits(`${lines.filter(({ ok }) => ok).length}`);
-    const all = groupDigits(`${lines.length}`);
-    if (lines.length <= MOST_LINES) return `${read} of ${all} lines are read.`;
-    return `${read} of ${all} lines are read; ${MOST_LINES} are shown, the refused ones first.`;
-}
-
-/** Returns the text for screen readers. */
-function showLines(lines) {
-    fill(element("lines"), linesToShow(lines).map(lineRow));
-    showOffers([]);
-    element("lines").caption.textContent = howMany(lines);
-    return howMany(lines);
-}
-
-function announcement(sentences) {
-    const offers = Array.from(element("offered").children, (one) => one.ariaLabel);
-    const tried = offers.length > 0 ? [`Try instead ${offers.join("; ")}.`] : [];
-    return [...sentences, ...tried].join(" ");
+function sentencesOn(typed, { value, fault }) {
+    if (typed === "") return [HINT];
+    if (fault) return [lineOf(fault)];
+    return typed.length > LONG ? [] : notesOn(typed, value, chosenOptions(), chosenFormat());
 }
 
 /** Returns the text for screen readers. */
 export function showAnswer() {
-    const options = chosenOptions();
-    const lines = linesOf(text.value)
-        .map((line) => ({ ...line, ...tryParseNs(line.words, options) }));
-    const [line] = lines;
-    const isOne = lines.length === 1;
-    const isRead = lines.every(({ ok }) => ok);
-    for (const id of ["value", "notations"]) element(id).hidden = !isOne || !isRead;
-    element("fault").hidden = !isOne || isRead;
-    element("lines").hidden = isOne;
-    text.setAttribute("aria-invalid", String(!isRead && text.value !== ""));
-    showMarks(lines.flatMap((each) => markedParts(each, options)));
-    for (const id of ["sentence", "line"]) element(id).replaceChildren();
-    if (!isOne || isRead) text.removeAttribute("aria-describedby");
-    else text.setAttribute("aria-describedby", "sentence");
-    if (!isOne) return showLines(lines);
-    if (isRead) {
-        showValue(line);
-        const notes = Array.from(element("notes").children, (note) => note.textContent);
-        return announcement([`${copied.printed}.`, ...notes]);
-    }
-    showFault(line);
-    return announcement([element("sentence").textContent]);
+    const typed = text.value;
+    const isLong = typed.length > LONG;
+    const answer = tryParseNs(typed, chosenOptions());
+    for (const part of document.querySelectorAll(".read")) part.hidden = !answer.ok;
+    text.setAttribute("aria-invalid", String(!answer.ok && typed !== ""));
+    text.parentElement.classList.toggle("long", isLong);
+    element("mirror").replaceChildren();
+    if (answer.ok) showValue(answer.value);
+    else if (!isLong) showMark(answer.fault);
+    const sentences = sentencesOn(typed, answer).map((each) => make("p", ...each));
+    element("said").replaceChildren(...sentences);
+    const isOffered = typed !== "" && !isLong;
+    const offer = isOffered ? offerFor(typed, chosenOptions(), answer.value) : undefined;
+    const printed = answer.ok ? [`${element("printed").textContent}.`] : [];
+    const said = sentences.map((each) => each.textContent);
+    return [...printed, ...said, ...showOffer(offer)].join(" ");
 }

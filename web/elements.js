@@ -1,38 +1,30 @@
-// A text that is typed, or comes from the link, is put into elements as text, and not as HTML.
-import { shorten } from "./sentences.js";
-
-export const MOST_LINES = 200;
-const CHINESE = /\p{Script=Han}/u;
-
 export const element = (id) => document.getElementById(id);
 export const text = element("text");
 
-/** The element's language is Chinese if its own text has a Chinese character. */
+const CHINESE = /\p{Script=Han}/u;
+
+/** Makes an element. A text in it is a text, and not HTML. With a Chinese character it is marked as
+ * Chinese. */
 export function make(name, ...content) {
-    const one = document.createElement(name);
-    one.append(...content);
-    if (content.some((part) => CHINESE.test(part))) one.lang = "zh";
-    return one;
+    const made = document.createElement(name);
+    made.append(...content);
+    if (content.some((part) => CHINESE.test(part))) made.lang = "zh";
+    return made;
 }
 
 /** `bdi` keeps a quoted text from turning the direction of what is around it. */
-const quotation = (words) => make("code", make("bdi", shorten(words)));
-
-export function parts(sentence) {
-    return sentence.map((part) => part.quoted === undefined ? part : quotation(part.quoted));
-}
+export const quoted = (words) => make("code", make("bdi", words));
 
 export function button(press, ...content) {
-    const one = make("button", ...content);
-    one.type = "button";
-    one.addEventListener("click", press);
-    return one;
+    const made = make("button", ...content);
+    made.type = "button";
+    made.addEventListener("click", press);
+    return made;
 }
 
-/** This counts as typing, so it can be undone. */
-export function write(words, start = 0, end = text.value.length) {
+/** Replaces the text. This counts as typing, so it can be undone. */
+export function write(words) {
     text.focus();
-    if (words === text.value.slice(start, end)) return;
-    text.setSelectionRange(start, end);
-    document.execCommand(words === "" ? "delete" : "insertText", false, words);
+    text.select();
+    document.execCommand("insertText", false, words);
 }

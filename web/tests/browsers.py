@@ -18,18 +18,13 @@ from selenium.webdriver.webkitgtk.service import Service as WebKitService
 
 
 class Chromium:
-    TESTS = ("try_", "sized_", "chromium_")
+    TESTS = ("try_", "chromium_")
 
     def __init__(self):
         options = webdriver.ChromeOptions()
-        for word in (
-            "--headless=new",
-            "--no-sandbox",
-            "--disable-gpu",
-            "--hide-scrollbars",
-            "--window-size=900,1100",
-        ):
-            options.add_argument(word)
+        words = "headless=new no-sandbox disable-gpu hide-scrollbars window-size=900,1100"
+        for word in words.split():
+            options.add_argument(f"--{word}")
         options.set_capability("goog:loggingPrefs", {"browser": "ALL", "performance": "ALL"})
         self.driver = webdriver.Chrome(service=Service("/usr/bin/chromedriver"), options=options)
         self.driver.execute_cdp_cmd("Performance.enable", {"timeDomain": "threadTicks"})
@@ -56,6 +51,8 @@ class Chromium:
 class Copied:
     """A browser that reads a copy of the page, with the scripts in it and in its policy."""
 
+    TESTS = ("try_",)
+
     def with_script(self, file, script):
         digest = base64.b64encode(hashlib.sha256(script.encode()).digest()).decode()
         text = file.read_text(encoding="utf-8")
@@ -75,30 +72,18 @@ class Firefox(Copied):
     Marionette.
     """
 
-    TESTS = ("try_", "sized_")
     PREFERENCES = {
         "dom.events.testing.asyncClipboard": True,
         "marionette.port": 0,
-        "ui.useOverlayScrollbars": 1,
     }
     COMMANDS = {
-        "clearElement": "ElementClear",
         "clickElement": "ElementClick",
         "get": "Navigate",
-        "getElementAriaLabel": "GetComputedLabel",
         "sendKeysToElement": "ElementSendKeys",
         "w3cExecuteScript": "ExecuteScript",
         "w3cExecuteScriptAsync": "ExecuteAsyncScript",
         "w3cGetActiveElement": "GetActiveElement",
     }
-    EMULATE = """const [dark, forced, ...sizes] = arguments;
-        Services.prefs.setIntPref("layout.css.prefers-color-scheme.content-override", dark ? 0 : 1);
-        Services.prefs.setIntPref("browser.display.document_color_use", forced ? 2 : 0);
-        for (const [place, name] of ["width", "height"].entries()) {
-            for (const bound of ["min", "max"]) {
-                gBrowser.selectedBrowser.style.setProperty(`${bound}-${name}`, `${sizes[place]}px`);
-            }
-        }"""
 
     def __init__(self):
         self.folder = tempfile.TemporaryDirectory()
@@ -138,9 +123,6 @@ class Firefox(Copied):
             return self.ask("Marionette:Quit", {"flags": ["eForceQuit"]}) and {}
         words = {} if command == "newSession" else {**words}
         words.pop("sessionId", None)
-        if command.startswith("findChild"):
-            words["element"] = words.pop("id")
-            command = command.replace("Child", "")
         name = self.COMMANDS.get(command, f"{command[0].upper()}{command[1:]}")
         error, value = self.ask(f"WebDriver:{name}", words)
         if error:
@@ -151,18 +133,8 @@ class Firefox(Copied):
         self.process.wait()
         self.folder.cleanup()
 
-    def emulate(self, scheme, width, height, forced):
-        self.ask("Marionette:SetContext", {"value": "chrome"})
-        words = {"script": self.EMULATE, "args": [scheme == "dark", forced, width, height]}
-        self.ask("WebDriver:ExecuteScript", words)
-        self.ask("Marionette:SetContext", {"value": "content"})
-
 
 class WebKit(Copied):
-    """Its window can't be as narrow as a phone."""
-
-    TESTS = ("try_",)
-
     def __init__(self):
         options = webdriver.WebKitGTKOptions()
         options.add_argument("--automation")

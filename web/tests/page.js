@@ -35,44 +35,57 @@ function follow(fragment, done) {
 
 const all = (selector) => [...document.querySelectorAll(selector)];
 const seen = (selector) => all(selector).filter((element) => element.checkVisibility());
+const words = (selector) => seen(selector).map((element) => element.textContent);
 const excerpts = (elements) => elements.map((element) => element.outerHTML.slice(0, 80));
-const words = (selector) => all(selector).map((element) => element.textContent);
 
-function put(text) {
-    all("#text")[0].value = text;
-    all("#text")[0].dispatchEvent(new Event("input", { bubbles: true }));
+/** What a visitor sees. A part that is hidden is null. */
+function shown() {
+    const ids = ["printed", "nanoseconds", "milliseconds", "seconds", "iso", "share", "copied"];
+    const isChosen = ({ disabled, checked, type }) => !disabled && (checked || type !== "checkbox");
+    const chosen = all("#options :is(input, select)").filter(isChosen);
+    return {
+        ...Object.fromEntries(ids.map((id) => [id, words(`#${id}`)[0] ?? null])),
+        text: all("#text")[0].value,
+        marks: words("mark"),
+        said: words("#said p"),
+        offer: words("#offered button > *"),
+        options: chosen.map((box) => box.type === "checkbox" ? box.id : box.value).join(" "),
+        printing: all("#style, #parts, #printed_units :checked").map((box) => box.value).join(" "),
+        note: all("#link-note")[0].textContent,
+        link: location.hash,
+        elements: all("img, svg, script, b").length,
+    };
 }
 
-/** Calls `done` when the answer is drawn. */
-function answer(text, pasted, done) {
+/** Options such as `no_calc default_unit=ms` */
+function choose(options) {
+    const list = all("#default_unit")[0];
+    [, list.value] = /default_unit=(\S+)/.exec(options) ?? ["", "s"];
+    list.dispatchEvent(new Event("change", { bubbles: true }));
+    for (const box of all("#options input:enabled")) {
+        if (box.checked !== options.split(" ").includes(box.id)) box.click();
+    }
+}
+
+function put(text, options) {
+    if (options !== undefined) choose(options);
+    const input = all("#text")[0];
+    input.value = text;
+    input.dispatchEvent(new Event("input", { bubbles: true }));
+    return shown();
+}
+
+function paste(text) {
     all("#text")[0].select();
-    if (pasted) document.execCommand("insertText", false, text);
-    else put(text);
-    requestAnimationFrame(() => requestAnimationFrame(() => done()));
+    document.execCommand("insertText", false, text);
+    return document.body.innerText.length;
 }
 
-function pressedUnits() {
-    return all("#units button").map((button) => {
-        all("#text")[0].value = "";
-        button.click();
-        return [button.textContent, all("#text")[0].value, all("#nanoseconds")[0].textContent];
-    });
-}
-
-function places(texts) {
-    const beginnings = texts.flatMap(
-        (text) => Array.from({ length: text.length + 1 }, (_, end) => text.slice(0, end)),
-    );
-    return beginnings.map((text) => {
-        put(text);
-        return all("#answer")[0].getBoundingClientRect().top + scrollY;
-    });
-}
-
-/** The lowest point of the answer and of the first offer. */
-function lowest() {
-    const parts = [...seen("#printed, #notes, #sentence"), ...seen("#offered button").slice(0, 1)];
-    return Math.max(...parts.map((element) => element.getBoundingClientRect().bottom));
+/** Where the answer begins, and the lowest point of what is said and of the offer. */
+function heights() {
+    const parts = seen("#printed, #said, #offered button");
+    const lowest = parts.map((element) => element.getBoundingClientRect().bottom);
+    return [all("#answer")[0].getBoundingClientRect().top + scrollY, Math.max(...lowest)];
 }
 
 /** 4.5 and 3 are the contrasts that WCAG asks for on level AA. */
@@ -92,9 +105,8 @@ function pale() {
     const hasText = (element) => [...element.childNodes].some(
         (node) => node.nodeType === 3 && node.data.trim() !== "",
     );
-    const texts = seen("body *").filter(
-        (element) => hasText(element) && !element.closest("#mirror"),
-    )
+    const texts = seen("body *")
+        .filter((element) => hasText(element) && !element.closest("#mirror"))
         .filter((element) => ratio(getComputedStyle(element).color, behind(element)) < 4.5);
     const edges = seen("button, .marked").filter((element) => {
         return ratio(getComputedStyle(element).borderTopColor, behind(element.parentElement)) < 3;
@@ -108,22 +120,23 @@ function brokenRules() {
         (element) => element.getAttribute(attribute).split(" "),
     );
     const levels = seen("h1, h2, h3").map((element) => Number(element.tagName[1]));
-    const scrolls = ({ scrollWidth, clientWidth }) => scrollWidth > clientWidth + 1;
-    const isScrolled = (element) => scrolls(element) && /auto|scroll/.test(
-        getComputedStyle(element).overflowX,
-    );
+    const isScrolled = (element) => element.scrollWidth > element.clientWidth + 1
+        && /auto|scroll/.test(getComputedStyle(element).overflowX);
     const isSmall = ({ offsetHeight, offsetWidth }) => offsetHeight < 24 || offsetWidth < 24;
-    return {
+    const isNameless = (field) => field.textContent === "" && field.labels.length === 0;
+    const hasName = (element) => element.matches("[aria-label], [aria-labelledby]");
+    const holdsFocus = (element) => element.tabIndex >= 0
+        || element.querySelector("textarea, button");
+    return Object.entries({
         "names used twice": ids.filter((id, place) => ids.indexOf(id) !== place),
         "names that are nobody's": ["aria-labelledby", "aria-describedby", "for"].flatMap(named)
             .filter((id) => !ids.includes(id)),
-        "groups without a name": excerpts(seen("section, [role=group], [role=region], [role=toolbar]")
-            .filter(
-                (element) => !element.hasAttribute("aria-label") && !element.hasAttribute(
-                    "aria-labelledby",
-                ),
-            )),
-        "what has the focus and no role": excerpts(seen("[tabindex]:not(button, [role])")),
+        "groups without a name": excerpts(seen("section, form, [role=group], [role=region]")
+            .filter((element) => !hasName(element))),
+        "fields without a name": excerpts(
+            seen("input, select, textarea, button").filter(isNameless),
+        ),
+        "what has the focus and no role": excerpts(seen("[tabindex]:not([role])")),
         "buttons that send": excerpts(all("button:not([type=button])")),
         "images without words": excerpts(all("img:not([alt])")),
         "headings that skip a level": levels.filter(
@@ -131,14 +144,13 @@ function brokenRules() {
         ),
         "a list with other parts": excerpts(all("dl > :not(div), dl > div > :not(dt, dd)")),
         "small targets": excerpts(seen("button").filter(isSmall)),
-        "places to scroll that no key reaches": excerpts(seen("body *").filter(isScrolled)
-            .filter(
-                (element) => element.tabIndex < 0 && !element.querySelector("textarea, button"),
-            )),
+        "places to scroll that no key reaches": excerpts(
+            seen("body *").filter((element) => isScrolled(element) && !holdsFocus(element)),
+        ),
         "parts outside of a landmark": excerpts(all("body > :not(header, main, footer, script)")),
-    };
+    }).filter(([, broken]) => broken.length > 0);
 }
 
 window.asked = {
-    words, answer, follow, runPutOff, pressedUnits, places, lowest, pale, brokenRules,
+    words, shown, choose, put, paste, follow, runPutOff, heights, pale, brokenRules,
 };

@@ -1,18 +1,5 @@
 """page.py FILE [BROWSER | --pictures]: tries the page in this file in Chromium, or in another class
-of browsers.py, or takes its pictures. web/check calls it.
-
-texts.json has texts and what the page shows for them, written by hand:
-
-"values"    the printed text, and the value in nanoseconds, milliseconds, seconds and ISO 8601
-"notes"     the notes on the text
-"faults"    the part that is marked, and for some texts the sentence
-"lines"     the parts that are marked, and the rows of the table of lines
-"switched"  the text that is offered, its meaning, and the options with which it is read
-"meant"     the values in seconds that people mean by the text; null if nothing may be offered
-
-advice.test.js tries most of this without a browser, so only some of those rows are tried here.
-"typed" texts are put in character by character. "hostile" texts must be shown and do nothing else,
-and "hostile links" must not change how durations are printed.
+of browsers.py, or takes its pictures. web/check calls it. The functions `asked` are in page.js.
 """
 import base64
 import contextlib
@@ -21,45 +8,133 @@ import pathlib
 import re
 import subprocess
 import sys
-import urllib.parse
+from urllib.parse import quote
 
 HERE = pathlib.Path(__file__).resolve().parent
 ROOT = HERE.parent.parent
 sys.dont_write_bytecode = True
-sys.path.append(str(ROOT / "tests"))
-import reference_parser  # noqa: E402
+sys.path += [str(ROOT / "tests"), str(ROOT / "tools")]
 import browsers  # noqa: E402
+import reference_parser  # noqa: E402
+import units  # noqa: E402
 from selenium.common.exceptions import TimeoutException  # noqa: E402
-from selenium.webdriver.common.by import By  # noqa: E402
 from selenium.webdriver.common.keys import Keys  # noqa: E402
-from selenium.webdriver.support.ui import Select, WebDriverWait  # noqa: E402
+from selenium.webdriver.support.ui import WebDriverWait  # noqa: E402
 
-TEXTS = json.loads((HERE / "texts.json").read_text(encoding="utf-8"))
-SCHEMES = ("light", "dark")
-# The page has 98,650 bytes, and may have 15 % more
-LARGEST = int(1.15 * 98_650)
+# The page has 63,878 bytes, and may have 15 % more
+LARGEST = int(1.15 * 63_878)
 # The height that the keyboard of a phone of 375 by 667 pixels leaves free
 FREE = 300
-PICTURES = ROOT / "docs/images"
-PICTURE_WIDTH = 640
-PICTURE_MARGIN = 12
-# The options that have boxes. Rows may also have `require_unit`, or a default unit such as
-# `default_unit=ms`.
-OPTIONS = reference_parser.Options._fields
+PLAIN = {"options": "s", "printing": "short 11 y q mon w d h min s ms µs ns"}
+
+LONGEST = (
+    "584y 3q 2mon 1w 3d 23h 34min 33s 709ms 551µs 615ns 18,446,744,073,709,551,615"
+    " 18,446,744,073,709.551615 18,446,744,073.709551615 P213503DT23H34M33.709551615S"
+)
+# Texts, the options with which they are read, what is printed, and the value in nanoseconds,
+# milliseconds, seconds and ISO 8601. `default_unit=refused` requires units.
+READ = [
+    ("3m + 13s + 29ms", "", "3min 13s 29ms 193,029,000,000 193,029 193.029 PT3M13.029S"),
+    ("1h 30m", "", "1h 30min 5,400,000,000,000 5,400,000 5,400 PT1H30M"),
+    ("1m*10ms", "", "600ms 600,000,000 600 0.6 PT0.6S"),
+    ("1h\n30m", "", "1h 30min 5,400,000,000,000 5,400,000 5,400 PT1H30M"),
+    ("1ns+30s", "", "30s 1ns 30,000,000,001 30,000.000001 30.000000001 PT30.000000001S"),
+    ("0", "", "0s 0 0 0 PT0S"),
+    ("1y", "", "1y 31,536,000,000,000,000 31,536,000,000 31,536,000 P365D"),
+    ("1d2h3min4s", "no_calc", "1d 2h 3min 4s 93,784,000,000,000 93,784,000 93,784 P1DT2H3M4S"),
+    ("1M", "", "1min 60,000,000,000 60,000 60 PT1M"),
+    ("1m31", "lowercase", "1min 31s 91,000,000,000 91,000 91 PT1M31S"),
+    ("1分+31秒", "cn_unit", "1min 31s 91,000,000,000 91,000 91 PT1M31S"),
+    ("2 Hrs", "more_names", "2h 7,200,000,000,000 7,200,000 7,200 PT2H"),
+    ("2h 7m", "default_unit=refused", "2h 7min 7,620,000,000,000 7,620,000 7,620 PT2H7M"),
+    ("1500", "default_unit=ms", "1s 500ms 1,500,000,000 1,500 1.5 PT1.5S"),
+    (f"{2**64 - 1}ns", "", LONGEST),
+]
+
+# Texts that are read, the options, the notes, and what is offered.
+NOTES = [
+    ("1h 30", "", ["30 has no unit: seconds."], ["1h 30m", "1 hour 30 minutes"]),
+    ("12h30", "", ["30 has no unit: seconds."], ["12h 30m", "12 hours 30 minutes"]),
+    ("1d + 23 ", "", ["23 has no unit: seconds."], ["1d + 23h", "1 day 23 hours"]),
+    ("1h 3", "default_unit=ms", ["3 has no unit: milliseconds."], ["1h 3m", "1 hour 3 minutes"]),
+    ("1h 59", "", ["59 has no unit: seconds."], ["1h 59m", "1 hour 59 minutes"]),
+    ("1h 60", "", ["60 has no unit: seconds."], []),
+    ("1m 30", "", ["30 has no unit: seconds."], []),
+    ("1h 30", "default_unit=min", ["30 has no unit: minutes."], []),
+    ("30 + 1h", "", ["30 has no unit: seconds."], []),
+    ("1m*90", "", [], []),
+    ("1h 0", "", [], []),
+    ("6M", "", ["M is minutes; months are mon."], []),
+    ("1y2m", "", ["m is minutes; months are mon.", "That is 365d 2min: a year has 365 days."], []),
+    ("1 day 2m 3h", "", [], []),
+    ("180d", "", ["That is 180d: a quarter has 91 days, a month has 30 days."], []),
+    ("2w", "", [], []),
+    ("1h " * 700 + "5", "", [], []),
+]
+
+# Texts that are refused, the options, what is marked, and what is offered. The line is that of the
+# reference parser.
+AT_END = ["\u00a0"]
+REFUSED = [
+    ("   ", "", AT_END, []),
+    ("5 mins", "", ["mins"], ["5 mins", "with more names, 5 minutes"]),
+    ("5 mins 30", "", ["mins"], ["5 mins 30s", "with more names, 5 minutes 30 seconds"]),
+    ("5 MINS", "lowercase", ["MINS"], ["5 MINS", "in capitals too, with more names, 5 minutes"]),
+    ("1h 30", "default_unit=refused", AT_END, ["1h 30m", "1 hour 30 minutes"]),
+    ("1m 59", "default_unit=refused", AT_END, ["1m 59s", "1 minute 59 seconds"]),
+    ("90", "default_unit=refused", AT_END, []),
+    ("2 * 5m", "default_unit=refused", ["*"], []),
+    ("90s*2", "default_unit=ms", ["*"], []),
+    ("1m+2", "no_calc", ["+"], ["1m+2s", "with + and *, 1 minute 2 seconds"]),
+    ("1M", "lowercase", ["M"], ["1M", "in capitals too, 1 minute"]),
+    ("1分", "", ["分"], ["1分", "with Chinese units, 1 minute"]),
+    ("1分s", "no_calc cn_unit", ["分s"], []),
+    ("5小时", "", ["小时"], []),
+    ("5μs", "", ["μs"], []),
+    ("13mxyz", "", ["mxyz"], []),
+    ("1h, 30m", "", [","], []),
+    ("1.5h", "", ["."], []),
+    ("1:30:00", "", [":"], []),
+    ("PT5M", "", ["PT"], []),
+    ("-5m", "", ["-"], []),
+    ("1m+", "", AT_END, []),
+    ("1m+2*3 4", "", ["4"], []),
+    ("1m+2*3", "", [], []),
+    ("600y", "", ["600y"], []),
+    (" 600 y+1", "", ["600 y"], []),
+    ("18446744073709551616", "", ["18446744073709551616"], []),
+    ("1y 600y", "", [], []),
+    ("580y*2", "", [], []),
+    ("1\u200bh", "", ["\u200b"], []),
+    ('1s "', "", ['"'], []),
+]
+
+# Texts and links that must be shown and do nothing else. The links must not change how durations
+# are printed.
+HOSTILE = [
+    "<img src=x onerror=window.hacked=1>",
+    "1m</textarea><script>window.hacked=1</script>",
+    '1m "><svg onload=window.hacked=1>',
+    "1m <b>&lt;&amp;",
+    "1m \u202etxet desrever",
+    "1m \u05d0\u05d1\u05d2 \u0661",
+    "1m \U0001f600",
+]
+HOSTILE_LINKS = """__proto__=1 constructor toString=y&text=1h style=__proto__ style parts=0 parts=-1
+    parts=1e1 parts=1%20 no_calc=1 no_calc=% text=%ff text=%ED%A0%80 units=%E0%A4%A units= units
+    units=y,x units=y,,d units=y%20d units=__proto__ default_unit=x default_unit require_unit
+    style=<img%20src=x%20onerror=window.hacked=1> javascript:window.hacked=1 %74ext=1h =&=
+    style=long%00""".split()
 
 MEGABYTE = 1 << 20
-# Texts of over a million characters, and their printed values, or None if they are refused.
-# 349,525 s are 4 d 1 h 5 min 25 s.
+# Texts of over a million characters, and what is printed, or None if they are refused. 349,525 s
+# are 4 d 1 h 5 min 25 s.
 LONG = [
     ("1s " * 349_525 + " ", "4d 1h 5min 25s"),
     ("1h\n" + " " * MEGABYTE, "1h"),
     ("x" * MEGABYTE, None),
     ("1m " + "<b>" * 349_524, None),
-    (" " * (MEGABYTE - 1) + "x", None),
     (" " * MEGABYTE, None),
-    ("+" * MEGABYTE, None),
-    ("a=" * (MEGABYTE // 2), None),
-    ("分" * MEGABYTE, None),
     ("1m " + "1" * (MEGABYTE - 6) + "m .5", None),
 ]
 
@@ -84,371 +159,148 @@ class Page:
             self.wrong += 1
             print(f"page: {self.name}: {what}: {got!r}, and not {expected!r}")
 
+    def shows(self, what, **expected):
+        shown = self.call("shown")
+        self.same(what, expected, {name: shown[name] for name in expected})
+
     def open(self, fragment=""):
         self.driver.get("about:blank")
         self.driver.get(self.address + fragment)
-        self.run("return document.readyState")
 
-    def run(self, script, *words):
-        return self.driver.execute_script(script, *words)
+    def ask(self, expression, *words):
+        """JSON can also hold lone surrogates."""
+        script = f"const words = JSON.parse(arguments[0]); return JSON.stringify({expression})"
+        return json.loads(self.driver.execute_script(script, json.dumps(words)) or "null")
 
-    def find(self, name):
-        return self.driver.find_element(By.ID, name)
+    def call(self, name, *words):
+        return self.ask(f"asked.{name}(...words)", *words)
 
-    def text_of(self, name):
-        """It is None if the element can't be seen."""
-        element = self.find(name)
-        return element.get_property("textContent") if element.is_displayed() else None
+    def wait_for(self, name, *words):
+        """Waits until the function calls `done`, its last argument."""
+        script = f"asked.{name}(...JSON.parse(arguments[0]), arguments[1])"
+        self.driver.execute_async_script(script, json.dumps(words))
 
-    def put(self, text, pasted=False):
-        """Waits until the answer is drawn."""
-        script = "asked.answer(JSON.parse(arguments[0]), arguments[1], arguments[2])"
-        self.driver.execute_async_script(script, json.dumps(text), pasted)
+    def put(self, typed, options=None, **expected):
+        shown = self.call("put", typed, *([] if options is None else [options]))
+        got = {name: shown[name] for name in expected}
+        self.same(f"{typed[:40]!r} {options or ''}", expected, got)
 
     def wait(self):
         """As long as the page waits after a change before it announces the answer and writes the
         link.
         """
-        self.driver.execute_async_script("asked.runPutOff(...arguments)")
+        self.wait_for("runPutOff")
 
     def until(self, holds):
         with contextlib.suppress(TimeoutException):
             WebDriverWait(self.driver, 10).until(lambda _: holds())
 
-    def follow(self, fragment):
-        self.driver.execute_async_script("asked.follow(...arguments)", fragment)
-
-    def type(self, text):
-        self.find("text").clear()
-        self.find("text").send_keys(text)
-
-    def choose(self, *names):
-        Select(self.find("default_unit")).select_by_value(default_unit_in(names))
-        for name in OPTIONS:
-            box = self.find(name)
-            if box.is_enabled() and box.is_selected() != (name in names):
-                box.click()
-
-    def chosen(self):
-        names = [name for name in OPTIONS if self.is_chosen(name)]
-        unit = self.find("default_unit").get_property("value")
-        words = {"s": [], "refused": ["require_unit"]}
-        return names + words.get(unit, [f"default_unit={unit}"])
-
-    def is_chosen(self, name):
-        return self.find(name).is_enabled() and self.find(name).is_selected()
+    def find(self, selector):
+        return self.driver.find_element("css selector", selector)
 
     def click(self, selector):
-        self.driver.find_element(By.CSS_SELECTOR, selector).click()
-
-    def answer_line(self, expression):
-        """JSON can also hold lone surrogates."""
-        return json.loads(self.run(f"return JSON.stringify({expression})"))
-
-    def words(self, selector):
-        return self.answer_line(f"asked.words({json.dumps(selector)})")
-
-    def text(self):
-        return self.answer_line("document.getElementById('text').value")
-
-    def marked_part(self):
-        return next(iter(self.words("mark")), None)
+        self.find(selector).click()
 
     def key(self, *keys):
         self.driver.switch_to.active_element.send_keys(*keys)
-        return self.run(
-            "const e = document.activeElement; return e.id || e.textContent || e.className"
-        )
+        return self.ask("document.activeElement.id || document.activeElement.textContent")
 
 
-def default_unit_in(names):
-    if "require_unit" in names:
-        return "refused"
-    return next((name.split("=")[1] for name in names if "=" in name), "s")
+def line_of(text, options=""):
+    """`more_names` changes no line of a text that is refused without it."""
+    names = options.replace("default_unit=refused", "require_unit").split()
+    choice = reference_parser.as_packages_mean(reference_parser.Choice.named(names))
+    line = reference_parser.one_line(text, choice.answer(text))
+    parts = re.split(r'"((?:[^"\\]|\\.)*)"', f"{line[0].upper()}{line[1:]}.")
+    parts[1::2] = [re.sub(r'\\(["\\])', r"\1", part) for part in parts[1::2]]
+    return "".join(parts)
 
 
-def answer_to(text, *names):
-    options = reference_parser.Options(**{name: True for name in names if name in OPTIONS})
-    return reference_parser.answer_of(text, options)
-
-
-def line_of(text, *options):
-    line = reference_parser.one_line(text, answer_to(text, *options))
-    return re.sub(r'"((?:[^"\\]|\\.)*)"', r"\1", f"{line[0].upper()}{line[1:]}.")
-
-
-def one_of_each(rows, kind):
-    return list({kind(row): row for row in reversed(rows)}.values())
-
-
-def try_values(page):
+def try_read(page):
     page.open()
-    for text, options, *expected in TEXTS["values"][:1]:
-        page.choose(*options)
-        page.type(text)
-        got = [
-            page.text_of(name)
-            for name in ("printed", "nanoseconds", "milliseconds", "seconds", "iso")
-        ]
-        page.same(f"{text} under {options}", expected, got)
-        page.same(f"the fault of {text}", None, page.text_of("sentence"))
-    for text, options, notes in one_of_each(TEXTS["notes"], lambda row: len(row[2])):
-        page.choose(*options)
-        page.put(text)
-        page.same(f"the notes on {text}", notes, page.words("#notes p"))
+    for text, options, words in READ:
+        printed, *numbers = words.rsplit(" ", 4)
+        numbers = dict(zip(("nanoseconds", "milliseconds", "seconds", "iso"), numbers))
+        page.put(text, options, printed=printed, marks=[], **numbers)
+    for text, options, notes, offer in NOTES:
+        page.put(text, options, said=notes, offer=offer)
 
 
-def kind_of_fault(row):
-    text, options, marked, *sentence = row
-    return marked in (None, "\u00a0") and marked, bool(options), bool(sentence), len(text) > 40
-
-
-def try_faults(page):
+def try_refused(page):
     page.open()
-    for text, options, marked, *sentence in one_of_each(TEXTS["faults"], kind_of_fault):
-        page.choose(*options)
-        page.put(text)
-        expected = [marked, *(sentence or [line_of(text, *options)])]
-        page.same(
-            f"{text!r} under {options}", expected, [page.marked_part(), page.text_of("sentence")]
-        )
-        page.same(f"the value of {text!r}", None, page.text_of("printed"))
-    page.choose()
-    page.put("1.5h")
-    page.same("the library's line, folded away", None, page.text_of("line"))
-    page.click("summary")
-    page.same("the library's line, unfolded", line_of("1.5h"), page.text_of("line"))
-    page.put("5 mins")
-    page.same("no second line", None, page.text_of("line"))
-    page.put('1s "')
-    page.same("a quotation mark that is quoted", [r"\""], page.words("#sentence code"))
-    for text, hints in (("", 1), ("  ", 0)):
-        page.put(text)
-        page.same(
-            f"no library and a hint for {text!r}",
-            [None, hints],
-            [page.text_of("library"), len(page.words(".hint"))],
-        )
-    page.put("1\u200bh")
-    page.same("a mark of no width", 1, len(page.words("mark.thin")))
-    page.put("1h -x" + "😀" * 1_500)
-    page.same("a part of a long text", ["1h -x" + "😀" * 20], page.words("#excerpt"))
+    page.put("", said=["Type a duration, such as 1h 30m."], printed=None, marks=[], offer=[])
+    for text, options, marks, offer in REFUSED:
+        said = [line_of(text, options)]
+        page.put(text, options, said=said, marks=marks, offer=offer, printed=None, iso=None)
+    page.put("1\u200bh", "")
+    page.same("a mark of no width", ["\u200b"], page.call("words", "mark.thin"))
+    page.put("1m \ud800", said=["Not UTF-8: a lone surrogate at index 3."], marks=["\ud800"])
+    page.put("1m" + " " * 2_000 + "x", said=[line_of("1m" + " " * 2_000 + "x")], marks=[])
 
 
-def try_lines(page):
-    page.open("#text=1:30")
-    for text, marks, expected in TEXTS["lines"]:
-        page.put(text)
-        page.same(
-            f"the lines {text!r}",
-            [marks, expected],
-            [page.words("mark"), page.words("#lines :is(th, td > *)")],
-        )
-        page.same(
-            f"of {text!r} as a whole",
-            [None] * 4,
-            [page.text_of(name) for name in ("printed", "sentence", "iso", "suggestions")],
-        )
-    page.put("30s\n 5 mins\n1h")
-    page.click("#lines button")
-    page.same("a line that is mended", "30s\n5 min\n1h", page.text())
-    page.same("how many are read", ["3 of 3 lines are read."], page.words("#lines caption"))
-    page.put("90s\n" * 200)
-    page.same("200 lines", ["90s", "1min 30s"] * 200, page.words("#lines :is(th, td > *)"))
-    page.put("90s\n" * 10_000 + "x")
-    shown = ["x", line_of("x"), *["90s", "1min 30s"] * 199]
-    page.same(
-        "10,001 lines",
-        [shown, None],
-        [page.words("#lines :is(th, td > *)"), page.text_of("printed")],
-    )
-    told = "10,000 of 10,001 lines are read; 200 are shown, the refused ones first."
-    page.same("how many of 10,001 lines are read", [told], page.words("#lines caption"))
-    page.put("1h 30m\n")
-    page.same("one line", [None, "1h 30min"], [page.text_of("lines"), page.text_of("printed")])
-
-
-def try_switching(page):
+def try_offers(page):
     page.open()
-    for text, options, words, meaning, remain in one_of_each(
-        TEXTS["switched"], lambda row: (row[1] == row[4], *row[4])
+    for text, options, becomes, remain in (
+        ("5 mins 30", "", "5 mins 30s", "more_names s"),
+        ("1分", "default_unit=ms", "1分", "cn_unit ms"),
+        ("1H+2m", "no_calc lowercase", "1H+2m", "s"),
+        ("1h 30", "default_unit=refused", "1h 30m", "refused"),
     ):
-        page.choose(*options)
-        page.put(text)
-        name = page.answer_line("document.querySelector('#offered button').ariaLabel")
-        page.same(
-            f"{words} for {text}",
-            [words, meaning, f"{words}: {meaning}"],
-            [*page.words("#offered button > *"), name],
-        )
+        page.put(text, options)
         page.click("#offered button")
-        page.same(f"pressed: {words} for {text}", [words, remain], [page.text(), page.chosen()])
-    page.choose()
-    page.type("1h, 30m")
-    page.click("#offered button")
+        page.shows(f"after the offer for {text}", text=becomes, options=remain, said=[], offer=[])
     # The keys that WebKit's driver presses undo nothing.
-    page.run("document.execCommand('undo')")
-    page.same("undone", "1h, 30m", page.text())
-    page.run("document.execCommand('redo')")
-    page.same("done again", ["1h 30m", "1h 30min"], [page.text(), page.text_of("printed")])
-    page.click("#examples button")
-    page.click("#examples button")
-    page.run("document.execCommand('undo')")
-    page.same("an example undone", "1h 30m", page.text())
+    page.ask("document.execCommand('undo')")
+    page.shows("undone", text="1h 30")
+    page.ask("document.execCommand('redo')")
+    page.shows("done again", text="1h 30m", printed="1h 30min")
 
 
-def try_examples(page):
+def try_lists(page):
     page.open()
-    examples = page.driver.find_elements(By.CSS_SELECTOR, "#examples button")
-    found = []
-    for button in examples:
-        page.run("arguments[0].click()", button)
-        page.same(f"the text of the example {button.text}", button.text, page.text())
-        found.append((page.text_of("printed") is not None, len(page.words("#offered button")) > 0))
-    page.same(
-        "what is said of examples",
-        {(True, False), (True, True), (False, True), (False, False)},
-        set(found),
-    )
-    page.same("one row", 1, len({button.rect["y"] for button in examples}))
-
-
-def try_units(page):
-    page.open()
-    units = [
-        (name, unit.length)
-        for unit in reference_parser.UNITS
-        for name in f"{unit.names} {unit.chinese}".split()
+    for place, text in enumerate(page.call("words", "#examples button")):
+        page.ask("document.querySelectorAll('#examples button')[words[0]].click()", place)
+        page.shows(f"the example {text}", text=text)
+    rows = zip(reference_parser.UNITS, units.more())
+    cells = [
+        word for unit, more in rows for word in (unit.names, " ".join(more.names), unit.chinese)
     ]
-    pressed = [[name, f"1{name}", f"{length:,}"] for name, length in units]
-    page.same("the units", pressed, page.answer_line("asked.pressedUnits()"))
-    page.same("the option of the Chinese names", True, page.find("cn_unit").is_selected())
-    page.run("document.querySelector('#units button').focus()")
-    keys = (
-        Keys.ARROW_RIGHT,
-        Keys.ARROW_LEFT,
-        Keys.ARROW_UP,
-        Keys.ARROW_DOWN,
-        Keys.ARROW_RIGHT,
-        Keys.HOME,
-        Keys.END,
-    )
-    page.same(
-        "where the arrow keys lead to",
-        ["year", "y", "纳秒", "y", "year", "y", "纳秒"],
-        [page.key(key) for key in keys],
-    )
-    script = (
-        "const pressed = new KeyboardEvent('keydown', { key: 'End', bubbles: true, cancelable: true });"
-        "document.querySelector('#units button').dispatchEvent(pressed); return pressed.defaultPrevented"
-    )
-    page.same("whether the key scrolls nothing", True, page.run(script))
-    page.same("the stop of the tab key", ["纳秒"], page.words("#units [tabindex='0']"))
-    for text, becomes in (
-        ("1h 30", "1h 30min"),
-        ("1h", "1h 1min"),
-        ("1h ", "1h 1min"),
-        ("1h, ", "1min"),
-        ("1m*", "1m* 1min"),
-    ):
-        page.put(text)
-        page.driver.find_element(By.XPATH, "//*[@id='units']//button[.='min']").click()
-        page.same(f"min added to {text}", becomes, page.text())
-
-
-def no_calc_box(page):
-    box = page.find("no_calc")
-    return [box.is_selected(), box.is_enabled()]
+    page.same("the units", cells, page.call("words", "#units td"))
+    for length, place in zip(page.call("words", "#units th"), range(0, len(cells), 3)):
+        for name in " ".join(cells[place : place + 3]).split():
+            lasts = page.call("put", f"1{name}", "more_names cn_unit")["nanoseconds"]
+            page.put(length, nanoseconds=lasts)
 
 
 def try_printing(page):
     """90,061 s are 1 day 1 hour 1 minute 1 second."""
-    rows = [
-        ({}, "1d 1h 1min 1s 1ns", "1 d, 1 h, 1 min, 1 s, 1 ns"),
-        ({"style": "compact"}, "1d1h1min1s1ns", "1 d, 1 h, 1 min, 1 s, 1 ns"),
-        ({"style": "long", "parts": "2"}, "1 day 1 hour", "1 d, 1 h, 61,000,000,001 ns left out"),
-        ({"largest": "h", "smallest": "min"}, "25h 1min", "25 h, 1 min, 1,000,000,001 ns left out"),
-        (
-            {"parts": "3", "units": "d,min,ns"},
-            "1d 61min 1000000001ns",
-            "1 d, 61 min, 1,000,000,001 ns",
-        ),
-        ({"smallest": "µs"}, "1d 1h 1min 1s", "1 d, 1 h, 1 min, 1 s, 1 ns left out"),
-    ]
-    for chosen, printed, counts in rows:
-        words = "".join(
-            f"&{name}={urllib.parse.quote(value, safe=',')}" for name, value in chosen.items()
-        )
-        page.open("#text=90061s%201ns" + words)
-        got = [page.text_of(name) for name in ("printed", "counts")]
-        page.same(f"printed by {chosen}", [printed, counts], got)
-        page.type("90061s 1ns")
+    for link, printed in (
+        ("", "1d 1h 1min 1s 1ns"),
+        ("&style=compact", "1d1h1min1s1ns"),
+        ("&style=long&parts=2", "1 day 1 hour"),
+        ("&units=h,min", "25h 1min"),
+        ("&parts=2&units=d,min,ns", "1d 61min"),
+        ("&units=d,%C2%B5s", "1d 3661000000µs"),
+    ):
+        page.open("#text=90061s%201ns" + link)
+        page.put("90061s 1ns", printed=printed)
         page.wait()
-        page.same(
-            f"the link of {chosen}", "#text=90061s%201ns" + words, page.run("return location.hash")
-        )
-    page.open("#text=1h&largest=s&smallest=d")
-    page.same("limits that contradict each other", "3600s", page.text_of("printed"))
-    page.same(
-        "what is told of the second limit",
-        "Not understood in the link: smallest=d",
-        page.text_of("link-note"),
-    )
-    page.same("the most parts", "all", page.words("#parts option")[-1])
-    for what, word in [
-        ("what is told of a style that isn't", "style=wide"),
-        ("what is told of no unit as the default", "default_unit=refused"),
-    ]:
-        page.open(f"#text=90&{word}")
-        page.same(what, f"Not understood in the link: {word}", page.text_of("link-note"))
-        page.same(f"printed beside {word}", "1min 30s", page.text_of("printed"))
-    checked = "#printed_units label:has(:checked)"
-    for first, second in [
-        ("text=2h", "text=3h"),
-        ("require_unit", "default_unit=ms"),
-        ("default_unit=ms", "require_unit"),
-        ("lowercase", "lowercase"),
-        ("units=h", "units=d,h"),
-    ]:
-        page.open(f"#{first}")
-        wanted = page.text(), page.chosen(), page.words(checked)
-        page.open(f"#{first}&{second}")
-        got = page.text(), page.chosen(), page.words(checked)
-        page.same(f"{second} after {first}", wanted, got)
-        told = f"Not understood in the link: {second}"
-        page.same(f"what is told of {second} after {first}", told, page.text_of("link-note"))
-
-
-def try_units_printed(page):
-    def same(what, printed, units):
-        checked = page.words("#printed_units label:has(:checked)")
-        page.same(what, [printed, units.split()], [page.text_of("printed"), checked])
-
-    def press(*units):
-        for unit in units:
-            page.click(f"#printed_units [value={unit}]")
-
+        page.shows("the link", link="#text=90061s%201ns" + link)
     page.open("#text=180d&units=y,mon,d")
-    same("units of the link", "6mon", "y mon d")
-    notes = ["That is 180d: a month has 30 days."]
-    page.same("the days of what is printed", notes, page.words("#notes p"))
-    press("mon", "y")
-    same("the last unit", "180d", "d")
-    press("d")
-    same("the last unit, which stays", "180d", "d")
-    press("q")
-    same("a longer unit", "1q 89d", "q d")
-    press("d", "mon")
-    same("two units that follow one another", "1q 2mon", "q mon")
-    page.wait()
-    link = "#text=180d&largest=q&smallest=mon"
-    page.same("their link", link, page.run("return location.hash"))
-    page.open("#text=1h&units=d,h&largest=h")
-    same("units and a limit", "1h", "h")
-    page.open("#text=1h&units=d,foo")
-    same("a unit that isn't", "1h", "y q mon w d h min s ms µs ns")
-    page.open("#text=1h")
-    same("no units in the link", "1h", "y q mon w d h min s ms µs ns")
+    said = ["That is 180d: a month has 30 days."]
+    page.shows("units of the link", printed="6mon", printing="short 11 y mon d", said=said)
+    for press, printed, chosen in (
+        ("mon y", "180d", "d"),
+        ("d", "180d", "d"),
+        ("q", "1q 89d", "q d"),
+        ("d mon", "1q 2mon", "q mon"),
+    ):
+        for unit in press.split():
+            page.click(f"#printed_units [value={unit}]")
+        page.shows(f"after {press}", printed=printed, printing=f"short 11 {chosen}")
+    for choice in "#style :last-child", "#parts :first-child":
+        page.click(choice)
+    page.shows("style and parts", printed="1 quarter", printing="long 1 q mon")
 
 
 def try_copying(page):
@@ -459,349 +311,225 @@ def try_copying(page):
         "milliseconds": "5400001",
         "seconds": "5400.001",
         "iso": "PT1H30M0.001S",
-        "counts": "1 h, 30 min, 1000000 ns left out",
         "link-note": page.address + "#text=1h%2030m%201ms&parts=2",
     }
-    page.same("copy buttons", 7, len(page.driver.find_elements(By.CSS_SELECTOR, "[data-copies]")))
+    names = "[...document.querySelectorAll('[data-copies]')].map((one) => one.dataset.copies)"
+    page.same("copy buttons", list(copied), page.ask(names))
     for name, expected in copied.items():
         page.click(f"[data-copies={name}]")
-        page.until(lambda: page.text_of("copied") == f"Copied: {expected.splitlines()[0]}")
+        page.until(lambda: page.call("shown")["copied"] == f"Copied: {expected}")
         got = page.driver.execute_async_script("navigator.clipboard.readText().then(arguments[0])")
-        page.same(
-            f"copied: {name}",
-            [expected, f"Copied: {expected.splitlines()[0]}"],
-            [got, page.text_of("copied")],
-        )
-    page.run("Object.defineProperty(navigator, 'clipboard', { value: undefined })")
+        page.same(f"copied: {name}", expected, got)
+    page.ask("Object.defineProperty(navigator, 'clipboard', { value: undefined }) && null")
     for name, expected in copied.items():
         page.click(f"[data-copies={name}]")
-        page.same(
-            f"selected: {name}",
-            [expected, "Selected, not copied: press Ctrl+C, or ⌘C."],
-            [page.run("return String(getSelection())"), page.text_of("copied")],
-        )
+        page.same(f"selected: {name}", expected, page.ask("String(getSelection())"))
+        page.shows(f"told of {name}", copied="Selected, not copied: press Ctrl+C, or ⌘C.")
 
 
-def try_link(page):
+def try_links(page):
     page.open()
-    page.choose("no_calc", "cn_unit")
-    page.type("1分 30&no=5%#")
+    page.shows("without a link", text="90m + 45s", printed="1h 30min 45s", **PLAIN)
+    link = "#text=" + quote("1分 30&no=5%#", safe="") + "&no_calc&cn_unit&more_names"
+    page.put("1分 30&no=5%#", "no_calc cn_unit more_names")
     page.wait()
-    link = page.run("return location.hash")
-    page.same(
-        "the link",
-        "#text=" + urllib.parse.quote("1分 30&no=5%#", safe="") + "&no_calc&cn_unit",
-        link,
-    )
+    page.shows("the link", link=link)
     page.open(link)
-    page.same(
-        "what the link gives",
-        ["1分 30&no=5%#", ["no_calc", "cn_unit"]],
-        [page.text(), page.chosen()],
-    )
-    for fragment, text in [
-        ("#text=1m+2", "1m+2"),
-        ("#text=1m=2", "1m=2"),
-        ("#text=%E0%A4%A", ""),
-        ("#", "90m + 45s"),
-        ("#other=1", ""),
-    ]:
-        page.open(fragment)
-        page.same(f"the text of {fragment}", text, page.text())
-    page.same(
-        "what is told of #other=1", "Not understood in the link: other=1", page.text_of("link-note")
-    )
-    page.put("1m \ud800")
-    page.wait()
-    said = "This text is not UTF-8, so the address can't hold it."
-    page.same(
-        "what is told of a lone surrogate",
-        [said, None],
-        [page.text_of("link-note"), page.text_of("share")],
-    )
-    page.put("1s " * 667)
-    page.wait()
-    page.same(
-        "what is told of 2,001 characters",
-        "This text is too long for the address.",
-        page.text_of("link-note"),
-    )
-    for names in (["require_unit"], ["lowercase", "default_unit=ms"], ["no_calc"]):
-        page.open("#text=1h&" + "&".join(names))
-        page.type("1h")
+    page.shows("from it", text="1分 30&no=5%#", options="no_calc cn_unit more_names s")
+    for words in ("lowercase&default_unit=ms", "default_unit=refused", "more_names"):
+        page.open("#text=1h&" + words)
+        page.put("1h")
         page.wait()
-        link = page.run("return location.hash")
-        page.same(
-            f"the link of {names}", ["#text=1h&" + "&".join(names), names], [link, page.chosen()]
-        )
-    page.open("#text=1h&no_calc&style=long")
-    page.follow("cn_unit")
-    page.same(
-        "another link",
-        ["", ["cn_unit"], "short"],
-        [page.text(), page.chosen(), page.find("style").get_property("value")],
-    )
+        page.shows(f"the link of {words}", link="#text=1h&" + words)
+    page.open("#text=1m+2=")
+    page.shows("signs in the link", text="1m+2=")
+    page.open("#text=1h&no_calc&style=long&units=h")
+    page.wait_for("follow", "cn_unit")
+    page.shows("another link", text="", **{**PLAIN, "options": "cn_unit s"})
+    page.open("#other=1")
+    note = "Not understood in the link: other=1"
+    page.shows("an unknown link", text="", note=note, link="#other=1")
+    for text in ("1m \ud800", "1s " * 667):
+        page.put(text)
+        page.wait()
+        page.shows("no link", note="The address can't hold this text.", share=None)
     page.open("#text=1s&default_unit=ms")
-    page.choose()
-    page.same("no_calc without a default unit", [False, True], no_calc_box(page))
-    page.open("#default_unit=ms")
-    for link, wanted in ("default_unit=h", [True, False]), ("no_calc", [True, True]):
-        page.follow(link)
-        page.same(f"no_calc after a link with {link}", wanted, no_calc_box(page))
+    box = "[no_calc.checked, no_calc.disabled]"
+    page.same("no_calc with a default unit", [True, True], page.ask(box))
+    page.put("1s", "")
+    page.same("no_calc without a default unit", [False, False], page.ask(box))
+    page.put("1s", "default_unit=ms")
+    page.wait_for("follow", "no_calc")
+    page.same("no_calc after another link", [True, False], page.ask(box))
 
 
 def try_hostile(page):
     page.open()
-    count = (
-        "return ['img', 'svg', 'script', 'b'].map((name) => document.querySelectorAll(name).length)"
-    )
-    before = page.run(count)
-    for text in TEXTS["hostile"]:
-        page.put(text)
-        page.same(f"refused: {text!r}", True, page.text_of("sentence") is not None)
-        page.same(f"the elements under {text!r}", before, page.run(count))
-        if "\ud83d" not in text:
-            page.open("#text=" + urllib.parse.quote(text, safe=""))
-            page.same(f"from the link: {text!r}", [text, before], [page.text(), page.run(count)])
-            page.open("#" + text)
-            page.same(f"as the link: {text!r}", before, page.run(count))
-    for link in TEXTS["hostile links"]:
-        page.open(link)
-        page.same(f"the elements after {link}", before, page.run(count))
-        page.same(
-            f"what {link} chooses to print",
-            ["short", *[str(len(reference_parser.UNITS))] * 2],
-            page.answer_line(
-                "[document.getElementById('style').value, document.getElementById('parts').value, "
-                "String(document.querySelectorAll('#printed_units :checked').length)]"
-            ),
-        )
-        told = page.answer_line("document.getElementById('link-note').textContent")
-        page.same(
-            f"{link} is not understood", True, told.startswith("Not understood in the link: ")
-        )
-    page.same("what markup has set", None, page.run("return window.hacked ?? null"))
+    elements = page.call("shown")["elements"]
+    for text in HOSTILE:
+        page.put(text, text=text, printed=None, elements=elements)
+        page.open("#text=" + quote(text, safe=""))
+        page.shows(f"from the link: {text!r}", text=text, elements=elements)
+    for link in [*HOSTILE, *HOSTILE_LINKS]:
+        page.open("#" + link)
+        page.shows(f"after {link}", elements=elements, **PLAIN)
+        told = page.call("shown")["note"].startswith("Not understood in the link: ")
+        page.same(f"{link} is not understood", True, told)
+    page.same("what markup has set", None, page.ask("window.hacked"))
     for text, printed in LONG:
         before = page.browser.worked()
-        page.put(text, pasted=True)
+        shown = page.call("paste", text)
         took = page.browser.worked() - before
-        page.same(f"{text[:9]}.., long", printed, page.text_of("printed"))
-        if page.name == "Chromium":
-            told = f"{text[:9]}.. takes the processor 4 s and not {took:.1f}"
-            page.same(told, True, 0 < took < 4)
-        shown = page.run("return document.body.innerText.length")
+        page.shows(f"{text[:9]}.., long", printed=printed)
+        page.same(f"{text[:9]}.. takes 4 s and not {took:.1f}", True, took < 4)
         page.same(f"what is shown of {text[:9]}.. is short and not {shown}", True, shown < 5_000)
-        page.same(
-            f"whether {text[:9]}.. has a mark", printed is None, page.marked_part() is not None
-        )
 
 
 def try_keyboard(page):
     page.open()
     page.same("the first focus", "text", page.key("1:30"))
-    page.same("what is typed first stands alone", "1:30", page.text())
-    wanted = page.answer_line(
-        "[...document.querySelectorAll('button, input, select, textarea, summary, [tabindex]')]"
-        ".filter((e) => e.checkVisibility() && e.tabIndex === 0).map((e) => e.id || e.textContent || e.className)"
-    )
-    wanted = wanted[wanted.index("text") + 1 :]
-    page.same("reached by the tab key", wanted, [page.key(Keys.TAB) for _ in wanted])
-    page.click("#text")
-    names = [*OPTIONS, "default_unit", "1h 30m1 hour 30 minutes", "1m 30s1 minute 30 seconds"]
-    page.same("what follows the text", names, [page.key(Keys.TAB) for _ in names])
-    page.same("after the enter key", "text", page.key(Keys.ENTER))
-    page.same("taken by the keyboard", "1m 30s", page.text())
-    page.key(" 5")
-    page.same("typed after it", "1m 30s 5", page.text())
-    page.key(Keys.TAB, Keys.SPACE)
-    page.same("switched by the keyboard", True, page.find("no_calc").is_selected())
+    page.shows("what is typed first stands alone", text="1:30")
     page.open("#text=1h")
-    page.key(" 5")
-    page.same("typed after a link's text", "1h 5", page.text())
+    page.key(" 30")
+    stops = page.ask(
+        "[...document.querySelectorAll('button, input, select, textarea, [tabindex]')]"
+        ".filter((e) => e.checkVisibility()).map((e) => e.id || e.textContent)"
+    )
+    stops = stops[stops.index("text") + 1 :]
+    offer = stops.index("1h 30m1 hour 30 minutes")
+    page.same("reached by the tab key", stops, [page.key(Keys.TAB) for _ in stops])
+    page.click("#text")
+    for _ in stops[: offer + 1]:
+        page.key(Keys.TAB)
+    page.same("after the enter key", "text", page.key(Keys.ENTER))
+    page.shows("taken by the keyboard", text="1h 30m")
+    page.key(" 5", Keys.TAB, Keys.SPACE)
+    page.shows("typed and switched by the keyboard", text="1h 30m 5", options="no_calc s")
 
 
 def try_readers(page):
     page.open()
-    for field in page.driver.find_elements(
-        By.CSS_SELECTOR, "input, select, textarea, pre, button:not(#units button)"
-    ):
-        if field.is_displayed():
-            page.same(
-                f"a name for {field.get_attribute('outerHTML')[:60]}",
-                True,
-                bool(field.accessible_name),
-            )
-    page.same("live regions", 3, len(page.words("[role=status], [role=alert], [aria-live]")))
-    page.run(
-        "const said = document.getElementById('announcement'); window.told = [];"
-        "new MutationObserver(() => told.push(said.textContent)).observe(said, { childList: true })"
+    page.same("live regions", 3, page.ask("document.querySelectorAll('[role=status]').length"))
+    page.ask(
+        "new MutationObserver(() => (window.told ??= []).push(announcement.textContent))"
+        ".observe(announcement, { childList: true })"
     )
     for text in ("1", "1h", "1h ", "1h 3", "1h 30", "1h 30m"):
         page.put(text)
     page.wait()
-    page.same("told", ["1h 30min."], page.answer_line("told"))
-    told = {
-        "1h\n5 mins\n2h": "2 of 3 lines are read.",
-        "1h 30": "1h 30s. 30 has no unit: seconds. Try instead 1h 30m: 1 hour 30 minutes.",
-        "5 mins": f"{line_of('5 mins')} Try instead 5 min: 5 minutes.",
-        "1m+": line_of("1m+"),
-    }
-    for text, expected in told.items():
+    page.same("told", ["1h 30min."], page.ask("told"))
+    note = "30 has no unit: seconds."
+    names = "Try instead 5 mins: with more names, 5 minutes."
+    described = "['aria-invalid', 'aria-describedby'].map((name) => text.getAttribute(name))"
+    for text, told, invalid in (
+        ("1h 30", f"1h 30s. {note} Try instead 1h 30m: 1 hour 30 minutes.", "false"),
+        ("5 mins", f"{line_of('5 mins')} {names}", "true"),
+        ("1m+", line_of("1m+"), "true"),
+        ("", "Type a duration, such as 1h 30m.", "false"),
+    ):
         page.put(text)
         page.wait()
-        page.same(f"told of {text}", expected, page.answer_line("told.at(-1)"))
-    described = "['aria-invalid', 'aria-describedby'].map((name) => document.getElementById('text').getAttribute(name))"
-    page.same("the input with a fault", ["true", "sentence"], page.answer_line(described))
-    page.put("1m+1")
-    page.same("the input without a fault", ["false", None], page.answer_line(described))
-    page.same("what remains of the fault", [""], page.words("#sentence"))
-    page.put("")
-    page.same("the input without a text", ["false", "sentence"], page.answer_line(described))
+        page.same(f"told of {text}", told, page.ask("told.at(-1)"))
+        page.same(f"the input of {text}", [invalid, "said"], page.ask(described))
 
 
 def emulate(page, scheme, width, height=1100, forced=False):
     page.browser.emulate(scheme, width, height, forced)
-    page.until(lambda: page.run("return [innerWidth, innerHeight]") == [width, height])
+    page.until(lambda: page.ask("[innerWidth, innerHeight]") == [width, height])
 
 
 def try_rules(page):
-    for text in ("1:30", "1h\n1h 30\n5 mins", "3m + 13s + 29ms"):
-        page.open("#cn_unit&text=" + urllib.parse.quote(text))
-        for what, broken in page.answer_line("asked.brokenRules()").items():
-            page.same(f"{what} under {text}", [], broken)
-    for button in page.driver.find_elements(By.CSS_SELECTOR, "#units button"):
-        language = "en" if button.text.isascii() or "µ" in button.text else "zh"
-        got = page.run("return arguments[0].closest('[lang]').lang", button)
-        page.same(f"the language of {button.text}", language, got)
-    page.choose()
-    page.put("1分")
-    page.same("the language of a sentence", ["分"], page.words("#sentence :lang(zh)"))
-    page.same("one first heading", 1, len(page.driver.find_elements(By.TAG_NAME, "h1")))
-    version = subprocess.run(
-        [ROOT / "tools/version"], stdout=subprocess.PIPE, check=True, text=True
-    ).stdout.strip()
-    page.same("the library's version", version, page.text_of("version"))
-    page.same(
-        "an icon",
-        True,
-        page.run("return document.querySelector('link[rel=icon]').href.length > 100"),
-    )
+    for text in ("5 mins", "1:30", "3m + 13s + 29ms"):
+        page.open("#cn_unit&text=" + quote(text))
+        page.same(f"broken rules under {text}", [], page.call("brokenRules"))
+    page.put("1分", "")
+    page.same("Chinese in the sentence", ["分"], page.call("words", "#said :lang(zh)"))
+    page.same("Chinese units", 10, len(page.call("words", "#units :lang(zh)")))
+    page.same("one first heading", 1, len(page.call("words", "h1")))
+    version = subprocess.check_output([ROOT / "tools/version"], text=True).strip()
+    page.same("the library's version", [version], page.call("words", "#version"))
+    drawn = "document.querySelector('link[rel=icon]').href.length > 100"
+    page.same("an icon", True, page.ask(drawn))
+    drawn = "document.querySelector('img').naturalWidth > 300"
+    page.same("the diagram", True, page.ask(drawn))
 
 
-def sized_place(page):
-    for width in (320, 900):
-        emulate(page, "light", width)
-        page.open()
-        places = page.answer_line(f"asked.places({json.dumps(TEXTS['typed'])})")
-        page.same(f"the places of the answer on {width} pixels", 1, len(set(places)))
-
-
-def sized_phone(page):
-    emulate(page, "light", 375, 667)
-    for text in ("3m + 13s + 29ms", "1h 30", "1:30", "5 mins", "5m, 10m"):
-        page.open("#text=" + urllib.parse.quote(text))
-        lowest = page.answer_line("asked.lowest()")
-        page.same(f"the answer to {text} at {lowest} pixels", True, lowest <= FREE)
-
-
-def sized_looks(page):
-    papers = {}
+def chromium_looks(page):
+    papers = set()
     # On 640 pixels, a page that is enlarged to 200 % has as much room as on 320.
-    for scheme in SCHEMES:
+    for scheme in ("light", "dark"):
         for width in (320, 900):
-            for text in (
-                "3m + 13s + 29ms",
-                "1:30",
-                "1h\n1h 30\n5 mins",
-                "1m " + "9" * 200,
-                "x" * 5_000,
-            ):
-                emulate(page, scheme, width)
-                page.open("#cn_unit&text=" + text)
+            emulate(page, scheme, width)
+            page.open("#cn_unit")
+            places = set()
+            for text in ("3m + 13s", "5 mins", "1:30", "1h 30", "1m " + "9" * 200, "x" * 1_900):
                 page.put(text)
                 what = f"{text[:9]} in {scheme} on {width} pixels"
-                page.same(
-                    f"width of {what}",
-                    width,
-                    page.run("return document.documentElement.scrollWidth"),
-                )
-                page.same(f"pale parts of {what}", [], page.answer_line("asked.pale()"))
-        papers[scheme] = page.run("return getComputedStyle(document.body).backgroundColor")
-    page.same("two papers", 2, len(set(papers.values())))
+                wide = page.ask("document.documentElement.scrollWidth")
+                page.same(f"width of {what}", width, wide)
+                page.same(f"pale parts of {what}", [], page.call("pale"))
+                if len(text) < 20:
+                    places.add(page.call("heights")[0])
+            page.same(f"places of the answer on {width} pixels", 1, len(places))
+            papers.add(page.ask("getComputedStyle(document.body).backgroundColor"))
+    page.same("papers", 2, len(papers))
+    emulate(page, "light", 375, 667)
+    for text in ("3m + 13s + 29ms", "1h 30", "1:30", "5 mins", "5m, 10m"):
+        page.open("#text=" + quote(text))
+        _, lowest = page.call("heights")
+        page.same(f"the answer to {text} at {lowest} pixels", True, lowest <= FREE)
     emulate(page, "dark", 900, forced=True)
     page.open("#text=1%3A30")
     lined = (
         "['mark', '.marked'].map((e) => getComputedStyle(document.querySelector(e)).outlineStyle)"
     )
-    page.same("a mark and a focus in forced colours", ["solid", "solid"], page.answer_line(lined))
-    page.same(
-        "the diagram is drawn",
-        True,
-        page.run("return document.querySelector('img').naturalWidth > 300"),
-    )
-
-
-def shown_in_picture(page, scheme):
-    emulate(page, scheme, PICTURE_WIDTH)
-    page.open("#text=1%3A30")
-    page.run("document.activeElement.blur()")
-    return (
-        page.run("return document.getElementById('answer').getBoundingClientRect().bottom")
-        + PICTURE_MARGIN
-    )
+    page.same("a mark and a focus in forced colours", ["solid", "solid"], page.ask(lined))
 
 
 def take_pictures(page):
-    for scheme in SCHEMES:
-        clip = {
-            "x": 0,
-            "y": 0,
-            "width": PICTURE_WIDTH,
-            "height": shown_in_picture(page, scheme),
-            "scale": 2,
-        }
+    for scheme in ("light", "dark"):
+        emulate(page, scheme, 640)
+        page.open("#text=5%20mins")
+        page.ask("document.activeElement.blur()")
+        bottom = page.ask("document.getElementById('answer').getBoundingClientRect().bottom")
+        clip = {"x": 0, "y": 0, "width": 640, "height": bottom + 12, "scale": 2}
         words = {"format": "webp", "quality": 50, "clip": clip}
         taken = page.driver.execute_cdp_cmd("Page.captureScreenshot", words)
-        (PICTURES / f"page-{scheme}.webp").write_bytes(base64.b64decode(taken["data"]))
+        picture = ROOT / f"docs/images/page-{scheme}.webp"
+        picture.write_bytes(base64.b64decode(taken["data"]))
 
 
 def chromium_requests(page):
     """This comes after the tests whose requests it looks at."""
-    messages = [
-        json.loads(entry["message"])["message"] for entry in page.driver.get_log("performance")
-    ]
-    asked = [
-        each["params"]["request"]["url"]
-        for each in messages
-        if each["method"] == "Network.requestWillBeSent"
-    ]
+    entries = page.driver.get_log("performance")
+    messages = [json.loads(entry["message"])["message"] for entry in entries]
+    sent = [each for each in messages if each["method"] == "Network.requestWillBeSent"]
+    asked = [each["params"]["request"]["url"] for each in sent]
     page.same("pages asked for", True, len(asked) > 20)
-    page.same(
-        "asked for outside",
-        [],
-        [url for url in asked if not url.startswith((page.address, "data:"))],
-    )
+    outside = [url for url in asked if not url.startswith((page.address, "data:"))]
+    page.same("asked for outside", [], outside)
     page.same("in the console", [], page.driver.get_log("browser"))
 
 
 def try_outside(page):
     page.open()
-    page.same("broken rules", [], page.run("return violations"))
-    fetched = "const done = arguments[0]; fetch('https://127.0.0.1:9/').then(() => done('read'), () => done('refused'))"
+    page.same("broken rules", [], page.ask("violations"))
+    fetched = (
+        "const done = arguments[0];"
+        "fetch('https://127.0.0.1:9/').then(() => done('read'), () => done('refused'))"
+    )
     page.same("a request", "refused", page.driver.execute_async_script(fetched))
-    page.run(
-        "document.body.append(Object.assign(document.createElement('script'), { text: 'window.hacked = 1' }))"
-    )
-    page.same("another script", None, page.run("return window.hacked ?? null"))
-    page.same(
-        "broken rules after both", ["connect-src", "script-src-elem"], page.run("return violations")
-    )
+    script = "Object.assign(document.createElement('script'), { text: 'window.hacked = 1' })"
+    page.ask(f"document.body.append({script})")
+    page.same("another script", None, page.ask("window.hacked"))
+    broken = ["connect-src", "script-src-elem"]
+    page.same("broken rules after both", broken, page.ask("violations"))
 
 
 def shows_itself(page, what, works):
     def shown():
-        body = page.driver.find_element(By.TAG_NAME, "body").text
-        return [body.startswith("This page needs"), page.find("text").is_displayed()]
+        told = page.find("body").text.startswith("This page needs")
+        return [told, page.find("#text").is_displayed()]
 
     page.open()
     page.until(lambda: shown() == [not works, works])
@@ -822,14 +550,12 @@ def try_without(page):
 
 
 def main(file, word="Chromium"):
-    pictures = word == "--pictures"
-    page = Page(file, "Chromium" if pictures else word)
-    page.same(f"at most {LARGEST} bytes", True, pathlib.Path(file).stat().st_size <= LARGEST)
-    page.same(
-        "its licence", True, "Apache License" in pathlib.Path(file).read_text(encoding="utf-8")
-    )
+    page = Page(file, "Chromium" if word == "--pictures" else word)
+    made = pathlib.Path(file).read_text(encoding="utf-8")
+    page.same(f"at most {LARGEST} bytes", True, len(made.encode()) <= LARGEST)
+    page.same("its licence", True, "Apache License" in made)
     try:
-        if pictures:
+        if word == "--pictures":
             take_pictures(page)
             return 0
         for name, test in list(globals().items()):
