@@ -1,8 +1,7 @@
 use crate::near::near;
 use crate::{FEATURES, Group, by_usual_calls, choices, has, options_of, rules_of, vectors};
 use duration_str::{
-    Fault, Options, Rules, Style, TimeUnit, UNITS, parse, parse_by, parse_in, parse_std,
-    parse_with,
+    Fault, Options, Rules, Style, TimeUnit, UNITS, parse, parse_by, parse_in, parse_std, parse_with,
 };
 use duration_str_core as proved;
 use std::collections::BTreeSet;
@@ -43,7 +42,10 @@ fn check(group: &Group, options: Options, is_read: bool) {
 }
 
 fn check_seconds(text: &str, options: Options) {
-    let wanted = parse_by(text, Rules::of(options).default_unit(Some(TimeUnit::Second)));
+    let wanted = parse_by(
+        text,
+        Rules::of(options).default_unit(Some(TimeUnit::Second)),
+    );
     assert_eq!(parse_with(text, options), wanted, "{text:?}");
     if options == FEATURES {
         let wanted = proved::parse_with(text, options).map_err(|fault| fault.to_string());
