@@ -69,10 +69,10 @@
 //!
 //! For clap, use [`HumanDuration`] as the field's type, or a `Duration` with [`parse_duration`] as
 //! its `value_parser`. To refuse a number without a unit, take [`parse_require_unit`] instead. For
-//! other [`Rules`], such as with more names, write
-//! `value_parser = |text: &str| parse_by(text, RULES).map_err(Fault::into_owned)`. If you set
-//! `allow_hyphen_values`, `-5m` is refused as a negative duration, and not taken for an option. The
-//! README of this crate has a program with clap.
+//! other [`Rules`], such as with more names, write a function that calls [`parse_by`], and then
+//! [`Fault::into_owned`] for the error. If you set `allow_hyphen_values`, `-5m` is refused as a
+//! negative duration, and not taken for an option. The README of this crate has such a function,
+//! and a program with clap.
 //!
 //! # Printing
 //!
