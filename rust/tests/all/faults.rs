@@ -1,7 +1,6 @@
 use crate::{FEATURES, Refused, by_usual_calls, options_of, rules_of, vectors};
 use duration_str::{
-    Cause, DError, Expected, Fault, Options, Rules, TimeUnit, parse, parse_by, parse_require_unit,
-    parse_with,
+    Cause, DError, Expected, Fault, Options, Rules, parse, parse_by, parse_require_unit, parse_with,
 };
 use duration_str_core as proved;
 use std::error::Error;
