@@ -48,13 +48,16 @@ def paragraphs():
 
 
 def option_descriptions():
-    """What the options of reading do: three switches, the two choices of a default unit, and more
-    names."""
+    """What the options of reading do: three switches of `Options`, and then the further ones, in
+    the order in which Python names them.
+    """
     page = section("docs/GRAMMAR.md", "## Options")
+    rows = dict(re.findall(r"^\| `(\w+)` \| (.*) \|$", page, re.M))
     choices = dict(re.findall(r"^\| (no|another) unit \| (.*?) \|", page, re.M))
-    return dict(re.findall(r"^\| `(\w+)` \| (.*) \|$", page, re.M)) | {
+    more_names = rows.pop("more_names")
+    return rows | {
         "require_unit": f"a number without a unit {choices['no']}",
-        "more_names": re.search("^(more names of units are read, .*?)\\.$", page, re.M | re.I)[1].lower(),
+        "more_names": more_names,
         "default_unit": f"a number without a unit {choices['another']}",
     }
 

@@ -39,11 +39,12 @@ VALUES = (
         "parts": (1, 2, 3, 12, 2**64 - 1),
     }
     | dict.fromkeys(
-        "json quiet zero-terminated lowercase cn-unit require-unit pattern sum".split(),
+        "json quiet zero-terminated lowercase cn-unit more-names require-unit pattern sum".split(),
         [""],
     )
 )
-WITH_PATTERN = {"pattern", "lowercase", "cn-unit", "require-unit", "from", "zero-terminated"}
+WITH_PATTERN = {"pattern", "lowercase", "cn-unit", "more-names", "require-unit"}
+WITH_PATTERN |= {"from", "zero-terminated"}
 WRONG_WORDS = """--to= --to=mins --to=年 --from=secs --largest=mo --round=half --decimals=10 --units=
 --units=y,mins --parts=0 --parts=+12 --parts=two --field=0 --field=+1 --field=-1 -dab -dé
 --header= --header=x --header=+1 --decimals=+5 --none -x""".split()
@@ -205,7 +206,8 @@ def end_of(options):
 
 def pattern_of(options):
     choice = choice_of(options)
-    return patterns.pattern(*choice.options, choice.default_unit is None)
+    is_required = choice.default_unit is None
+    return patterns.pattern(**choice.options._asdict(), require_unit=is_required)
 
 
 def said_of_sum(said, options):
@@ -419,8 +421,8 @@ def vector_commands():
         is_other = unit not in (None, reference.Choice().default_unit)
         # The command has no word for `no_calc`, which another unit than the second turns on.
         if on.no_calc == is_other:
-            rows = (on.lowercase, "lowercase"), (on.cn_unit, "cn-unit"), (not unit, "require-unit")
-            given = [(name, "") for is_on, name in rows if is_on]
+            given = [(name.replace("_", "-"), "") for name in on.words() if name != "no_calc"]
+            given += [] if unit else [("require-unit", "")]
             given += [("from", unit.printed)] if is_other else []
             items[tuple(given)].append(text)
     for (unit, text, *_), way in itertools.product(vectors.tables()["from"], VALUES["round"]):

@@ -1,5 +1,5 @@
 /* A program like durstr, which calls the library for C. For a refused line it writes the report of
- * duration_str_report. It also knows the words `require_unit` and, for example,
+ * duration_str_report. It also knows the words `require_unit`, `more_names` and, for example,
  * `default_unit=ms`. tests/processors builds it for several processors, and compares what they
  * write. */
 #include <inttypes.h>
@@ -15,8 +15,8 @@
 #include "duration_str.h"
 
 static uint32_t option_of(const char *word) {
-    const char names[][16] = {"no_calc", "lowercase", "cn_unit", "require_unit"};
-    for (uint32_t bit = 0; bit < 4; bit++)
+    const char names[][16] = {"no_calc", "lowercase", "cn_unit", "require_unit", "more_names"};
+    for (uint32_t bit = 0; bit < 5; bit++)
         if (strcmp(word, names[bit]) == 0)
             return UINT32_C(1) << bit;
     const char *unit = strchr(word, '=');

@@ -53,6 +53,12 @@ static void check_options(void) {
         is_syntax(read_with("1+2", DURATION_STR_OPTION_NO_CALC), 1, unit_or_end, 1), "an operator");
     expect(is_syntax(read_with("1h 30", DURATION_STR_OPTION_REQUIRE_UNIT), 5, unit, 0),
         "a unit that is missing");
+    const uint32_t more_names = DURATION_STR_OPTION_MORE_NAMES;
+    expect(read_with("2hrs 5 mins 10", more_names).nanos == UINT64_C(7510000000000),
+        "more names of units");
+    expect(is_syntax(read_with("5 mins", 0), 2, after_number, 4), "one of them, unasked for");
+    expect(is_syntax(read_with("5 minz", more_names), 2, after_number, 4), "no name");
+    expect(is_unknown(more_names << 1), "the bit after the last option");
 }
 
 static void check_default_units(void) {
@@ -78,6 +84,9 @@ static void check_default_units(void) {
     expect(is_syntax(read_with("1s+500ms", millisecond), 2, after_unit, 1), "a plus");
     expect(read_with("1M 500", millisecond | DURATION_STR_OPTION_LOWERCASE).place == 1,
         "a default unit beside another option");
+    expect(
+        read_with("5mins 500", millisecond | DURATION_STR_OPTION_MORE_NAMES).nanos == 300500000000u,
+        "a default unit beside more names");
     expect(is_unknown(millisecond & ~no_calc), "a default unit beside operators");
     expect(is_unknown(millisecond | DURATION_STR_OPTION_REQUIRE_UNIT),
         "a default unit where a unit is required");

@@ -10,6 +10,7 @@ import units
 
 CRATES = pathlib.Path(__file__).resolve().parent.parent / "crates"
 UNITS = list(units.table())
+FURTHER = list(units.more())
 PRINTED = [unit.printed for unit in UNITS]
 # An index into a list of regular expressions is a sum: 1 for `no_calc` and 2 for `require_unit`, or
 # 1 for `lowercase` and 2 for `cn_unit`.

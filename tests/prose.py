@@ -108,6 +108,7 @@ ANSWERED = {
     "value or error": [],
     "fault": [],
     "with `no_calc`": ["no_calc"],
+    "with `more_names`": ["more_names"],
     "if units are required": ["require_unit"],
 }
 

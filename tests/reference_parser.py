@@ -19,33 +19,43 @@ TOO_LONG = 2**64 * SECOND
 
 
 class Unit(typing.NamedTuple):
-    """The length is in nanoseconds. The option `cn_unit` adds the Chinese names."""
+    """The length is in nanoseconds. The option `cn_unit` adds the Chinese names, and `more_names`
+    the further ones.
+    """
 
     length: int
     printed: str
     names: str
     chinese: str = ""
+    further: str = ""
 
 
 # The table of units, in the order in which they are printed.
 UNITS = (
-    Unit(365 * DAY, "y", "y year years", "年"),
-    Unit(91 * DAY, "q", "q quarter quarters"),
-    Unit(30 * DAY, "mon", "mon month months", "月"),
-    Unit(7 * DAY, "w", "w week weeks", "周"),
+    Unit(365 * DAY, "y", "y year years", "年", "yr yrs"),
+    Unit(91 * DAY, "q", "q quarter quarters", "", "qtr qtrs"),
+    Unit(30 * DAY, "mon", "mon month months", "月", "mons mth mths"),
+    Unit(7 * DAY, "w", "w week weeks", "周", "wk wks"),
     Unit(DAY, "d", "d day days", "日 天"),
-    Unit(3_600 * SECOND, "h", "h hr hour hours", "时"),
-    Unit(60 * SECOND, "min", "m min minute minutes", "分"),
-    Unit(SECOND, "s", "s sec second seconds", "秒"),
-    Unit(10**6, "ms", "ms msec millisecond milliseconds", "毫秒"),
-    Unit(10**3, "µs", "µs µsec µsecond us usec usecond microsecond microseconds", "微秒"),
-    Unit(1, "ns", "ns nsec nanosecond nanoseconds", "纳秒"),
+    Unit(3_600 * SECOND, "h", "h hr hour hours", "时", "hrs"),
+    Unit(60 * SECOND, "min", "m min minute minutes", "分", "mins"),
+    Unit(SECOND, "s", "s sec second seconds", "秒", "secs"),
+    Unit(10**6, "ms", "ms msec millisecond milliseconds", "毫秒", "msecs milli millis"),
+    Unit(
+        10**3,
+        "µs",
+        "µs µsec µsecond us usec usecond microsecond microseconds",
+        "微秒",
+        "µsecs µseconds usecs useconds micro micros",
+    ),
+    Unit(1, "ns", "ns nsec nanosecond nanoseconds", "纳秒", "nsecs nano nanos"),
 )
 
 STYLES = ("short", "compact", "long")
 ROUNDINGS = ("down", "nearest", "up")
 
 PLACES = {name: place for place, unit in enumerate(UNITS) for name in unit.names.split()}
+FURTHER = re.compile("|".join(name for unit in UNITS for name in unit.further.split()), re.I)
 
 UNIT_LINE = 'expected ["y", "q", "mon", "w", "d", "h", "m", "s", "ms", "µs", "us", "ns"]'
 # The most bytes of a duration that is printed in the short style.
@@ -66,17 +76,21 @@ FOLDED = str.maketrans("ABCDEFGHIJKLMNOPQRSTUVWXYZ", "abcdefghijklmnopqrstuvwxyz
 
 
 class Options(typing.NamedTuple):
+    """In Rust and Rattle, `more_names` is no field of `Options`, but a rule of `Rules`."""
+
     no_calc: bool = False
     lowercase: bool = False
     cn_unit: bool = False
+    more_names: bool = False
 
     def words(self):
         return [name for name, on in zip(self._fields, self) if on]
 
 
+# The options that the program `durstr` has, too.
+SWITCHES = Options._fields[:3]
 CHOICES = [
-    Options(*choice[::-1])
-    for choice in itertools.product((False, True), repeat=len(Options._fields))
+    Options(*choice[::-1]) for choice in itertools.product((False, True), repeat=len(SWITCHES))
 ]
 
 
@@ -149,7 +163,11 @@ def unit_of(word, options):
     lengths = [
         unit.length
         for unit in UNITS
-        if folded in unit.names.split() or options.cn_unit and folded in unit.chinese.split()
+        if folded in unit.names.split()
+        or options.cn_unit
+        and folded in unit.chinese.split()
+        or options.more_names
+        and folded in unit.further.split()
     ]
     assert len(lengths) <= 1, word
     return lengths[0] if lengths else None
@@ -429,12 +447,15 @@ def standing_fault(front, default_unit):
 
 
 def answer_of(text, options, default_unit=SECOND):
-    """Turns `lowercase` off for a text without capitals, and `cn_unit` for one without Chinese
-    letters, so that fewer answers are computed.
+    """Turns `lowercase` off for a text without capitals, `cn_unit` for one without Chinese letters,
+    and `more_names` for one without such a name, so that fewer answers are computed.
     """
-    folds = options.lowercase and text != text.translate(FOLDED)
-    knows = options.cn_unit and any(character in CHINESE for character in text)
-    return computed_answer(text, options._replace(lowercase=folds, cn_unit=knows), default_unit)
+    used = options._replace(
+        lowercase=options.lowercase and text != text.translate(FOLDED),
+        cn_unit=options.cn_unit and any(character in CHINESE for character in text),
+        more_names=options.more_names and FURTHER.search(text) is not None,
+    )
+    return computed_answer(text, used, default_unit)
 
 
 @functools.lru_cache(1 << 16)
@@ -625,20 +646,10 @@ def message(text, answer):
 # ---- A fault in one line
 
 # Words that people write for a unit, by the name to write instead. Those of SMALL_WORDS count
-# only in small letters. tests/repository takes the last row for that of `us`.
+# only in small letters.
 SMALL_WORDS = {"mon": "mo mos"}
-NEAR_WORDS = {
-    "y": "yr yrs",
-    "q": "qtr qtrs",
-    "mon": "mons mth mths",
-    "w": "wk wks",
-    "h": "hrs",
-    "min": "mins",
-    "s": "secs",
-    "ms": "msecs milli millis",
-    "ns": "nsecs nano nanos",
-    "us": "µsecs µseconds usecs useconds micro micros μs μsec μsecs μsecond μseconds",
-}
+NEAR_WORDS = {unit.printed.replace("µ", "u"): unit.further for unit in UNITS}
+NEAR_WORDS["us"] += " μs μsec μsecs μsecond μseconds"
 NAMES = "y, q, mon, w, d, h, min, s, ms, us or ns"
 QUOTED = 40
 

@@ -85,8 +85,8 @@ class Texts:
         if draw < 0.15:
             return ""
         names = self.SHORT
-        if draw >= 0.7:
-            names = self.NAMES if draw < 0.97 else self.NEAR
+        if draw >= 0.66:
+            names = self.NAMES if 0.7 <= draw < 0.97 else self.NEAR
         name = self.choice(names)
         if draw > 0.98:
             name = name.replace("µ", "μ")
@@ -170,7 +170,7 @@ def write_files(folder, texts):
     )
     for number, text in enumerate(texts[:500]):
         (folder / "seeds" / str(number)).write_bytes(text)
-    words = [*Texts.NAMES, *"+* ", str(LIMIT - 1), str(LIMIT)]
+    words = [*Texts.NAMES, *Texts.NEAR, *"+* ", str(LIMIT - 1), str(LIMIT)]
     escaped = ("".join(f"\\x{byte:02x}" for byte in word.encode()) for word in words)
     (folder / "dictionary").write_text("".join(f'"{word}"\n' for word in escaped))
 

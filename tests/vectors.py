@@ -34,7 +34,8 @@ def texts():
     rows = tables()
     known = {*rows["options"]}
     for group, options in itertools.product(rows["values"], CHOICES):
-        choice = Choice(options, Choice.named(group["on"]).default_unit)
+        named = Choice.named(group["on"])
+        choice = Choice(options._replace(more_names=named.options.more_names), named.default_unit)
         is_read = {*group["on"]} & known <= {*options.words()} <= known - {*group["off"]}
         for secs, nanos, each in group["rows"]:
             nanos = secs * SECOND + nanos if is_read else None

@@ -57,8 +57,6 @@ def units_by(lowercase, cn_unit, more_names=False):
     return any_of([*names, *chinese], not lowercase)
 
 
-def pattern(
-    no_calc=False, lowercase=False, cn_unit=False, require_unit=False, more_names=False
-):
+def pattern(no_calc=False, lowercase=False, cn_unit=False, require_unit=False, more_names=False):
     unit = units_by(lowercase, cn_unit, more_names)
     return SENTENCES[no_calc, require_unit].replace("U", unit)

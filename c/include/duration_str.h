@@ -33,7 +33,10 @@
  * msec millisecond milliseconds, µs µsec µsecond us usec usecond microsecond
  * microseconds, ns nsec nanosecond nanoseconds. The Chinese names, which an
  * option adds: 年 year, 月 month, 周 week, 日 天 day, 时 hour, 分 minute, 秒 second,
- * 毫秒 millisecond, 微秒 microsecond, 纳秒 nanosecond.
+ * 毫秒 millisecond, 微秒 microsecond, 纳秒 nanosecond. More names, which another
+ * option adds: yr yrs, qtr qtrs, mons mth mths, wk wks, hrs, mins, secs,
+ * msecs milli millis, µsecs µseconds usecs useconds micro micros, nsecs nano
+ * nanos.
  * A year has 365 days, a quarter 91 and a month 30. */
 #ifndef DURATION_STR_H
 #define DURATION_STR_H

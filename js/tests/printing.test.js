@@ -305,7 +305,9 @@ test("knows whole names only", () => {
         }
     }
     const formats = ["units", "largest", "smallest", "parts", "rounding", "style"];
-    const options = ["noCalc", "lowercase", "cnUnit", "requireUnit", "defaultUnit"];
+    const options = [
+        "noCalc", "lowercase", "cnUnit", "moreNames", "requireUnit", "defaultUnit",
+    ];
     for (const name of near([...formats, ...options])) {
         const words = { [name]: undefined };
         if (!options.includes(name)) refuses("TypeError", words, () => parse("5", words));

@@ -43,11 +43,12 @@ test("reads the vectors, and refuses them under the other options", () => {
 });
 
 test("reads as without options if they are left out or undefined", () => {
-    const names = ["noCalc", "lowercase", "cnUnit", "requireUnit", "defaultUnit"];
+    const names = ["noCalc", "lowercase", "cnUnit", "moreNames", "requireUnit", "defaultUnit"];
     const none = Object.fromEntries(names.map((name) => [name, undefined]));
     for (const options of [undefined, {}, none, optionsOf([])]) {
         assert.equal(parseNs("1M*2", options), 120_000_000_000n);
         assert.throws(() => parseNs("1分", options), DurationError);
+        assert.throws(() => parseNs("5 mins", options), DurationError);
         assert.throws(() => parseNs(1, options), TypeError);
         assert.equal(pattern(options), pattern());
     }
@@ -189,6 +190,8 @@ test("refuses what is no option", () => {
         [{ noCalc: 1 }, "the option noCalc must be a boolean, not number"],
         [{ lowercase: "no" }, "the option lowercase must be a boolean, not string"],
         [{ cnUnit: null }, "the option cnUnit must be a boolean, not null"],
+        [{ more_names: true }, "unknown option: more_names"],
+        [{ moreNames: "yes" }, "the option moreNames must be a boolean, not string"],
         [null, "the options must be a plain object, not null: write (text) => parse(text)"],
         [[], "the options must be a plain object, not array: write (text) => parse(text)"],
         [

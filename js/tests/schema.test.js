@@ -38,7 +38,9 @@ function* texts() {
     }
 }
 
-for (const names of CHOICES.flatMap((each) => [each, [...each, "require_unit"]])) {
+const OTHERS = [[], ["require_unit"], ["more_names"], ["more_names", "require_unit"]];
+
+for (const names of CHOICES.flatMap((each) => OTHERS.map((others) => [...each, ...others]))) {
     const options = optionsOf(names);
     test(`the pattern with ${names.join(" ") || "no option"} matches the sentences`, () => {
         for (const expression of expressions(pattern(options))) {

@@ -20,6 +20,7 @@ const timeouts: (number | bigint | undefined)[] = [
     parse(1500, { defaultUnit: "ms" }), parse(1500n, { defaultUnit: "s", noCalc: true }),
     parseNs(configured, { defaultUnit: "ms", requireUnit: false }),
     tryParse(1500, { defaultUnit: "ms" }).value, tryParseNs(1500, { defaultUnit: "ms" }).value,
+    parse("5 mins", { moreNames: true }), parse(1500, { moreNames: true, defaultUnit: "ms" }),
     parse(1500, { defaultUnit: "seconds", noCalc: false }),
 ];
 void [withoutFactors, inSeconds];
@@ -99,6 +100,8 @@ const withFactors: Options = { defaultUnit: "h", noCalc: false };
 parseNs("1s", { no_calc: true });
 // @ts-expect-error: no boolean
 parseNs("1s", { noCalc: 1 });
+// @ts-expect-error: a default unit has a name that is read without options
+parse("1", { moreNames: true, defaultUnit: "mins" });
 // @ts-expect-error: no unit
 parseNs("1", { defaultUnit: "fortnight" });
 // @ts-expect-error: `map` passes an index in place of options

@@ -70,9 +70,8 @@ class Documentation(unittest.TestCase):
     def test_shows_the_units_and_the_options(self):
         self.assertIn("µs, µsec, µsecond", pydoc.render_doc(duration_str))
         for name in ["parse", "parse_ns", "parse_seconds"]:
-            options = ", ".join(
-                f"{option}=False" for option in [*VECTORS["options"], "require_unit"]
-            )
+            names = [*VECTORS["options"], "require_unit", "more_names"]
+            options = ", ".join(f"{name}=False" for name in names)
             self.assertEqual(
                 f"(text, /, *, {options}, default_unit='s')",
                 str(inspect.signature(getattr(duration_str, name))),
@@ -84,7 +83,7 @@ class Documentation(unittest.TestCase):
         for name in ["parse_many", "to_timedelta", "DurationField"]:
             signature = inspect.signature(getattr(duration_str, name))
             parameters = [*map(str, signature.parameters.values())]
-            self.assertEqual(parameters[-5], "no_calc: 'bool' = False")
+            self.assertEqual(parameters[-6], "no_calc: 'bool' = False")
             self.assertEqual(parameters[-1], "default_unit: 'Unit' = 's'")
 
     def test_fits_a_terminal(self):

@@ -59,7 +59,8 @@ class Lines(unittest.TestCase):
         self.assertNotEqual(field(), field(default_unit="s"))
         self.assertEqual(field(), field(no_calc=False))
         self.assertNotEqual(field(no_calc=True), field(lowercase=True))
-        for made in [field(), field(default_unit="s"), field(default_unit="ms", cn_unit=True)]:
+        named = field(default_unit="ms", cn_unit=True, more_names=True)
+        for made in [field(), field(default_unit="s"), named]:
             self.assertEqual(pickle.loads(pickle.dumps(made)), made)
             self.assertEqual(eval(repr(made), {"duration_str": duration_str}), made)
         self.assertNotEqual(duration_str.Duration, duration_str.DurationRequireUnit)
@@ -87,6 +88,7 @@ class Lines(unittest.TestCase):
         for option, text in [("no_calc", "1m+1"), ("lowercase", "1M"), ("require_unit", "90")]:
             self.assertRaises(argparse.ArgumentTypeError, DurationType(**{option: True}), text)
         self.assertEqual(DurationType(default_unit="min")("1"), MINUTE)
+        self.assertEqual(DurationType(more_names=True)("60 secs"), MINUTE)
 
     @unittest.skipUnless(has("click"), "Click is missing")
     def test_click(self):
@@ -107,6 +109,7 @@ class Lines(unittest.TestCase):
         for option, text in [("no_calc", "1m+1"), ("lowercase", "1M"), ("require_unit", "90")]:
             self.assertRaises(click.BadParameter, DurationParamType(**{option: True}), text)
         self.assertEqual(DurationParamType(default_unit="min")("1"), MINUTE)
+        self.assertEqual(DurationParamType(more_names=True)("60 secs"), MINUTE)
         for words in ({"default_unit": "mins"}, {"default_unit": "ms", "require_unit": True}):
             self.assertRaisesRegex(ValueError, "default_unit", DurationParamType, **words)
         with self.assertRaisesRegex(click.BadParameter, "'1分': unknown unit"):
@@ -203,9 +206,13 @@ class Models(unittest.TestCase):
             adapter = self.pydantic.TypeAdapter(typing.Annotated[datetime.timedelta, field])
             with self.assertRaises(self.pydantic.ValidationError):
                 adapter.validate_python(text)
-        field = duration_str.DurationField(cn_unit=True)
-        adapter = self.pydantic.TypeAdapter(typing.Annotated[datetime.timedelta, field])
-        self.assertEqual(adapter.validate_python("1分"), MINUTE)
+        for option, text in [("cn_unit", "1分"), ("more_names", "60 secs")]:
+            field = duration_str.DurationField(**{option: True})
+            adapter = self.pydantic.TypeAdapter(typing.Annotated[datetime.timedelta, field])
+            self.assertEqual(adapter.validate_python(text), MINUTE)
+            self.assertEqual(adapter.dump_json(MINUTE), b'"1min"')
+            pattern = duration_str.pattern(**{option: True})
+            self.assertEqual(adapter.json_schema(), {"type": "string", "pattern": pattern})
 
     def test_writes_the_printed_text(self):
         job = self.model(timeout=90 * MINUTE)

@@ -22,6 +22,7 @@ def read(texts: list[str]) -> NDArray[numpy.timedelta64]:
 
 
 assert_type(duration_str.parse("1m", no_calc=True), datetime.timedelta)
+assert_type(duration_str.parse("5 mins", more_names=True), datetime.timedelta)
 assert_type(duration_str.parse_ns("1m"), int)
 assert_type(duration_str.parse_seconds("1m"), float)
 assert_type(duration_str.format(5), str)
@@ -48,6 +49,9 @@ assert_type(duration_str.format(5, largest=unit, rounding=rounding, style=style)
 assert_type(duration_str.format(5, units=["years", "d"]), str)
 assert_type(duration_str.parse("1500", default_unit="ms"), datetime.timedelta)
 assert_type(duration_str.parse_many(["1500"], default_unit="ms"), array[int])
+assert_type(
+    duration_str.parse_many(["5 mins", 1500], more_names=True, default_unit="ms"), array[int]
+)
 assert_type(duration_str.parse(1500, default_unit="ms"), datetime.timedelta)
 assert_type(duration_str.parse_ns(numpy.int64(1500), default_unit="s"), int)
 assert_type(duration_str.parse_many([1500, "2h"], default_unit="ms"), array[int])

@@ -26,20 +26,23 @@ def words_of(names):
     return words | dict(name.split("=") for name in names if "=" in name)
 
 
-# Each choice of the options, alone and with each name in UNITS
-NAMES = [name for group in VECTORS["values"] for name in group["on"]]
-UNITS = sorted({name for name in NAMES if name not in VECTORS["options"]})
+def others_of(names):
+    """Returns the names that are not among the options, such as `default_unit=ms`."""
+    return tuple(name for name in names if name not in VECTORS["options"])
+
+
+# Each choice of the options, with the other names of each group
+OTHERS = sorted({others_of(group["on"]) for group in VECTORS["values"]})
 CHOICES = itertools.product((False, True), repeat=len(VECTORS["options"]))
 CHOICES = [[*itertools.compress(VECTORS["options"], choice)] for choice in CHOICES]
-CHOICES = [[*names, *unit] for names in CHOICES for unit in ([], *([unit] for unit in UNITS))]
+CHOICES = [[*names, *others] for names in CHOICES for others in OTHERS]
 
 
 def values_under(names):
     """Gives texts of the vectors with their values in nanoseconds. A value is None if this choice
     refuses the text."""
-    unit = {*names} & {*UNITS}
     for group in VECTORS["values"]:
-        if unit != {*group["on"]} & {*UNITS}:
+        if others_of(names) != others_of(group["on"]):
             continue
         is_read = {*group["on"]} <= {*names} and not {*group["off"]} & {*names}
         for secs, nanos, texts in group["rows"]:

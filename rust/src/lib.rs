@@ -21,7 +21,7 @@
 //! - Use [`parse_in`] if your program's numbers count another unit, such as milliseconds.
 //! - Use [`parse_with`] to set options, or if nothing may be allocated. Its [`Fault`] borrows the
 //!   text. [`parse_by`] takes [`Rules`], which also name the default unit, or `None` to require
-//!   units, and by which more names such as `mins` are read.
+//!   units, and by which [more names](Rules::more_names) such as `mins` can be read.
 //! - [`parse`], [`parse_std`] (which is the same), `parse_chrono` and `parse_time` are calls of
 //!   `duration-str` 0.19.0. Their error is a `String` of up to three lines. This crate's features
 //!   decide what they read, and are the same for the whole program.
@@ -45,6 +45,7 @@
 //! The module `human` is for fields that serde writes and reads as text. `human_require_unit`
 //! refuses a number without a unit, such as `"90"`. `human_or_seconds` also reads a number of
 //! seconds, such as `timeout = 30`. For `human_or_millis` numbers are milliseconds.
+//! `human_more_names` also reads more names of units, such as in `"5 mins"`.
 //!
 #![cfg_attr(feature = "serde", doc = "```")]
 #![cfg_attr(not(feature = "serde"), doc = "```ignore")]
@@ -67,9 +68,11 @@
 //! # Command lines
 //!
 //! For clap, use [`HumanDuration`] as the field's type, or a `Duration` with [`parse_duration`] as
-//! its `value_parser`. To refuse a number without a unit, take [`parse_require_unit`] instead. If
-//! you set `allow_hyphen_values`, `-5m` is refused as a negative duration, and not taken for an
-//! option. The README of this crate has a program with clap.
+//! its `value_parser`. To refuse a number without a unit, take [`parse_require_unit`] instead. For
+//! other [`Rules`], such as with more names, write a function that calls [`parse_by`], and then
+//! [`Fault::into_owned`] for the error. If you set `allow_hyphen_values`, `-5m` is refused as a
+//! negative duration, and not taken for an option. The README of this crate has such a function,
+//! and a program with clap.
 //!
 //! # Printing
 //!
@@ -127,6 +130,21 @@
 //! | millisecond | ms, msec, millisecond, milliseconds | 毫秒 |
 //! | microsecond | µs, µsec, µsecond, us, usec, usecond, microsecond, microseconds | 微秒 |
 //! | nanosecond | ns, nsec, nanosecond, nanoseconds | 纳秒 |
+//!
+//! [`Rules::more_names`] adds these names, for [`parse_by`] and the module `human_more_names`:
+//!
+//! | unit | names that `more_names` adds |
+//! |---|---|
+//! | 365 days | yr, yrs |
+//! | 91 days | qtr, qtrs |
+//! | 30 days | mons, mth, mths |
+//! | 7 days | wk, wks |
+//! | hour | hrs |
+//! | minute | mins |
+//! | second | secs |
+//! | millisecond | msecs, milli, millis |
+//! | microsecond | µsecs, µseconds, usecs, useconds, micro, micros |
+//! | nanosecond | nsecs, nano, nanos |
 //!
 //! # Features
 //!
@@ -195,8 +213,8 @@ pub use derror::{DError, DResult};
 #[doc(inline)]
 pub use duration_str_core::{
     Breakdown, Cause, CondUnit, Expected, FORMAT_BUFFER_SIZE, Format, HUMAN_BUFFER_SIZE,
-    ONE_LINE_BUFFER_SIZE, Options, Rounding, Rules, Style, TimeUnit, Units, UnknownStyle, UnknownUnit,
-    round_to, write_format, write_human,
+    ONE_LINE_BUFFER_SIZE, Options, Rounding, Rules, Style, TimeUnit, Units, UnknownStyle,
+    UnknownUnit, round_to, write_format, write_human,
 };
 // `MAX_LONG_LEN`, `MAX_PRINTED_LEN` and `UNITS`, below, are hidden, since only the core's
 // documentation names them.
@@ -214,7 +232,7 @@ pub use self::serde::original::{deserialize_duration_time, deserialize_option_du
 #[cfg(feature = "serde")]
 #[doc(inline)]
 pub use self::serde::{
-    human, human_or_millis, human_or_seconds, human_require_unit, humantime_serde,
+    human, human_more_names, human_or_millis, human_or_seconds, human_require_unit, humantime_serde,
 };
 #[doc(hidden)]
 pub use duration_str_core::{MAX_LONG_LEN, MAX_PRINTED_LEN, UNITS};

@@ -1,6 +1,7 @@
 //! For tests/compare: prints the value and the duration of each line of the input, or the line of
-//! the refusal. The words are those of the program durstr, `require_unit`, and a default unit, such
-//! as `default_unit=ms`. The status is 0 if all lines are read, and 1 if some are refused.
+//! the refusal. The words are those of the program durstr, `more_names`, `require_unit`, and a
+//! default unit, such as `default_unit=ms`. The status is 0 if all lines are read, and 1 if some
+//! are refused.
 //!
 //! With the word `rounded` it prints durations that are rounded down, to the nearest and up. Each
 //! line has the nanoseconds, the number of a set of units, and the greatest number of parts.
@@ -42,6 +43,10 @@ fn main() -> ExitCode {
         Some(name) => Some(name.parse().expect("a unit")),
         None => Some(TimeUnit::Second),
     };
+    let mut rules = Rules::of(options).default_unit(default_unit);
+    if is_on("more_names") {
+        rules = rules.more_names();
+    }
     let mut input = Vec::new();
     std::io::stdin().read_to_end(&mut input).expect("an input");
     if is_on("rounded") {
@@ -55,8 +60,7 @@ fn main() -> ExitCode {
     for line in input.split_inclusive(|byte| *byte == b'\n') {
         let line = line.strip_suffix(b"\n").unwrap_or(line);
         let answer = match std::str::from_utf8(line) {
-            Ok(text) => parse_by(text, Rules::of(options).default_unit(default_unit))
-                .map_err(|fault| fault.to_string()),
+            Ok(text) => parse_by(text, rules).map_err(|fault| fault.to_string()),
             Err(_) => Err(String::from("not UTF-8")),
         };
         match answer {

@@ -68,7 +68,11 @@ pub fn read<'a>(bytes: &'a [u8], choices: &Choices) -> Result<(&'a str, u64), Re
     let unit = choices.from.unwrap_or(TimeUnit::Second);
     let default_unit = (!choices.require_unit).then_some(unit);
     let own = Rules::of(choices.reading()).default_unit(default_unit);
-    let rules = if choices.more_names { own.more_names() } else { own };
+    let rules = if choices.more_names {
+        own.more_names()
+    } else {
+        own
+    };
     let duration = parse_by(text, rules)?;
     Ok((text, duration.as_nanos() as u64))
 }

@@ -17,7 +17,7 @@
 #define ROOM (1u << 18)
 #define CANARY 0xa5
 #define CANARIES 32u
-#define ALL_OPTIONS 15u
+#define ALL_OPTIONS 31u
 #define CHOICES (ALL_OPTIONS + 1u)
 
 /* ---- Failing */
@@ -310,6 +310,12 @@ static void check_default_units(struct text text, const struct duration_str_answ
     }
 }
 
+static void check_more_names(const struct duration_str_answer *answers) {
+    for (uint32_t options = 0; options < DURATION_STR_OPTION_MORE_NAMES; options++)
+        HOLDS(answers[options].cause != DURATION_STR_CAUSE_READ ||
+              are_equal(answers[options | DURATION_STR_OPTION_MORE_NAMES], answers[options]));
+}
+
 static bool is_of_a_letter(uint8_t byte) {
     return (byte >= 'A' && byte <= 'Z') || (byte >= 'a' && byte <= 'z') || byte >= 0x80;
 }
@@ -335,7 +341,7 @@ static void check(struct text text) {
     for (uint32_t options = 0; options < CHOICES; options++) {
         struct duration_str_answer answer = answers[options] = read_with(text, options);
         count(answer);
-        HOLDS(are_equal(unknown, read_with(text, options | CHOICES << options)));
+        HOLDS(are_equal(unknown, read_with(text, options | CHOICES << options % 27)));
         if (answer.cause == DURATION_STR_CAUSE_READ &&
             (options == 0 || answer.nanos != answers[0].nanos))
             check_value(answer.nanos);
@@ -346,6 +352,7 @@ static void check(struct text text) {
     check_rounding(text);
     check_plain(text, answers[0]);
     check_default_units(text, answers);
+    check_more_names(answers);
     check_unit_name(text);
     check_unit_name(first_word(text));
 }

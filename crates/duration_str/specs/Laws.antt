@@ -303,8 +303,8 @@ pub record PartsAndRest : Type 0 where
   pub rest : (old new : Breakdown) (parts : List (TimeUnit × ℕ)) → Yields YieldsPart old parts new
       → nanos_left old ≡ sum_of_parts parts + nanos_left new
 
--- By the library's own table and under these options, the word names no unit. The advised name names
--- the unit that the word is near.
+-- By the library's own table and under these options, the word names no unit. The advised name
+-- names the unit that the word is near.
 pub record IsAdvised (o : Options) (word name : Characters) : Type 0 where
   pub unit : TimeUnit
   pub near : near_unit word ≡ Some unit

@@ -40,9 +40,9 @@ impl TimeUnit {
     }
 }
 
-/// Returns the packed number of a word that can be a name, and whether it has a Greek letter mu. All
-/// characters are unit letters, and it has no more bytes than the longest name. If `folds` is true,
-/// the micro sign stands in place of each Greek letter mu.
+/// Returns the packed number of a word that can be a name, and whether it has a Greek letter mu.
+/// All characters are unit letters, and it has no more bytes than the longest name. If `folds` is
+/// true, the micro sign stands in place of each Greek letter mu.
 #[inline(always)]
 pub(crate) fn packed_word(word: &str, o: Options, folds: bool) -> Option<(u64, bool)>
     ensures { result ≡ option_map (λ n. (n, list_any is_greek_mu (chars word.now)))

@@ -78,7 +78,8 @@ impl Rules {
     }
 
     /// Returns these rules with more names of the units, such as `mins`, `hrs` and `yr`. The units
-    /// have the library's own lengths: a month has 30 days and a year 365.
+    /// have the library's own lengths: a month has 30 days and a year 365. (The rules of
+    /// [`Rules::humantime`] read these names anyway, and would lose humantime's lengths.)
     #[inline(always)]
     #[must_use]
     pub const fn more_names(self) -> Rules

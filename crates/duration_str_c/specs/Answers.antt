@@ -29,8 +29,8 @@ abbrev pub unit_field : ℕ → ℕ
 unit_field bits = bits / 2 ^ 16
 
 -- whether the bits are options: the flags 1, 2, 4, 8 and 16, and a field of the four bits from 2^16
--- to 2^19. The field is 0, or a unit's index plus 1. If it is not 0, the flag 1 must be set, so that
--- no operators are read, and the flag 8, which requires a unit, must not be set
+-- to 2^19. The field is 0, or a unit's index plus 1. If it is not 0, the flag 1 must be set, so
+-- that no operators are read, and the flag 8, which requires a unit, must not be set
 abbrev pub are_options : ℕ → Bool
 are_options bits =
     bit_and bits 0xF001F == bits

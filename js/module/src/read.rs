@@ -41,7 +41,11 @@ unsafe extern "C" fn read(answer: *mut Answer, length: usize, bits: u32) -> f64 
         cn_unit: bits & 4 != 0,
     };
     let own = Rules::of(options).default_unit(default_unit(bits));
-    let rules = if bits & 16 != 0 { own.more_names() } else { own };
+    let rules = if bits & 16 != 0 {
+        own.more_names()
+    } else {
+        own
+    };
     let fault = match parse_nanos_specialized(text, rules) {
         Ok(nanos) => {
             answer.nanos = nanos;

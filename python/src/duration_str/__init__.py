@@ -43,6 +43,10 @@ With `cn_unit` these are read too:
 年 year, 月 month, 周 week, 日 天 day, 时 hour, 分 minute, 秒
 second, 毫秒 millisecond, 微秒 microsecond, 纳秒 nanosecond.
 
+With `more_names` these are read too:
+yr, yrs, qtr, qtrs, mons, mth, mths, wk, wks, hrs, mins, secs, msecs, milli,
+millis, µsecs, µseconds, usecs, useconds, micro, micros, nsecs, nano, nanos.
+
 To read a text:
 
   parse          as a timedelta

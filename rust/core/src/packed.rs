@@ -24,9 +24,9 @@ impl TimeUnit {
     }
 }
 
-/// Returns the packed number of a word that can be a name, and whether it has a Greek letter mu. All
-/// characters are unit letters, and it has no more bytes than the longest name. If `folds` is true,
-/// the micro sign stands in place of each Greek letter mu.
+/// Returns the packed number of a word that can be a name, and whether it has a Greek letter mu.
+/// All characters are unit letters, and it has no more bytes than the longest name. If `folds` is
+/// true, the micro sign stands in place of each Greek letter mu.
 #[inline(always)]
 pub(crate) fn packed_word(word: &str, o: Options, folds: bool) -> Option<(u64, bool)> {
     if word.len() > MOST_BYTES {

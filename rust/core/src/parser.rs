@@ -102,8 +102,8 @@ pub fn parse_by(input: &str, rules: Rules) -> Result<Duration, Fault<'_>> {
 
 /// Reads a text as `parse_by` does, and returns the duration in nanoseconds.
 ///
-/// For this call the reader is compiled once for each table of units, and once more for the rules of
-/// `parse`, for which it is faster. A program contains the copies that its rules can need.
+/// For this call the reader is compiled once for each table of units, and once more for the rules
+/// of `parse`, for which it is faster. A program contains the copies that its rules can need.
 ///
 /// # Errors
 ///
@@ -171,8 +171,8 @@ fn nanos_humantime(
 /// It refuses the same texts as [`parse_nanos`], for the same causes.
 ///
 /// ```text
-/// let case_sensitive = Options { lowercase: true, ..Options::off() };
-/// parse_nanos_specialized("1M 5mins", Rules::humantime(case_sensitive)) // Ok(2_630_316_000_000_000)
+/// let rules = Rules::humantime(Options { lowercase: true, ..Options::off() });
+/// parse_nanos_specialized("1M 5mins", rules) // Ok(2_630_316_000_000_000)
 /// ```
 #[inline(always)]
 pub fn parse_nanos_specialized(input: &str, rules: Rules) -> Result<u64, Fault<'_>> {

@@ -10,7 +10,8 @@ use proc_macro::{Delimiter, Span, TokenStream, TokenTree};
 ///
 /// The text is a literal without escapes. All options are off, whatever features are on, unless you
 /// name them after the text. They are `no_calc`, `lowercase`, `cn_unit`, and `require_unit`, with
-/// which each number must have its unit.
+/// which each number must have its unit. More names of units, such as in `5 mins`, are not read,
+/// since the error says which name to write.
 ///
 /// ```
 /// use duration_str::duration;

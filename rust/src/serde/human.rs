@@ -47,8 +47,9 @@
 //! # Ok::<(), serde_json::Error>(())
 //! ```
 //!
-//! [`human_require_unit`](crate::human_require_unit) refuses a number without a unit. To use
-//! another call or options, write a function for `deserialize_with`:
+//! [`human_require_unit`](crate::human_require_unit) refuses a number without a unit, and
+//! [`human_more_names`](crate::human_more_names) reads more names of units. To use another call or
+//! options, write a function for `deserialize_with`:
 //!
 //! ```
 //! use duration_str::{TimeUnit, parse_in};
@@ -101,7 +102,7 @@ use crate::human_format::Sealed;
 use crate::humantime;
 use crate::parser::{ADDITIONS, parse_with};
 use crate::serde::original::Length;
-use crate::{HUMAN_BUFFER_SIZE, TimeUnit, write_human};
+use crate::{HUMAN_BUFFER_SIZE, Rules, TimeUnit, write_human};
 use alloc::collections::BTreeMap;
 use alloc::string::String;
 use alloc::vec::Vec;
@@ -115,8 +116,9 @@ use serde::de::{
 use serde::ser::{self, Serialize, Serializer};
 
 /// The types of fields that this module, [`human_require_unit`](crate::human_require_unit),
-/// [`human_or_seconds`](crate::human_or_seconds), [`human_or_millis`](crate::human_or_millis) and
-/// [`humantime_serde`](crate::humantime_serde) write and read.
+/// [`human_more_names`](crate::human_more_names), [`human_or_seconds`](crate::human_or_seconds),
+/// [`human_or_millis`](crate::human_or_millis) and [`humantime_serde`](crate::humantime_serde)
+/// write and read.
 ///
 /// A map of durations is read by the module's rules, too:
 ///
@@ -193,6 +195,7 @@ pub(crate) const REQUIRE_UNIT: u8 = 1;
 pub(crate) const SECONDS: u8 = 2;
 pub(crate) const STRICT: u8 = 3;
 pub(crate) const MILLIS: u8 = 4;
+pub(crate) const MORE_NAMES: u8 = 5;
 
 /// If this is `None`, a number that is not a text is refused.
 const fn unit_of_numbers(how: u8) -> Option<TimeUnit> {
@@ -294,6 +297,7 @@ impl<'de, T: Length, const HOW: u8> Visitor<'de> for Text<T, HOW> {
             REQUIRE_UNIT => parse_by(text, REQUIRING_UNITS),
             STRICT => humantime::read(text),
             MILLIS => parse_by(text, naming(TimeUnit::MilliSecond)),
+            MORE_NAMES => parse_by(text, Rules::of(ADDITIONS).more_names()),
             _ => parse_with(text, ADDITIONS),
         };
         // A format can add a line and a column of its own, so the message says what it is about.

@@ -1,7 +1,6 @@
-use crate::{FEATURES, Refused, by_usual_calls, default_unit_of, options_of, vectors};
+use crate::{FEATURES, Refused, by_usual_calls, options_of, rules_of, vectors};
 use duration_str::{
-    Cause, DError, Expected, Fault, Options, Rules, TimeUnit, parse, parse_by, parse_require_unit,
-    parse_with,
+    Cause, DError, Expected, Fault, Options, Rules, parse, parse_by, parse_require_unit, parse_with,
 };
 use duration_str_core as proved;
 use std::error::Error;
@@ -52,14 +51,15 @@ fn checks_message(text: &str, options: Options, place: Option<usize>, line: &str
 fn tells_all_of_a_refusal() {
     for row in &vectors().refused {
         let Refused(text, names, cause, place, found, kinds, line, spaces) = row;
-        let (options, default_unit) = (options_of(names), default_unit_of(names));
-        let fault = parse_by(text, Rules::of(options).default_unit(default_unit)).expect_err(text);
+        let options = options_of(names);
+        let rules = rules_of(options, names);
+        let fault = parse_by(text, rules).expect_err(text);
         let got = (fault.place(), fault.found());
         assert_eq!(got, (*place, found.as_deref()), "{text}");
         assert_eq!(name_of(fault.cause()), cause, "{text}");
         assert_eq!(fault.expected().map_or(vec![], kinds_of), *kinds, "{text}");
         let error = fault.into_owned();
-        for same in by_usual_calls(text, options, default_unit) {
+        for same in by_usual_calls(text, rules) {
             assert_eq!(same.as_ref(), Err(&error), "{text}");
         }
         assert_eq!([fault.to_string(), error.to_string()], [&line[..]; 2]);
@@ -68,7 +68,7 @@ fn tells_all_of_a_refusal() {
         });
         let report = above + line;
         assert_eq!([fault.report(), error.report()], [&report[..]; 2]);
-        if cause != "MIXED" && default_unit == Some(TimeUnit::Second) {
+        if cause != "MIXED" && rules == Rules::of(options) {
             checks_message(text, options, *place, last_line(cause, kinds));
         }
     }

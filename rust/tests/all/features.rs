@@ -74,7 +74,9 @@ fn has_units(text: &str) -> bool {
 #[test]
 #[cfg(feature = "serde")]
 fn reads_fields_whatever_another_crate_takes_away() {
-    use duration_str::{deserialize_duration, human, human_or_seconds, human_require_unit};
+    use duration_str::{
+        deserialize_duration, human, human_more_names, human_or_seconds, human_require_unit,
+    };
     use serde_json::json;
     use std::time::Duration;
     for (text, is_read_by_the_older, is_read) in TEXTS {
@@ -82,11 +84,12 @@ fn reads_fields_whatever_another_crate_takes_away() {
         let optional: Result<Option<Duration>, _> = deserialize_duration(json!(text));
         let of_human: Result<Duration, _> = human::deserialize(json!(text));
         let with_numbers: Result<Duration, _> = human_or_seconds::deserialize(json!(text));
+        let with_names: Result<Duration, _> = human_more_names::deserialize(json!(text));
         let required: Result<Duration, _> = human_require_unit::deserialize(json!(text));
         let older = [older.is_ok(), optional.is_ok()];
         assert_eq!(older, [is_read_by_the_older; 2], "{text}");
-        let others = [of_human.is_ok(), with_numbers.is_ok()];
-        assert_eq!(others, [is_read; 2], "{text}");
+        let others = [of_human.is_ok(), with_numbers.is_ok(), with_names.is_ok()];
+        assert_eq!(others, [is_read; 3], "{text}");
         assert_eq!(required.is_ok(), is_read && has_units(text), "{text}");
     }
 }

@@ -2,8 +2,8 @@
 use crate::vectors;
 use duration_str::human::{self, HumanText};
 use duration_str::{
-    HumanDuration, Style, TimeUnit, UnknownStyle, UnknownUnit, human_or_millis, human_require_unit,
-    humantime_serde,
+    HumanDuration, Style, TimeUnit, UnknownStyle, UnknownUnit, human_more_names, human_or_millis,
+    human_require_unit, humantime_serde,
 };
 use serde::de::value::{BytesDeserializer, Error};
 use serde::de::{Deserializer, Error as _, Visitor};
@@ -292,6 +292,49 @@ fn requires_units_in_fields() {
     let number: Result<Duration, _> = human_require_unit::deserialize(Untyped("90"));
     assert!(number.is_err());
     assert!(human_require_unit::deserialize::<Duration, _>(json!(90)).is_err());
+}
+
+#[test]
+fn reads_more_names_in_fields() {
+    let text = json!({ "first": "5 mins", "later": ["2hrs 30", "1 yr"], "none": null });
+    let read: MoreNames = from_value(text).unwrap();
+    let wanted = MoreNames {
+        first: Duration::from_secs(300),
+        later: vec![Duration::from_secs(7_230), Duration::from_secs(31_536_000)],
+        none: None,
+    };
+    assert_eq!(read, wanted);
+    let written = json!({ "first": "5min", "later": ["2h 30s", "1y"], "none": null });
+    assert_eq!(to_value(&read).unwrap(), written);
+    for (refused, line) in [
+        (
+            "5 minz",
+            "unknown unit \"minz\" at column 3 (write y, q, mon, w, d, h, min, s, ms, us or ns)",
+        ),
+        (
+            "5 Mo",
+            "unknown unit \"Mo\" at column 3 (write y, q, mon, w, d, h, min, s, ms, us or ns)",
+        ),
+        (
+            "5 mos",
+            "unknown unit \"mos\" at column 3 (did you mean \"mon\"?)",
+        ),
+    ] {
+        let refusal = human_more_names::deserialize::<Duration, _>(json!(refused)).unwrap_err();
+        assert_eq!(refusal.to_string(), format!("invalid duration: {line}"));
+    }
+    assert!(human_more_names::deserialize::<Duration, _>(json!(300)).is_err());
+    assert!(human::deserialize::<Duration, _>(json!("5 mins")).is_err());
+}
+
+#[derive(Debug, Serialize, Deserialize, PartialEq)]
+struct MoreNames {
+    #[serde(with = "duration_str::human_more_names")]
+    first: Duration,
+    #[serde(with = "duration_str::human_more_names")]
+    later: Vec<Duration>,
+    #[serde(with = "duration_str::human_more_names")]
+    none: Option<Duration>,
 }
 
 #[test]

@@ -19,7 +19,8 @@ mod rounding;
 mod values;
 
 use duration_str::{
-    DurationError, Options, TimeUnit, humantime, parse_duration, parse_in, parse_require_unit,
+    DurationError, Options, Rules, TimeUnit, humantime, parse_duration, parse_in,
+    parse_require_unit,
 };
 use serde::Deserialize;
 use std::time::Duration;
@@ -46,6 +47,15 @@ fn default_unit_of(names: &[String]) -> Option<TimeUnit> {
     Some(named.map_or(TimeUnit::Second, |name| name.parse().unwrap()))
 }
 
+/// The rules with these options, and with what else the names say.
+fn rules_of(options: Options, names: &[String]) -> Rules {
+    let rules = Rules::of(options).default_unit(default_unit_of(names));
+    if has(names, "more_names") {
+        return rules.more_names();
+    }
+    rules
+}
+
 /// All choices of options, each as the names of the options that are on.
 fn choices() -> Vec<Vec<String>> {
     vectors().options.iter().fold(vec![vec![]], |lists, name| {
@@ -69,14 +79,14 @@ const ADDITIONS: Options = Options {
     ..Options::off()
 };
 
-/// What `parse_duration`, `parse_in` and `parse_require_unit` return for a text, if they read under
-/// these options with this default unit.
-fn by_usual_calls(
-    text: &str,
-    options: Options,
-    default_unit: Option<TimeUnit>,
-) -> Vec<Result<Duration, DurationError>> {
-    match default_unit {
+/// What `parse_duration`, `parse_in` and `parse_require_unit` return for a text, if they read by
+/// these rules.
+fn by_usual_calls(text: &str, rules: Rules) -> Vec<Result<Duration, DurationError>> {
+    let options = rules.options;
+    if rules == rules.more_names() {
+        return vec![];
+    }
+    match rules.default_unit {
         None if options == ADDITIONS => vec![parse_require_unit(text)],
         Some(TimeUnit::Second) if options == ADDITIONS => {
             vec![parse_duration(text), parse_in(text, TimeUnit::Second)]
@@ -90,7 +100,8 @@ fn by_usual_calls(
 
 #[derive(Deserialize)]
 struct Vectors {
-    /// A row may also name `require_unit` or a default unit, such as `default_unit=ms`.
+    /// A row may also name `more_names`, `require_unit` or a default unit, such as
+    /// `default_unit=ms`.
     options: Vec<String>,
     values: Vec<Group>,
     /// Numbers that are not texts: a default unit, a number, and its seconds and nanoseconds.

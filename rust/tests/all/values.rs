@@ -1,8 +1,7 @@
 use crate::near::near;
-use crate::{FEATURES, Group, by_usual_calls, choices, default_unit_of, has, options_of, vectors};
+use crate::{FEATURES, Group, by_usual_calls, choices, has, options_of, rules_of, vectors};
 use duration_str::{
-    Fault, Options, Rules, Style, TimeUnit, UNITS, parse, parse_by, parse_in, parse_std,
-    parse_with,
+    Fault, Options, Rules, Style, TimeUnit, UNITS, parse, parse_by, parse_in, parse_std, parse_with,
 };
 use duration_str_core as proved;
 use std::collections::BTreeSet;
@@ -22,20 +21,20 @@ fn answers(text: &str) -> Vec<Result<Duration, String>> {
 }
 
 fn check(group: &Group, options: Options, is_read: bool) {
-    let default_unit = default_unit_of(&group.on);
+    let rules = rules_of(options, &group.on);
     for (secs, nanos, texts) in &group.rows {
         for text in texts {
-            let answer = parse_by(text, Rules::of(options).default_unit(default_unit));
+            let answer = parse_by(text, rules);
             let wanted = is_read.then_some(Duration::new(*secs, *nanos));
             assert_eq!(
                 answer.as_ref().ok().copied(),
                 wanted,
-                "{text:?} under {options:?}, {default_unit:?}"
+                "{text:?} by {rules:?}"
             );
-            for same in by_usual_calls(text, options, default_unit) {
+            for same in by_usual_calls(text, rules) {
                 assert_eq!(same, answer.map_err(Fault::into_owned), "{text:?}");
             }
-            if default_unit == Some(TimeUnit::Second) {
+            if rules == Rules::of(options) {
                 check_seconds(text, options);
             }
         }
@@ -43,7 +42,10 @@ fn check(group: &Group, options: Options, is_read: bool) {
 }
 
 fn check_seconds(text: &str, options: Options) {
-    let wanted = parse_by(text, Rules::of(options).default_unit(Some(TimeUnit::Second)));
+    let wanted = parse_by(
+        text,
+        Rules::of(options).default_unit(Some(TimeUnit::Second)),
+    );
     assert_eq!(parse_with(text, options), wanted, "{text:?}");
     if options == FEATURES {
         let wanted = proved::parse_with(text, options).map_err(|fault| fault.to_string());
@@ -103,11 +105,18 @@ fn knows_whole_names_only() {
     let names: BTreeSet<&str> = words.collect();
     let words: BTreeSet<String> = names.iter().flat_map(|name| near(name)).collect();
     let choices: Vec<Options> = choices().iter().map(|names| options_of(names)).collect();
-    let mut counts = [0, 0];
+    let (mut counts, mut added) = ([0, 0], BTreeSet::new());
     for word in words {
         let is_word = !word.is_empty() && !word.contains(is_outside);
         for options in &choices {
-            let read = parse_with(&format!("1{word}"), *options).ok();
+            let text = format!("1{word}");
+            let read = parse_with(&text, *options).ok();
+            let by_more_names = parse_by(&text, Rules::of(*options).more_names()).ok();
+            if read.is_some() {
+                assert_eq!(by_more_names, read, "{word:?}");
+            } else if by_more_names.is_some() && is_word && options.lowercase {
+                added.insert(word.clone());
+            }
             let unit = TimeUnit::from_word(&word, *options);
             let length = unit.map(|unit| Duration::from_nanos(unit.nanos()));
             assert_eq!(length, read.filter(|_| is_word), "{word:?}");
@@ -117,6 +126,7 @@ fn knows_whole_names_only() {
         assert_eq!(word.parse().ok(), unit, "{word:?}");
     }
     assert!(counts.iter().all(|count| *count > 300), "{counts:?}");
+    assert_eq!(added.len(), 24, "{added:?}");
     for word in vectors.styles.iter().flat_map(|name| near(name)) {
         let is_style = word.parse::<Style>().is_ok();
         assert_eq!(is_style, vectors.styles.contains(&word), "{word:?}");

@@ -14,6 +14,7 @@ fn main() {
     duration!("3分");
     duration!("2H", lowercase);
     duration!("1h 30", require_unit);
+    duration!("5 mins");
     duration!();
     duration!(5);
     duration!(b"5s");

@@ -153,7 +153,8 @@ names_test v (name ∷ names) letters own =
     let parts = and_parts (are_name_letters name) _ own in
     rw (name_test v name letters parts.0, names_test v names letters parts.1)
 
--- The letters of these names are those that are packed, and the Chinese names have a Chinese letter.
+-- The letters of these names are those that are packed, and the Chinese names have a Chinese
+-- letter.
 pub record IsPackable (table : Table) : Type 0 where
   pub letters : (u : TimeUnit) → list_all are_name_letters (all_names_in table u) ≡ true
   pub chinese : (u : TimeUnit) → list_all (list_any is_chinese) (table u).chinese ≡ true
