@@ -7,8 +7,6 @@ status=0
 rows=0
 room=$(mktemp -d)
 log=$room/log
-# Wine 10 of Debian has no command wineserver.
-wine_folder=/usr/lib/x86_64-linux-gnu/wine
 clears() { chmod -R u+w "$room" && rm -rf "$room"; }
 trap clears EXIT
 # Incremental builds and debug symbols would only take time here.
