@@ -25,11 +25,11 @@
 # make clean           removes what was built and proved here, except dist/
 #
 # cargo, from Rust 1.85 on, builds the programs and the library. It needs no network. For another
-# machine, set target=TARGET to rustc's name of it, such as aarch64-unknown-linux-gnu, or
-# x86_64-pc-windows-gnu for Windows. That also needs a linker, and Rust's library for the target: by
-# `rustup target add TARGET`, or from Debian's package rust-web-src beside cargo-web 1.96 or later,
-# or in Debian sid from rust-src. With static=yes the program needs no shared library. If there is
-# rt but no cargo, rt builds the program for this machine.
+# machine, set target=TARGET to rustc's name of it, such as aarch64-unknown-linux-gnu. That also
+# needs a linker, and Rust's library for the target: by `rustup target add TARGET`, or from Debian's
+# package rust-web-src beside cargo-web 1.96 or later, or in Debian sid from rust-src. With
+# static=yes the program needs no shared library. If there is rt but no cargo, rt builds the program
+# for this machine.
 SHELL := bash
 .SHELLFLAGS := -euo pipefail -c
 .ONESHELL:
@@ -64,12 +64,6 @@ cargo = tools/cargo-for $(call quoted,$(target)) $(1) --quiet --profile $(profil
 static =
 comma := ,
 
-# For Windows, files have the names that cargo gives them there. The linker writes the time into
-# them unless it is told not to.
-windows := $(filter x86_64-pc-windows-gnu,$(target))
-durstr := durstr$(if $(windows),.exe)
-timeless := $(if $(windows),-C link-arg=-Wl$(comma)--no-insert-timestamp)
-
 # $(call serves,FILE,FOLDERS): succeeds if the file is up to date, and can't be built here: nothing
 # can be written, or make installs without cargo, as it may under sudo
 installing =
@@ -77,13 +71,13 @@ serves = { { [ ! -w . ] $(if $(installing),|| ! type -P cargo >/dev/null); } && 
     [ -z "$$(find Cargo.toml $(2) rust/core -newer $(1) -print -quit)" ]; }
 
 program:
-	@program="$(built)/$(durstr)"
+	@program="$(built)/durstr"
 	if $(call serves,"$$program",program); then
 	    :
 	elif type -P cargo >/dev/null; then
 	    [ -x "$$program" ] || echo 'durstr: cargo builds it, in seconds' >&2
 	    $(call cargo,std$(comma)panic_abort rustc) -p durstr --bin durstr -- \
-	        $(if $(static),-C target-feature=+crt-static) $(timeless)
+	        $(if $(static),-C target-feature=+crt-static)
 	elif type -P rt >/dev/null && [ '$(origin target)' = file ]; then
 	    program=crates/durstr/out/durstr
 	    [ -x $$program ] ||
@@ -103,7 +97,7 @@ library:
 	    object="$(built)/duration_str.o"
 	    $(call cargo,core rustc) -p duration-str-c \
 	        $(if $(findstring -none,$(target)),--crate-type staticlib) -- \
-	        $(if $(filter wasm%,$(target)),,--emit "obj=$$object") $(timeless)
+	        $(if $(filter wasm%,$(target)),,--emit "obj=$$object")
 	    [ ! -e "$$object" ] || { rm -f "$$archive" && ar rcs "$$archive" "$$object"; }
 	fi
 	echo $(built)
@@ -164,21 +158,13 @@ export DESTDIR
 open := (
 calls = $(shell export LC_ALL=C; sed '/^static /d' $(header) | \
     grep -o '\<duration_str_[a-z_]*$(open)' | tr -d '$(open)' | sort -u)
-# A linker takes $(linked) for the shared library. For Windows, that is an import library, and CMake
-# has to know both files.
-ifdef windows
-shared = $(bindir)/duration_str.dll $(libdir)/libduration_str.dll.a
-linked = $(shared)
-else
-shared = $(libdir)/$(soname)
-linked = $(libdir)/libduration_str.so
-endif
 cmake_files = $(addprefix cmake/duration_str/duration_str-config,.cmake -version.cmake)
 completions = $(addprefix $(datarootdir)/,bash-completion/completions/duration zsh/site-functions/_duration \
     fish/vendor_completions.d/duration.fish)
-installed = $(addprefix $(bindir)/,$(durstr) duration) $(addprefix $(mandir)/man1/,durstr.1 duration.1) $(completions) \
-    $(includedir)/duration_str.h $(sort $(shared) $(linked)) \
-    $(addprefix $(libdir)/,libduration_str.a pkgconfig/duration_str.pc $(cmake_files)) \
+installed = $(addprefix $(bindir)/,durstr duration) $(addprefix $(mandir)/man1/,durstr.1 duration.1) $(completions) \
+    $(includedir)/duration_str.h \
+    $(addprefix $(libdir)/,libduration_str.a libduration_str.so $(soname)) \
+    $(addprefix $(libdir)/,pkgconfig/duration_str.pc $(cmake_files)) \
     $(patsubst %,$(mandir)/man3/%.3,duration_str $(calls)) $(addprefix $(docdir)/,LICENSE NOTICE)
 
 # `put_text` writes its input to a file first, since without /proc there is no /dev/stdin. $$said
@@ -207,7 +193,6 @@ up = $(if $(filter $(prefix)/%,$(1)),$(2)$(subst $(space),,$(patsubst %,/..,$(su
 # $(call filled,FILE,VARIABLE,PREFIX): fills the template. In the folders, ${VARIABLE} is written in
 # place of the prefix. $$pointer is the size of a pointer in bytes
 filled = sed 's|@PREFIX@|$(3)|; s|@VERSION@|$(version)|; s|@LIBDIR@|$(call below,$(libdir),$(2))|; \
-    s|@LINKED@|$(subst $(space),"\n        IMPORTED_IMPLIB ",$(call below,$(linked),$(2)))|; \
     s|@INCLUDEDIR@|$(call below,$(includedir),$(2))|; s|@POINTER@|'"$$pointer|" c/$(1).in
 below = $(patsubst $(prefix)/%,$${$(2)}/%,$(1))
 cmake_up = $(call up,$(libdir)/cmake/duration_str,$${CMAKE_CURRENT_LIST_DIR})
@@ -239,7 +224,6 @@ installable:
 	    echo 'install: needs an operating system; make library makes an archive for $(target)' >&2
 	    exit 1
 	    ;;
-	x86_64-pc-windows-gnu) ;;
 	*-apple-* | *-windows-*)
 	    echo 'install: nothing is installed for $(target) (see docs/PROMISES.md)' >&2
 	    exit 1
@@ -259,21 +243,16 @@ install install-library: installable
 	if [ $@ = install ]; then
 	    program=$$($(MAKE) --silent program installing=yes target=$(target) static=$(static))
 	    programs=durstr
-	    put_program "$$program" $(bindir)/$(durstr)
+	    put_program "$$program" $(bindir)/durstr
 	    $(call page,program/durstr.1.in) | put_text $(mandir)/man1/durstr.1
 	fi
 	libraries=$$($(MAKE) --silent library installing=yes target=$(target))
 	put $(header) $(includedir)/duration_str.h
 	put "$$libraries/libduration_str.a" $(libdir)/libduration_str.a
-	# Cygwin loads a library only if it may be executed.
-	for file in $(shared); do
-	    name=$${file##*/}
-	    case $$name in *.dll) put=put_program ;; *) put=put ;; esac
-	    $$put "$$libraries/$${name%.[0-9]*}" "$$file"
-	done
-	[ -n '$(windows)' ] || ln -sf $(soname) "$$DESTDIR$(libdir)/libduration_str.so"
+	put "$$libraries/libduration_str.so" $(libdir)/$(soname)
+	ln -sf $(soname) "$$DESTDIR$(libdir)/libduration_str.so"
 	# The fifth byte of an ELF file is 1 if its pointers have four bytes, and 2 if they have eight.
-	pointer=$(if $(windows),8,$$((4 * $$(od -An -tu1 -j4 -N1 "$$libraries/libduration_str.so"))))
+	pointer=$$((4 * $$(od -An -tu1 -j4 -N1 "$$libraries/libduration_str.so")))
 	$(call filled,duration_str.pc,prefix,$(call up,$(libdir)/pkgconfig,$${pcfiledir})) |
 	    put_text $(libdir)/pkgconfig/duration_str.pc
 	$(foreach file,$(cmake_files),$(call filled,$(notdir $(file)),duration_str_prefix,$(cmake_up)) | \
@@ -306,8 +285,7 @@ install install-library: installable
 	[ -z "$$programs" ] || echo "install: $$programs: in $(bindir)$$where"
 	echo 'install: the library for C: in $(libdir), with its header in $(includedir)' \
 	    'and manual pages in $(mandir)'
-	echo 'install: programs find the shared library' \
-	    '$(if $(windows),on the PATH,once ldconfig knows $(libdir))'
+	echo 'install: programs find the shared library once ldconfig knows $(libdir)'
 	sed -n "s/^[^:]*: creating directory '\(.*\)'$$/\1/p" "$$said" |
 	    xargs -r realpath -m --relative-to=$(prefix) >>$(folders)
 

@@ -1,6 +1,7 @@
 """duration_model.py PROGRAM [SECONDS [SEED]]: runs the command `duration` with rows of
 rust/vectors.json, and then with random options, arguments and lines. It compares what the command
-does with a model, which reads and prints by the reference parser.
+does with a model, which reads and prints by the reference parser. If it has 10 seconds or more, it
+first tries words that are nearly those of options.
 """
 import collections
 import fractions
@@ -474,7 +475,8 @@ def main(program, seconds="20", seed=str(time.time_ns())):
     print(f"duration_model: seed {seed}")
     if names := untried(program):
         sys.exit(f"duration_model: not tried: {' '.join(sorted(names))}")
-    check_words(program)
+    if float(seconds) >= 10:
+        check_words(program)
     commands, usage, count = Commands(seed), Said(b"", b"error: ", 2), 0
     for options, data in vector_commands():
         is_usage = is_wrong(options, []) or options.get("parts") == 0

