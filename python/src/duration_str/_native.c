@@ -312,8 +312,8 @@ static int read_call(struct state *state, const char *call, PyObject *const *arg
     return is_read == 1 ? 0 : -1;
 }
 
-/* reading(*, no_calc, lowercase, cn_unit, require_unit, more_names, default_unit): returns how values are read,
- * in the form that read_list takes */
+/* reading(*, no_calc, lowercase, cn_unit, require_unit, more_names, default_unit): returns how
+ * values are read, in the form that read_list takes */
 static PyObject *reading(
     PyObject *self, PyObject *const *arguments, Py_ssize_t count, PyObject *keywords) {
     struct reading reading;
