@@ -368,8 +368,9 @@ def misspelt():
         print("repository: spelling skipped, codespell is missing (make setup)")
         return []
     files = tracked_files("*.md", "program/*.in", "c/*.in", "c/include/*.h")
-    # Codespell takes a word of Rust and two macros of manual pages for mistakes.
-    words = ["codespell", "--ignore-words-list", "crate,nd,fo", *files]
+    # Codespell takes a word of Rust and two macros of manual pages for mistakes. That of Debian 13
+    # also does so with a German word.
+    words = ["codespell", "--ignore-words-list", "crate,nd,fo,vor", *files]
     return subprocess.run(words, cwd=ROOT, capture_output=True, text=True).stdout.splitlines()
 
 

@@ -22,6 +22,7 @@ const MILLISECOND: u64 = 1_000_000;
 /// the longest one is a year in nanoseconds. The function of Rust's library that this replaces is
 /// seven times as large.
 #[unsafe(no_mangle)]
+#[allow(improper_ctypes_definitions)] // Rust 1.85 warns of 128-bit numbers.
 extern "C" fn __udivti3(dividend: u128, divisor: u128) -> u128 {
     let (high, divisor) = ((dividend >> 64) as u64, divisor as u64);
     let (mut left, mut rest) = (dividend as u64, high % divisor);
