@@ -1,7 +1,7 @@
 -- The date in UTC that is before or after a moment by the value of a text.
-use Rattle.std.specs.Prelude.{◌≡◌, ℕ, ◌<◌, ℤ, pos, ◌+ℤ◌, ◌*ℤ◌, ◌<ℤ◌, ◌≤ℤ◌, neg_ℤ, ◌⊎◌, Result, chars}
+use Rattle.std.specs.Prelude.{◌≡◌, ℕ, ℤ, pos, ◌≤ℤ◌, neg_ℤ, ◌⊎◌, Result, chars}
 use Rattle.jiff.specs.Types.{Date, DateTime}
-use Rattle.jiff.specs.Words.{epoch_day, time_nanos}
+use Rattle.jiff.specs.Words.{civil_nanos}
 use Rattle.duration_str.specs.declared.cause.Cause.{Cause}
 use Rattle.duration_str.specs.declared.cause.Cause.TheVariants.{OutOfRange}
 use Rattle.duration_str.specs.declared.fault.Fault.{Fault}
@@ -11,20 +11,13 @@ use Rattle.duration_str.specs.OtherResults.{IsValueOrFault}
 use Rattle.duration_str.specs.Reading.{IsRead, IsRefused}
 use Rattle.duration_str.specs.Rules.{rules_of}
 
-abbrev pub day_nanos : ℕ
-day_nanos = 86_400_000_000_000
-
--- The instant, in nanoseconds since 1970-01-01T00:00:00Z, is nanosecond `k` of day `day`. Day 0 is
--- 1970-01-01.
-abbrev pub IsInDay : ℤ → ℤ → ℕ → Type 0
-IsInDay instant day k = (k < day_nanos) × (instant ≡ day *ℤ pos day_nanos +ℤ pos k)
-
--- This is the date and time of the instant in UTC.
+-- This is the date and time, in UTC, of the instant, in nanoseconds since 1970-01-01T00:00:00Z.
+-- `civil_nanos` counts them on a clock whose days have 24 hours.
 abbrev pub IsCivil : ℤ → DateTime → Type 0
-IsCivil instant at = IsInDay instant (epoch_day at.date) (time_nanos at.time)
+IsCivil instant at = civil_nanos at ≡ instant
 
 abbrev pub IsCivilDay : ℤ → Date → Type 0
-IsCivilDay instant date = (k : ℕ) × IsInDay instant (epoch_day date) k
+IsCivilDay instant date = (at : DateTime) × IsCivil instant at × (date ≡ at.date)
 
 -- `Timestamp::MIN`, -9999-01-02T01:59:59Z
 abbrev pub first_instant : ℤ
@@ -38,15 +31,12 @@ last_instant = pos 253_402_207_200_999_999_999
 abbrev pub IsInRange : ℤ → Type 0
 IsInRange instant = (first_instant ≤ℤ instant) × (instant ≤ℤ last_instant)
 
-abbrev pub IsOutOfRange : ℤ → Type 0
-IsOutOfRange instant = (instant <ℤ first_instant) ⊎ (last_instant <ℤ instant)
-
--- The text is refused for this cause. Or it is read, the instant that its value reaches is out of
+-- The text is refused for this cause. Or it is read, the instant that its value reaches is not in
 -- range, and the cause is `OutOfRange`.
 abbrev pub IsDateFault : (ℕ → ℤ) → Bytes → Cause → Type 0
 IsDateFault reached bytes cause =
     IsRefused (rules_of off) (chars bytes) cause
-    ⊎ ((nanos : ℕ) × IsRead (rules_of off) (chars bytes) nanos × IsOutOfRange (reached nanos) × (cause ≡ OutOfRange))
+    ⊎ ((nanos : ℕ) × IsRead (rules_of off) (chars bytes) nanos × (IsInRange (reached nanos) → ⊥) × (cause ≡ OutOfRange))
 
 -- The text is read, the instant that its value reaches is in range, and `shows` holds for that
 -- instant and the value in `Ok`. Or the result is a fault with this text, and `IsDateFault` holds

@@ -1,5 +1,5 @@
 -- The messages of faults, and the error made from a fault.
-use Rattle.std.specs.Prelude.{◌≢◌, ℕ, Bool, ◌++◌, Option, Some, None, if◌then◌else◌, chars, codes, length, take, replicate, decimal, encode_utf8_all, string_bytes, ⊤, ◌≡◌, ◌==◌}
+use Rattle.std.specs.Prelude.{◌≢◌, ℕ, Bool, ◌++◌, Option, Some, None, if◌then◌else◌, chars, codes, length, take, replicate, decimal, encode_utf8_all, string_bytes, ◌≡◌, ◌==◌}
 use Rattle.std.specs.List.{list_any, last_or}
 use Rattle.duration_str.specs.declared.operator.CondUnit.{CondUnit}
 use Rattle.duration_str.specs.declared.operator.CondUnit.TheVariants.{Plus, Star}
@@ -65,10 +65,6 @@ abbrev pub laid_out : Layout → Bytes → Bytes → Bytes
 laid_out Line text line = line
 laid_out (Byte place) text line = byte_text place line
 laid_out (Caret spaces) text line = caret_text text spaces line
-
-abbrev pub IsOverflow : Cause → Type 0
-IsOverflow (Overflow place) = ⊤
-IsOverflow _ = ⊥
 
 abbrev pub IsParseError : {A : Type 0} → Characters → DError A → Type 0
 IsParseError line (ParseError text) = string_bytes text ≡ encode_utf8_all line

@@ -1,6 +1,7 @@
 //! Errors that don't borrow the text, made from faults.
 ghost use Rattle.std.specs.Prelude.{IfOk, IsOk};
-ghost use Rattle.duration_str.specs.Messages.{IsErrorOf, IsOverflow};
+ghost use Rattle.duration_str.specs.Messages.{IsErrorOf};
+ghost use Rattle.duration_str.specs.declared.error.DError.TheVariants.{OverflowError};
 
 use crate::cause::Cause;
 use crate::fault::Fault;
@@ -38,7 +39,7 @@ impl Fault<'_> {
     /// ```
     pub fn to_derror<A: Allocator>(&self, alloc: A) -> Result<DError<A>, AllocError>
         ensures error { IfOk result (IsErrorOf self.now.cause) }
-        ensures overflow { IsOverflow self.now.cause → IsOk result }
+        ensures overflow { IsErrorOf {A = A} self.now.cause OverflowError → IsOk result }
     {
         match self.cause {
             Cause::Overflow { .. } => Ok(DError::OverflowError),

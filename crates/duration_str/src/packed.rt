@@ -1,6 +1,32 @@
 //! A word's letters packed into one number, and the unit that such a number names. The letters are
-//! its digits, to the base 40. Without the option `lowercase`, a capital has the same digit as its
-//! small letter.
+//! its digits, to the base 40:
+//!
+//! ```text
+//! letter   a .. z   µ   年  月  周  日  天  时  分  秒  毫  微  纳   M
+//! digit    1 .. 26  27  28  29  30  31  32  33  34  35  36  37  38   39
+//!
+//!  h    r                m    i    n
+//! +----+----+           +----+----+----+
+//! |  8 | 18 |  = 338    | 13 |  9 | 14 |  = 21,174
+//! +----+----+           +----+----+----+
+//!   40    1              1600   40    1
+//! ```
+//!
+//! Without the option `lowercase`, a capital has the same digit as its small letter. With it, `M` is
+//! the only capital with a digit that is in a name.
+//!
+//! To find the unit, the number is multiplied by a constant, so that each name has a slot of its
+//! own:
+//!
+//! ```text
+//!  packed * SPREAD
+//! +--------+---------------------------------+
+//! |  slot  |                                 |
+//! +--------+---------------------------------+
+//!  63    57 56                              0
+//!
+//! SLOTS[slot] is the index in NAMES of the only name that the word can be.
+//! ```
 ghost use Rattle.std.specs.Prelude.{◌≡◌, ◌+◌, ◌*◌, ◌%◌, ◌^◌, ◌&&◌, ◌||◌, ◌==◌, true, if◌then◌else◌, Some};
 ghost use Rattle.std.specs.Char.{is_ascii_alphabetic};
 ghost use Rattle.std.specs.List.{list_any};

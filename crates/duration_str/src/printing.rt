@@ -393,7 +393,27 @@ fn put_days(buffer: &mut [u8], secs: u64) -> (usize, u32)
 
 /// Writes the parts of a duration below 1,000 years. From the hour on, each count is computed from
 /// the seconds after the days or from the nanoseconds after the seconds, so that none has to wait
-/// for the count before it.
+/// for the count before it:
+///
+/// ```text
+///  whole days          seconds of a day    nanoseconds of a second
+/// +-------------------+-------------------+-------------------+
+/// |  y  q  mon  w  d  |    h  min  s      |    ms  µs  ns     |
+/// +-------------------+-------------------+-------------------+
+/// ```
+///
+/// All parts are written, one after another, and each of them over a part with the count 0. So for
+/// `1h 29ms` the buffer begins with these bytes, where `_` is a space:
+///
+/// ```text
+/// count   bytes           the next part is written at
+/// 1       1h_             3
+/// 0       1h_0min_        3
+/// 0       1h_0s_          3
+/// 29      1h_29ms_        8
+/// 0       1h_29ms_0µs_    8
+/// 0       1h_29ms_0ns_    8, so the text has 7 bytes
+/// ```
 #[inline(never)]
 fn put_whole(buffer: &mut [u8], d: Duration) -> usize
     requires short { as_nanos d < 1000 * nanos_of Year }

@@ -9,16 +9,6 @@ pub const OFF: Options = Options {
     cn_unit: false,
 };
 
-pub const NO_CALC: Options = Options {
-    no_calc: true,
-    ..OFF
-};
-
-pub const LOWERCASE: Options = Options {
-    lowercase: true,
-    ..OFF
-};
-
 pub const CN_UNIT: Options = Options {
     cn_unit: true,
     ..OFF
@@ -43,22 +33,6 @@ pub const AFTER_UNIT: Expected = Expected {
     number: true,
     unit_word: false,
     operator: true,
-    text_end: true,
-};
-
-/// What can stand after a number under `no_calc`.
-pub const ALONE_AFTER_NUMBER: Expected = Expected {
-    number: false,
-    unit_word: true,
-    operator: false,
-    text_end: true,
-};
-
-/// What can stand after a unit under `no_calc`.
-pub const ALONE_AFTER_UNIT: Expected = Expected {
-    number: true,
-    unit_word: false,
-    operator: false,
     text_end: true,
 };
 

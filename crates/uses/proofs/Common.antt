@@ -1,8 +1,6 @@
 pub use Rattle.duration_str.proofs.Characters.CharacterLemmas.{run-not_blank}
-pub use Rattle.duration_str.specs.Tokens.{Token}
-pub use Rattle.duration_str.specs.declared.operator.CondUnit.{CondUnit}
 pub use Rattle.std.proofs.lemmas.Bool.{true≢false}
-pub use Rattle.std.proofs.lemmas.List.{length-take, reverse-reverse, take-map, take_all}
+pub use Rattle.std.proofs.lemmas.List.{reverse-reverse}
 pub use Rattle.std.proofs.lemmas.List.Sorted.{IsNonDecreasingBy-from_sort_by_key, IsPermutation-sym, IsPermutation-trans, sum_by-IsPermutation}
 pub use Rattle.std.specs.List.Sorted.{IsNonDecreasingBy, IsPermutation}
 pub use Rattle.uses.specs.Common.{Cause, Duration, Expected, Fault, Options, Plus, Star, Syntax}

@@ -1,12 +1,7 @@
 pub mod CacheLemmas
 pub mod Common
-pub mod CompletionLemmas
-pub mod CutLemmas
-pub mod FollowLemmas
-pub mod HelpLemmas
 pub mod LineLemmas
-pub mod PortableLemmas
 pub mod ProductLemmas
+pub mod PromptLemmas
 pub mod StoredLemmas
 pub mod SumLemmas
-pub mod SyntaxLemmas

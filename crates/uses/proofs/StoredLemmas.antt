@@ -1,6 +1,8 @@
 -- Lemmas about results of reading, given the value or the cause of the text.
-use Rattle.std.proofs.Common.{ap, chars, Err, IsErrAnd, IsOkAnd, List, Ok, Option, refl, Result, Some, ℕ, ◌∙◌, ◌≡◌}
-use Rattle.duration_str.proofs.Common.{as_nanos, IsRead, IsRefused, nanos_of, older_row_of, older_rules, OlderTexts, OneReading, Parses, rules_of, unit_of_word}
+use Rattle.std.proofs.Common.{ap, Bool, chars, Err, false, IsErrAnd, IsOkAnd, List, Ok, Option, refl, Result, Some, true, ℕ, ◌↔◌, ◌∙◌, ◌≡◌}
+use Rattle.duration_str.proofs.Common.{as_nanos, HasNoCapital, HasNoOperator, IsRead, IsRefused, nanos_of, NoCalcAgrees, older_row_of, older_rules, OlderTexts, OneReading, OptionsIdle, Parses, Rules, rules_of, unit_of_word}
+use Rattle.duration_str.specs.Laws.{with_lowercase, with_no_calc}
+use Rattle.duration_str.specs.OtherResults.{Reads}
 use Rattle.duration_str.specs.Units.{UnitRow}
 use Rattle.duration_str.specs.declared.unit.TimeUnit.{TimeUnit}
 use Rattle.uses.proofs.Common.{Cause, Duration, Fault, Options}
@@ -25,3 +27,20 @@ named_unit_kept older o name found unit nanos row h is was there =
     let same : found ≡ unit = cc in
     let length : nanos ≡ row.nanos = is ∙ (ap nanos_of same ∙ (older.units unit row there).length) in
     rw (same, length) refl
+
+-- If the text is read as this value, the result is the value.
+pub nanos_answered : OneReading → (r : Rules) (bytes : List ℕ) (result : Result ℕ Fault) (nanos : ℕ) → Reads r bytes result
+    → IsRead r (chars bytes) nanos → result ≡ Ok nanos
+nanos_answered law r bytes (Ok n) nanos reads read = ap Ok (law.one_value r (chars bytes) n nanos reads.read read)
+nanos_answered law r bytes (Err fault) nanos reads read = absurd (let ok = reads.accepts nanos read in cc)
+
+turned_on : (P : Bool → Type 0) (b : Bool) → (P true ↔ P false) → P b → P true
+turned_on P true ways h = h
+turned_on P false ways h = ways.1 h
+
+pub strict_value : NoCalcAgrees → OptionsIdle → (r : Rules) (text : List ℕ) (nanos : ℕ) → HasNoOperator text
+    → HasNoCapital text → IsRead r text nanos → IsRead (with_lowercase (with_no_calc r true) true) text nanos
+strict_value agrees idle r text nanos plain small read =
+    let first = turned_on (λ (b : Bool). IsRead (with_no_calc r b) text nanos) r.options.no_calc (agrees r text nanos plain) read in
+    turned_on (λ (b : Bool). IsRead (with_lowercase (with_no_calc r true) b) text nanos) r.options.lowercase
+    ((idle.lowercase (with_no_calc r true) text small).value nanos) first

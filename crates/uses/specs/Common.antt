@@ -1,11 +1,9 @@
-pub use Rattle.duration_str.specs.Answer.{allows}
 pub use Rattle.duration_str.specs.Grammar.{IsSentenceOf, terminal_of}
-pub use Rattle.duration_str.specs.Laws.{HasNoStar, is_operator, counts_of, IsLexeme, AllPlus}
+pub use Rattle.duration_str.specs.Laws.{HasNoStar, counts_of, AllPlus}
 pub use Rattle.duration_str.specs.Printing.{IsGreatestBreakdown, IsPrintedIn, printed_counts}
 pub use Rattle.duration_str.specs.Options.{off}
 pub use Rattle.duration_str.specs.Reading.{IsRead, IsRefused}
 pub use Rattle.duration_str.specs.Rules.{Rules, rules_of, rules_with}
-pub use Rattle.duration_str.specs.Text.{byte_len, is_chinese}
 pub use Rattle.duration_str.specs.Units.{nanos_of, unit_lengths}
 pub use Rattle.duration_str.specs.Value.{Term, written_terms}
 pub use Rattle.duration_str.specs.declared.cause.Cause.{Cause}

@@ -1,5 +1,5 @@
 -- The time that is left, as it is shown.
-use Rattle.std.specs.Prelude.{◌≡◌, ℕ, ◌^◌, ◌<◌, ◌≤◌, ◌↔◌, List, Option}
+use Rattle.std.specs.Prelude.{◌≡◌, ℕ, ◌^◌, ◌<◌, ◌≤◌, List, Option}
 use Rattle.duration_str.specs.declared.format.Format.{Format}
 use Rattle.duration_str.specs.declared.format.TheConstants.Units.{ALL}
 use Rattle.duration_str.specs.declared.options.Options.{Options}
@@ -24,7 +24,3 @@ pub record IsShown (left : ℕ) (text : List ℕ) (shown : ℕ) : Type 0 where
   pub read : (default_unit : Option TimeUnit) (o : Options) → shown < 2 ^ 64
       → IsRead (rules_with o default_unit) text shown
   pub again : IsPrintedWithin coarse shown text
-
--- The two times are shown as the same texts.
-abbrev pub ShowsSame : ℕ → ℕ → Type 0
-ShowsSame m n = (text : List ℕ) → (IsPrintedWithin coarse m text ↔ IsPrintedWithin coarse n text)

@@ -1,9 +1,6 @@
 pub mod Cache
 pub mod Common
-pub mod Completion
 pub mod Countdown
-pub mod Help
 pub mod Line
-pub mod Portable
 pub mod Product
 pub mod Sum

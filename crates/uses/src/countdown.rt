@@ -1,11 +1,13 @@
 //! Shows the time that is left.
 #![tactic(auto)]
 
-ghost use Rattle.std.specs.Prelude.{◌≡◌, ◌+◌, ◌≤◌, ℕ, IsTrue, List, chars};
+ghost use Rattle.std.specs.Prelude.{◌≡◌, ◌↔◌, ◌+◌, ◌≤◌, ℕ, List, chars};
 ghost use Rattle.duration_str.specs.Breakdown.{AreParts, sum_of_parts};
+ghost use Rattle.duration_str.specs.Format.{IsPrintedWithin};
+ghost use Rattle.duration_str.specs.Rounding.{PrintsWhole};
 ghost use Rattle.duration_str.specs.declared.unit.TimeUnit.{TimeUnit};
 ghost use Rattle.uses.specs.Common.{as_nanos, IsPrintedIn};
-ghost use Rattle.uses.specs.Countdown.{coarse, IsShown, ShowsSame};
+ghost use Rattle.uses.specs.Countdown.{coarse, IsShown};
 
 use duration_str::laws::{all_parts, never_more, one_rounding, parts_and_rest};
 use duration_str::{
@@ -33,23 +35,23 @@ pub fn time_left<'b>(left: &Duration, buffer: &'b mut [u8; FORMAT_BUFFER_SIZE]) 
     )
 }
 
-/// Whether `time_left` writes the same text for both times, so that nothing has to be drawn.
+/// Returns the time that `time_left` shows. As long as it stays the same, the text does too, and
+/// nothing has to be drawn.
 ///
 /// ```text
-/// shows_same(&Duration::new(5_400, 999_999_999), &Duration::new(5_400, 0)) // true
+/// shown(&Duration::new(5_400, 999_999_999)) // 5,400 seconds
 /// ```
-pub fn shows_same(before: &Duration, after: &Duration) -> bool
-    ensures { IsTrue result → ShowsSame (as_nanos before.now) (as_nanos after.now) }
+pub fn shown(left: &Duration) -> Duration
+    ensures whole { PrintsWhole coarse (as_nanos result) }
+    ensures text { (text : List ℕ) → (IsPrintedWithin coarse (as_nanos left.now) text
+        ↔ IsPrintedWithin coarse (as_nanos result) text) }
 {
     one_rounding();
     let format = Format::whole().smallest(TimeUnit::Second).parts(2);
-    let Some(shown) = round_to(before, format, Rounding::Down) else {
-        return false;
-    };
-    let Some(next) = round_to(after, format, Rounding::Down) else {
-        return false;
-    };
-    shown.as_nanos() == next.as_nanos()
+    match round_to(left, format, Rounding::Down) {
+        Some(shown) => shown,
+        None => Duration::ZERO,
+    }
 }
 
 /// Returns how many nanoseconds `time_left` does not show.

@@ -3,23 +3,21 @@
 #![tactic(auto)]
 
 pub mod cache;
-pub mod completion;
 pub mod countdown;
 pub mod help;
 pub mod line;
 pub mod log;
-pub mod portable;
 pub mod product;
+pub mod prompt;
 pub mod stored;
 pub mod sum;
 
 pub use cache::{canonical, key, read_back};
-pub use completion::{Completion, complete, complete_humantime, is_unfinished};
-pub use countdown::{in_parts, not_shown, shows_same, time_left};
-pub use help::{Example, examples, humantime_examples, refused_words};
+pub use countdown::{in_parts, not_shown, shown, time_left};
+pub use help::{default_timeout, refused_words};
 pub use line::without_line_feed;
 pub use log::add_entry;
-pub use portable::{is_portable, keeps_value_without_humantime};
 pub use product::{Part, scaled};
-pub use stored::{stored_duration, stored_unit};
+pub use prompt::{is_unfinished, needs_letters};
+pub use stored::{more_strictly, stored_duration, stored_unit, with_more_names};
 pub use sum::{longest_first, total_of};

@@ -1,0 +1,54 @@
+//! What a prompt shows where a text can't be read yet.
+#![tactic(auto)]
+
+ghost use Rattle.std.specs.Prelude.{◌≡◌, ◌↔◌, ◌&&◌, ℕ, false, length, Some, IsTrue, chars};
+ghost use Rattle.uses.specs.Common.{Syntax, Expected as Kinds, IsRefused};
+ghost use Rattle.duration_str.specs.Meaning.{meaning_of};
+
+use duration_str::laws::{one_sentence, place_and_kinds};
+use duration_str::{Cause, Rules, parse_by};
+
+/// Returns whether a text has a syntax fault at its end, so that a prompt should wait for more.
+///
+/// ```text
+/// is_unfinished("1m +", Rules::of(Options::off())) // true
+/// is_unfinished("1m -", Rules::of(Options::off())) // false
+/// is_unfinished("1h 30", Rules::of(Options::off()).default_unit(None)) // true: the unit is missing
+/// ```
+pub fn is_unfinished(text: &str, rules: Rules) -> bool
+    ensures { (place : ℕ) (expected : Kinds)
+        → IsRefused (meaning_of rules) (chars text.now) (Syntax place expected)
+        → (IsTrue result ↔ (place ≡ length text.now)) }
+{
+    one_sentence();
+    match parse_by(text, rules) {
+        Ok(_) => false,
+        Err(fault) => {
+            matches!(fault.cause(), Cause::Syntax { .. }) && fault.found(rules.options).is_none()
+        }
+    }
+}
+
+/// Returns whether a keyboard should have letters, for a unit, and not digits, for a number, at the
+/// place of a syntax fault. It needs no more than one of them, since never both are expected. The
+/// result is `None` if the text has no syntax fault.
+///
+/// ```text
+/// needs_letters("1m 3-5", Rules::of(Options::off())) // Some(true), after `1m 3`
+/// needs_letters("1m+", Rules::of(Options::off()))    // Some(false)
+/// ```
+pub fn needs_letters(text: &str, rules: Rules) -> Option<bool>
+    ensures { (place : ℕ) (expected : Kinds)
+        → IsRefused (meaning_of rules) (chars text.now) (Syntax place expected)
+        → (result ≡ Some expected.unit_word) × ((expected.number && expected.unit_word) ≡ false) }
+{
+    one_sentence();
+    place_and_kinds();
+    match parse_by(text, rules) {
+        Ok(_) => None,
+        Err(fault) => match fault.cause() {
+            Cause::Syntax { expected, .. } => Some(expected.unit_word),
+            _ => None,
+        },
+    }
+}
