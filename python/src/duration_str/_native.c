@@ -625,19 +625,6 @@ static PyObject *format(
     return text_of_value(state, arguments[0], state->kept[NANOS_OF], &limits);
 }
 
-/* The count of the first part, which can be 2^64 or more. It is the number with which the text
- * begins. */
-static PyObject *printed_count(const struct duration *duration, uint32_t units) {
-    char buffer[DURATION_STR_FORMAT_WITH_BUFFER_SIZE];
-    duration_str_format_with(
-        duration->secs, duration->nanos, units, 1, DURATION_STR_STYLE_SHORT, buffer);
-    char *end = buffer;
-    while (*end >= '0' && *end <= '9')
-        end++;
-    *end = '\0';
-    return PyLong_FromString(buffer, NULL, 10);
-}
-
 static PyObject *member(const char *module, const char *name) {
     PyObject *imported = PyImport_ImportModule(module);
     PyObject *taken = imported ? PyObject_GetAttrString(imported, name) : NULL;
@@ -667,16 +654,14 @@ static PyObject *named_tuple(PyObject *type, PyObject *items) {
     return made;
 }
 
-/* `first` is the count of the first part if it is 2^64 or more, and otherwise NULL. */
-static PyObject *list_of_parts(struct state *state, const uint64_t *counts, PyObject *first) {
+static PyObject *list_of_parts(struct state *state, const uint64_t *counts) {
     PyObject *parts = PyList_New(0);
     for (int unit = 0; parts && unit < DURATION_STR_UNIT_COUNT; unit++) {
         if (!counts[unit])
             continue;
-        const bool is_large = first && PyList_Size(parts) == 0;
-        PyObject *count = is_large ? Py_NewRef(first) : PyLong_FromUnsignedLongLong(counts[unit]);
-        PyObject *part = named_tuple(
-            state->kept[PART], Py_BuildValue("(NO)", count, state->kept[UNIT_NAMES + unit]));
+        PyObject *part =
+            named_tuple(state->kept[PART], Py_BuildValue("(KO)", (unsigned long long)counts[unit],
+                                               state->kept[UNIT_NAMES + unit]));
         if (!part || PyList_Append(parts, part))
             Py_CLEAR(parts);
         Py_XDECREF(part);
@@ -686,23 +671,15 @@ static PyObject *list_of_parts(struct state *state, const uint64_t *counts, PyOb
 
 static PyObject *breakdown_of(
     struct state *state, const struct duration *duration, const struct limits *limits) {
-    uint64_t counts[DURATION_STR_UNIT_COUNT], rest = 0;
-    PyObject *first = NULL;
+    uint64_t counts[DURATION_STR_UNIT_COUNT], rest;
     if (!duration_str_breakdown(
             duration->secs, duration->nanos, limits->units, limits->parts, counts, &rest)) {
-        /* The count of the longest unit is 2^64 or more, so each unit is shorter than a second, and
-         * a second is a multiple of it. Then the seconds only add to that count, so the other
-         * counts and the rest are the same with 1 second. (With 0 seconds that unit could have no
-         * part, and a shorter unit could have one instead.) */
-        first = printed_count(duration, limits->units);
-        if (!first || !duration_str_breakdown(
-                          1, duration->nanos, limits->units, limits->parts, counts, &rest))
-            return NULL;
+        PyErr_SetString(PyExc_OverflowError, "a count is 2**64 or more: choose a longer unit");
+        return NULL;
     }
-    PyObject *list = list_of_parts(state, counts, first);
+    PyObject *list = list_of_parts(state, counts);
     PyObject *parts = list ? PyList_AsTuple(list) : NULL;
     Py_XDECREF(list);
-    Py_XDECREF(first);
     if (!parts)
         return NULL;
     return named_tuple(
@@ -1002,13 +979,13 @@ PyDoc_STRVAR(breakdown_doc,
     "nanoseconds, or a timedelta (also NumPy's).\n\n"
     "Returns a named tuple of the `parts` and of the nanoseconds that no part has,\n"
     "`rest_ns`. Each part is a named tuple of the `count` and the `unit`, by the\n"
-    "name that `format` prints in the short style. A count may be 2**64 or more.\n\n"
+    "name that `format` prints in the short style.\n\n"
     "The parts are those that the printed text has, so a duration of 0 has none. The\n"
     "counts, each times the length of its unit, and the rest are together the\n"
     "duration.\n\n"
-    "The options and the errors are those of `format`, which also has a style. If\n"
-    "`rounding` is `nearest` or `up`, the parts are those of the rounded duration,\n"
-    "and the rest is 0.\n\n"
+    "The options and the errors are those of `format`, which also has a style. If a\n"
+    "count is 2**64 or more, OverflowError is raised, too. If `rounding` is `nearest`\n"
+    "or `up`, the parts are those of the rounded duration, and the rest is 0.\n\n"
     ">>> parts, rest_ns = duration_str.breakdown(193_029_000_000, parts=2)\n"
     ">>> parts\n"
     "(Part(count=3, unit='min'), Part(count=13, unit='s'))\n"
