@@ -312,8 +312,8 @@ static int read_call(struct state *state, const char *call, PyObject *const *arg
     return is_read == 1 ? 0 : -1;
 }
 
-/* reading(*, no_calc, lowercase, cn_unit, require_unit, more_names, default_unit): returns how values are read,
- * in the form that read_list takes */
+/* reading(*, no_calc, lowercase, cn_unit, require_unit, more_names, default_unit): returns how
+ * values are read, in the form that read_list takes */
 static PyObject *reading(
     PyObject *self, PyObject *const *arguments, Py_ssize_t count, PyObject *keywords) {
     struct reading reading;
@@ -580,18 +580,13 @@ static inline int take_duration(
     return failed ? -1 : !is_missing;
 }
 
-/* Rounds the duration as the limits say. (What is printed is rounded down without this.) */
-static int round_duration(struct duration *duration, const struct limits *limits) {
-    if (limits->rounding == DURATION_STR_ROUNDING_DOWN ||
-        duration_str_round(
-            &duration->secs, &duration->nanos, limits->units, limits->parts, limits->rounding))
-        return 0;
+static void raise_too_long(void) {
     PyErr_SetString(
         PyExc_ValueError, "no duration below 2**64 seconds is long enough for rounding='up'");
-    return -1;
 }
 
-/* The call without limits is faster, but takes only durations below 2^64 nanoseconds. */
+/* The call without limits is faster, but takes only durations below 2^64 nanoseconds. Returns NULL
+ * with an error if there is nothing to round up to. */
 static PyObject *text_of(const struct duration *duration, const struct limits *limits) {
     char buffer[DURATION_STR_FORMAT_WITH_BUFFER_SIZE];
     const bool is_whole = !memcmp(limits, &no_limits, sizeof *limits);
@@ -599,8 +594,10 @@ static PyObject *text_of(const struct duration *duration, const struct limits *l
         is_whole && duration->secs < UINT64_MAX / SECOND
             ? duration_str_format(duration->secs * SECOND + duration->nanos, buffer)
             : duration_str_format_with(duration->secs, duration->nanos, limits->units,
-                  limits->parts, limits->style, buffer);
-    return PyUnicode_FromStringAndSize(buffer, (Py_ssize_t)length);
+                  limits->parts, limits->rounding, limits->style, buffer);
+    if (!length)
+        raise_too_long();
+    return length ? PyUnicode_FromStringAndSize(buffer, (Py_ssize_t)length) : NULL;
 }
 
 static inline PyObject *text_of_value(
@@ -609,9 +606,7 @@ static inline PyObject *text_of_value(
     const int is_there = take_duration(state, value, function, &duration);
     if (!is_there)
         return Py_NewRef(Py_None);
-    if (is_there < 0 || round_duration(&duration, limits))
-        return NULL;
-    return text_of(&duration, limits);
+    return is_there < 0 ? NULL : text_of(&duration, limits);
 }
 
 static PyObject *format(
@@ -672,9 +667,15 @@ static PyObject *list_of_parts(struct state *state, const uint64_t *counts) {
 static PyObject *breakdown_of(
     struct state *state, const struct duration *duration, const struct limits *limits) {
     uint64_t counts[DURATION_STR_UNIT_COUNT], rest;
-    if (!duration_str_breakdown(
-            duration->secs, duration->nanos, limits->units, limits->parts, counts, &rest)) {
-        PyErr_SetString(PyExc_OverflowError, "a count is 2**64 or more: choose a longer unit");
+    if (!duration_str_breakdown(duration->secs, duration->nanos, limits->units, limits->parts,
+            limits->rounding, counts, &rest)) {
+        /* If there is a unit of a second or longer, each count is below 2^64. If there is none, and
+         * nothing is long enough to round up to, a count is 2^64 or more, too. */
+        if (limits->units &
+            DURATION_STR_UNITS_BETWEEN(DURATION_STR_UNIT_YEAR, DURATION_STR_UNIT_SECOND))
+            raise_too_long();
+        else
+            PyErr_SetString(PyExc_OverflowError, "a count is 2**64 or more: choose a longer unit");
         return NULL;
     }
     PyObject *list = list_of_parts(state, counts);
@@ -698,8 +699,7 @@ static PyObject *breakdown(
     if (keep_type(state, PART, "Part") || keep_type(state, BREAKDOWN, "Breakdown"))
         return NULL;
     /* nanos_of never returns None, so no value is missing here. */
-    if (take_duration(state, arguments[0], state->kept[NANOS_OF], &duration) != 1 ||
-        round_duration(&duration, &limits))
+    if (take_duration(state, arguments[0], state->kept[NANOS_OF], &duration) != 1)
         return NULL;
     return breakdown_of(state, &duration, &limits);
 }
