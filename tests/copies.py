@@ -42,7 +42,7 @@ def paragraphs():
     ):
         yield name, before, after, filled(paragraph, width, prefix)
     end = '\\n\\n"'
-    for paragraph, before in (printing, "(`1 hour 30 minutes`)"), (parts, "may be 2**64 or more."):
+    for paragraph, before in (printing, "(`1 hour 30 minutes`)"), (parts, "in the short style."):
         lines = in_c_strings(filled(paragraph, 79, ""))
         yield f"{PYTHON}/_native.c", f'{before}{end}\n    "', end, lines
 

@@ -149,19 +149,27 @@ static void check_null_results(void) {
             "a report without an answer");
     }
     uint64_t counts[DURATION_STR_UNIT_COUNT];
-    expect(duration_str_breakdown(193, 29000000, DURATION_STR_UNITS_ALL, 2, counts, NULL) &&
+    expect(duration_str_breakdown(193, 29000000, DURATION_STR_UNITS_ALL, 2,
+               DURATION_STR_ROUNDING_DOWN, counts, NULL) &&
                counts[DURATION_STR_UNIT_MINUTE] == 3 && counts[DURATION_STR_UNIT_SECOND] == 13,
         "counts without the rest");
     counts[0] = 7;
-    expect(!duration_str_breakdown(1, 0, 0, 2, counts, NULL) && counts[0] == 7,
+    expect(!duration_str_breakdown(1, 0, 0, 2, DURATION_STR_ROUNDING_DOWN, counts, NULL) &&
+               counts[0] == 7,
         "no counts without the rest");
 }
 
-static bool is_printed(uint64_t secs, uint32_t nanos, uint32_t units, uint32_t parts,
-    uint32_t style, const char *wanted) {
+static bool is_rounded(uint64_t secs, uint64_t nanos, uint32_t units, uint32_t parts,
+    uint32_t rounding, uint32_t style, const char *wanted) {
     char printed[DURATION_STR_FORMAT_WITH_BUFFER_SIZE];
-    return duration_str_format_with(secs, nanos, units, parts, style, printed) == strlen(wanted) &&
+    return duration_str_format_with(secs, nanos, units, parts, rounding, style, printed) ==
+               strlen(wanted) &&
            strcmp(printed, wanted) == 0;
+}
+
+static bool is_printed(uint64_t secs, uint64_t nanos, uint32_t units, uint32_t parts,
+    uint32_t style, const char *wanted) {
+    return is_rounded(secs, nanos, units, parts, DURATION_STR_ROUNDING_DOWN, style, wanted);
 }
 
 static void check_printing(void) {
@@ -176,6 +184,11 @@ static void check_printing(void) {
     expect(
         is_printed(5401, 0, all, 256, DURATION_STR_STYLE_COMPACT, "1h30min1s"), "a compact style");
     expect(is_printed(193, 29000000, all, 256, style, "3min 13s 29ms"), "more parts than units");
+    expect(is_printed(0, 193029000000, all, 256, style, "3min 13s 29ms") &&
+               is_printed(190, 3029000000, all, 256, style, "3min 13s 29ms"),
+        "nanoseconds of more than a second");
+    expect(
+        is_printed(193, 0, all, 2, DURATION_STR_STYLE_LONG + 1, ""), "a style above the last one");
     const uint32_t years_and_days = DURATION_STR_UNITS(day) | DURATION_STR_UNITS(year);
     expect(is_printed(400 * 86400, 0, years_and_days, 2, style, "1y 35d"), "years and days");
     expect(is_printed(4295057357, 5, DURATION_STR_UNITS(second), 9, style, "4295057357s"),
@@ -194,8 +207,8 @@ static void check_printing(void) {
 }
 
 struct breakdown {
-    uint64_t secs;
-    uint32_t nanos, units, parts;
+    uint64_t secs, nanos;
+    uint32_t units, parts, rounding;
     uint64_t counts[DURATION_STR_UNIT_COUNT], rest;
 };
 
@@ -203,46 +216,53 @@ struct breakdown {
 static bool is_broken_down(const struct breakdown *wanted) {
     uint64_t counts[DURATION_STR_UNIT_COUNT], rest = 77;
     memset(counts, '#', sizeof counts);
-    return duration_str_breakdown(
-               wanted->secs, wanted->nanos, wanted->units, wanted->parts, counts, &rest) &&
+    return duration_str_breakdown(wanted->secs, wanted->nanos, wanted->units, wanted->parts,
+               wanted->rounding, counts, &rest) &&
            memcmp(counts, wanted->counts, sizeof counts) == 0 && rest == wanted->rest;
 }
 
 static void check_breakdowns(void) {
-    const uint32_t all = DURATION_STR_UNITS_ALL,
+    const uint32_t all = DURATION_STR_UNITS_ALL, down = DURATION_STR_ROUNDING_DOWN,
+                   nearest = DURATION_STR_ROUNDING_NEAREST, up = DURATION_STR_ROUNDING_UP,
                    second = DURATION_STR_UNITS(DURATION_STR_UNIT_SECOND),
                    millisecond = DURATION_STR_UNITS(DURATION_STR_UNIT_MILLISECOND);
     const struct breakdown rows[] = {
-        {39689999, 123456789, all, 11, {1, 1, 0, 0, 3, 8, 59, 59, 123, 456, 789}, 0},
+        {39689999, 123456789, all, 11, down, {1, 1, 0, 0, 3, 8, 59, 59, 123, 456, 789}, 0},
+        {0, 39689999123456789, all, 11, down, {1, 1, 0, 0, 3, 8, 59, 59, 123, 456, 789}, 0},
+        {7199, 0, all, 1, down, {0, 0, 0, 0, 0, 1, 0, 0, 0, 0, 0}, 3599000000000},
+        {7199, 0, all, 1, nearest, {0, 0, 0, 0, 0, 2, 0, 0, 0, 0, 0}, 0},
+        {193, 29000000, all, 1, nearest, {0, 0, 0, 0, 0, 0, 3, 0, 0, 0, 0}, 0},
+        {193, 29000000, all, 1, up, {0, 0, 0, 0, 0, 0, 4, 0, 0, 0, 0}, 0},
         /* A rest of 2^64 - 1 nanoseconds, and counts of 2^64 - 1 milliseconds and seconds */
-        {18446744073, 709551615, all, 0, {0, 0, 0, 0, 0, 0, 0, 0, 0, 0, 0}, UINT64_MAX},
-        {18446744073709551, 615999999, millisecond, 1, {0, 0, 0, 0, 0, 0, 0, 0, UINT64_MAX, 0, 0},
-            999999},
-        {UINT64_MAX, 999999999, second, 1, {0, 0, 0, 0, 0, 0, 0, UINT64_MAX, 0, 0, 0}, 999999999},
+        {18446744073, 709551615, all, 0, down, {0, 0, 0, 0, 0, 0, 0, 0, 0, 0, 0}, UINT64_MAX},
+        {18446744073709551, 615999999, millisecond, 1, down,
+            {0, 0, 0, 0, 0, 0, 0, 0, UINT64_MAX, 0, 0}, 999999},
+        {UINT64_MAX, 999999999, second, 1, down, {0, 0, 0, 0, 0, 0, 0, UINT64_MAX, 0, 0, 0},
+            999999999},
         /* 584,942,417,355 years of 31,536,000 seconds, and 2,271,615 seconds */
-        {UINT64_MAX, 0, all, 11, {584942417355, 0, 0, 3, 5, 7, 0, 15, 0, 0, 0}, 0},
+        {UINT64_MAX, 0, all, 11, down, {584942417355, 0, 0, 3, 5, 7, 0, 15, 0, 0, 0}, 0},
     };
     for (size_t at = 0; at < sizeof rows / sizeof *rows; at++)
         expect(is_broken_down(&rows[at]), "a breakdown");
     uint64_t counts[DURATION_STR_UNIT_COUNT], rest = 77;
-    expect(!duration_str_breakdown(18446744073709551, 616000000, millisecond, 1, counts, &rest) &&
-               !duration_str_breakdown(18446744073, 709551616, all, 0, counts, &rest) && rest == 77,
+    expect(!duration_str_breakdown(
+               18446744073709551, 616000000, millisecond, 1, down, counts, &rest) &&
+               !duration_str_breakdown(18446744073, 709551616, all, 0, down, counts, &rest) &&
+               !duration_str_breakdown(
+                   18446744073709551, 615999999, millisecond, 1, up, counts, &rest) &&
+               rest == 77,
         "a count or a rest of 2^64");
+    expect(!duration_str_breakdown(UINT64_MAX, 1000000000, all, 11, down, counts, &rest) &&
+               !duration_str_breakdown(1, 0, all + 1, 11, down, counts, &rest) &&
+               !duration_str_breakdown(1, 0, all, 11, up + 1, counts, &rest) && rest == 77,
+        "wrong arguments");
 }
 
 struct rounded {
-    uint64_t secs;
-    uint32_t nanos, units, parts, rounding;
-    uint64_t wanted_secs;
-    uint32_t wanted_nanos;
+    uint64_t secs, nanos;
+    uint32_t units, parts, rounding;
+    const char *wanted; /* the empty text if the duration is refused */
 };
-
-static bool rounds(const struct rounded *row, bool is_rounded) {
-    uint64_t secs = row->secs;
-    uint32_t nanos = row->nanos;
-    return duration_str_round(&secs, &nanos, row->units, row->parts, row->rounding) == is_rounded &&
-           secs == row->wanted_secs && nanos == row->wanted_nanos;
-}
 
 static void check_rounding(void) {
     const uint32_t down = DURATION_STR_ROUNDING_DOWN, nearest = DURATION_STR_ROUNDING_NEAREST,
@@ -254,33 +274,37 @@ static void check_rounding(void) {
     /* 584,942,417,355 years. One more would be more than 2^64 seconds. */
     const uint64_t last_year = 18446744073707280000u;
     const struct rounded rows[] = {
-        {7199, 0, all, 1, down, 3600, 0},
-        {7199, 0, all, 1, nearest, 7200, 0},
-        {7199, 0, all, 2, down, 7140, 0},
-        {7199, 0, all, 2, up, 7200, 0},
-        {59, 900000000, second, 11, down, 59, 0},
-        {59, 900000000, second, 11, nearest, 60, 0},
-        {0, 1001500, all, 2, down, 0, 1001000},
-        {0, 1001500, all, 2, nearest, 0, 1002000},
-        {5, 7, all, 11, up, 5, 7},
-        {29 * 86400, 0, months_and_weeks, 2, nearest, 30 * 86400, 0},
-        {5, 7, all, 0, down, 0, 0},
-        {last_year - 1, 1, year, 1, up, last_year, 0},
-        {UINT64_MAX, 999999999, year, 1, nearest, last_year, 0},
-        {UINT64_MAX, 999999999, all, 11, up, UINT64_MAX, 999999999},
+        {7199, 0, all, 1, down, "1h"},
+        {7199, 0, all, 1, nearest, "2h"},
+        {0, 7199000000000, all, 1, nearest, "2h"},
+        {7199, 0, all, 2, down, "1h 59min"},
+        {7199, 0, all, 2, up, "2h"},
+        {59, 900000000, second, 11, down, "59s"},
+        {59, 900000000, second, 11, nearest, "60s"},
+        {0, 1001500, all, 2, down, "1ms 1\xc2\xb5s"},
+        {0, 1001500, all, 2, nearest, "1ms 2\xc2\xb5s"},
+        {5, 7, all, 11, up, "5s 7ns"},
+        {29 * 86400, 0, months_and_weeks, 2, nearest, "1mon"},
+        {5, 7, all, 0, down, "0s"},
+        {5, 7, all, 0, nearest, "0s"},
+        {last_year - 1, 1, year, 1, up, "584942417355y"},
+        {UINT64_MAX, 999999999, year, 1, nearest, "584942417355y"},
+        {UINT64_MAX, 999999999, second, 1, down, "18446744073709551615s"},
+        {UINT64_MAX, 1000000000, second, 1, down, ""},
+        {5, 7, 0, 1, nearest, ""},
+        {5, 7, all + 1, 1, nearest, ""},
+        {5, 7, all, 1, up + 1, ""},
+        {0, 1, all, 0, up, ""},
+        {UINT64_MAX, 0, year, 1, up, ""},
     };
-    for (size_t at = 0; at < sizeof rows / sizeof *rows; at++)
-        expect(rounds(&rows[at], true), "a rounded duration");
-    const struct rounded refused[] = {
-        {5, 1000000000, all, 1, down, 5, 1000000000},
-        {5, 7, 0, 1, down, 5, 7},
-        {5, 7, all + 1, 1, down, 5, 7},
-        {5, 7, all, 1, up + 1, 5, 7},
-        {0, 1, all, 0, up, 0, 1},
-        {UINT64_MAX, 0, year, 1, up, UINT64_MAX, 0},
-    };
-    for (size_t at = 0; at < sizeof refused / sizeof *refused; at++)
-        expect(rounds(&refused[at], false), "a duration that is not rounded");
+    for (size_t at = 0; at < sizeof rows / sizeof *rows; at++) {
+        const struct rounded *row = &rows[at];
+        expect(is_rounded(row->secs, row->nanos, row->units, row->parts, row->rounding,
+                   DURATION_STR_STYLE_SHORT, row->wanted),
+            "a rounded duration");
+    }
+    expect(is_rounded(7199, 0, all, 1, nearest, DURATION_STR_STYLE_LONG, "2 hours"),
+        "a rounded duration in the long style");
 }
 
 static void check_unit_names(void) {

@@ -101,7 +101,25 @@ pub struct Archive;
 /// `DURATION_STR_UNITS_ALL`
 const ALL_UNITS: u32 = 0x7FF;
 
+/// `DURATION_STR_ROUNDING_DOWN`
+const DOWN: u32 = 0;
+
+/// `DURATION_STR_ROUNDING_NEAREST`
+const NEAREST: u32 = 1;
+
 impl Archive {
+    fn printing_with(length: Duration, parts: u32, rounding: u32) -> usize {
+        let (secs, nanos) = (length.as_secs(), u64::from(length.subsec_nanos()));
+        let mut buffer = [0; 144];
+        let start = buffer.as_mut_ptr();
+        // SAFETY: the buffer has the 144 bytes that may be written.
+        let end =
+            unsafe { duration_str_format_with(secs, nanos, ALL_UNITS, parts, rounding, 0, start) };
+        assert!(end > 0, "nothing is printed");
+        black_box(&buffer);
+        end
+    }
+
     fn answer(text: &str, options: u32) -> (Answer, bool) {
         let mut answer = Answer::default();
         // SAFETY: the pointer and length are a slice's, and `answer` is laid out as in the header.
@@ -131,19 +149,13 @@ unsafe extern "C" {
     fn duration_str_format(nanos: u64, buffer: *mut u8) -> usize;
     fn duration_str_format_with(
         secs: u64,
-        nanos: u32,
-        units: u32,
-        parts: u32,
-        style: u32,
-        buffer: *mut u8,
-    ) -> usize;
-    fn duration_str_round(
-        secs: *mut u64,
-        nanos: *mut u32,
+        nanos: u64,
         units: u32,
         parts: u32,
         rounding: u32,
-    ) -> bool;
+        style: u32,
+        buffer: *mut u8,
+    ) -> usize;
     fn duration_str_parse_with(
         text: *const u8,
         length: usize,
@@ -187,21 +199,11 @@ impl Library for Archive {
     }
 
     fn printing_parts(length: Duration, parts: u32) -> usize {
-        let (secs, nanos, mut buffer) = (length.as_secs(), length.subsec_nanos(), [0; 144]);
-        // SAFETY: the buffer has the 144 bytes that may be written.
-        let end = unsafe {
-            duration_str_format_with(secs, nanos, ALL_UNITS, parts, 0, buffer.as_mut_ptr())
-        };
-        black_box(&buffer);
-        end
+        Archive::printing_with(length, parts, DOWN)
     }
 
     fn printing_rounded(length: Duration, parts: u32) -> usize {
-        let (mut secs, mut nanos) = (length.as_secs(), length.subsec_nanos());
-        // SAFETY: only `secs` and `nanos` are read and written.
-        let is_rounded = unsafe { duration_str_round(&mut secs, &mut nanos, ALL_UNITS, parts, 1) };
-        assert!(is_rounded, "nothing is nearest");
-        Archive::printing_parts(Duration::new(secs, nanos), parts)
+        Archive::printing_with(length, parts, NEAREST)
     }
 
     fn refusing(text: &str, buffer: &mut [u8; ROOM]) -> usize {

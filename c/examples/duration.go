@@ -65,10 +65,9 @@ func (duration Duration) Clock() string {
 	if nanos < 0 {
 		nanos = 0
 	}
-	secs, rest := C.uint64_t(nanos/time.Second), C.uint32_t(nanos%time.Second)
 	var counts [C.DURATION_STR_UNIT_COUNT]C.uint64_t
-	var left C.uint64_t
-	C.duration_str_breakdown(secs, rest, 1<<h|1<<min|1<<s, 3, &counts[0], &left)
+	const units, down = 1<<h | 1<<min | 1<<s, C.DURATION_STR_ROUNDING_DOWN
+	C.duration_str_breakdown(0, C.uint64_t(nanos), units, 3, down, &counts[0], nil)
 	return fmt.Sprintf("%d:%02d:%02d", counts[h], counts[min], counts[s])
 }
 

@@ -227,10 +227,16 @@ enum duration_str_style {
     DURATION_STR_STYLE_LONG = 2     /* `1 hour 30 minutes` */
 };
 
-/* How a duration is rounded to one that prints whole. */
+/* To which duration another one is rounded before it is printed or broken
+ * down. */
 enum duration_str_rounding {
-    DURATION_STR_ROUNDING_DOWN = 0,    /* as it is printed */
-    DURATION_STR_ROUNDING_NEAREST = 1, /* of two as near, to the longer one */
+    /* to none: what doesn't fit into the units and parts is left out */
+    DURATION_STR_ROUNDING_DOWN = 0,
+    /* to the nearest one whose text in the same units and parts leaves nothing
+     * out, or to the longer of two that are equally near */
+    DURATION_STR_ROUNDING_NEAREST = 1,
+    /* to the shortest one that is not below it and whose text in the same units
+     * and parts leaves nothing out */
     DURATION_STR_ROUNDING_UP = 2
 };
 
@@ -275,12 +281,19 @@ size_t duration_str_format(
     uint64_t nanos,
     char buffer[DURATION_STR_AT_LEAST DURATION_STR_FORMAT_BUFFER_SIZE]);
 
-/* Prints a duration of `secs` seconds and `nanos` nanoseconds to the start of
- * `buffer`, which has DURATION_STR_FORMAT_WITH_BUFFER_SIZE bytes. Returns the
- * length of the text, at most DURATION_STR_MAX_LONG_LEN.
+/* Prints a duration to the start of `buffer`, which has
+ * DURATION_STR_FORMAT_WITH_BUFFER_SIZE bytes. Returns the length of the text,
+ * at most DURATION_STR_MAX_LONG_LEN.
  *
- * `units` is the set of the chosen units, `parts` is the greatest number of
- * parts, and `style` is one of `enum duration_str_style`.
+ * The duration is `secs` seconds and `nanos` nanoseconds together, and `nanos`
+ * may be a second or more. So you give a value that was read as 0 and `nanos`,
+ * a number of seconds as `secs` and 0, and a `struct timespec` as its fields.
+ * Neither may be negative before it becomes unsigned, as in a difference of two
+ * structures: -1 would be some 584 years.
+ *
+ * `units` is the set of the chosen units, and `parts` is the greatest number of
+ * parts. `rounding` is one of `enum duration_str_rounding`, and `style` is one
+ * of `enum duration_str_style`.
  *
  * The text has as many of the largest chosen unit as fit into the duration,
  * then as many of the next one as fit into the rest, and so on. Counts of 0
@@ -290,19 +303,29 @@ size_t duration_str_format(
  * unit is shorter than a second.
  *
  * For example, 90,061 seconds in two parts are `1d 1h`, and 180 days in all
- * units without the quarter and the week are `6mon`.
+ * units without the quarter and the week are `6mon`. In one part, 7,199
+ * seconds, which are 1h 59min 59s, are `1h`, or `2h` if they are rounded to the
+ * nearest. This prints `2h`:
  *
- * Returns 0, and the text is empty, if `nanos` is 1,000,000,000 or more, if
- * `style` is above 2, or if `units` is the empty set or above
- * DURATION_STR_UNITS_ALL. */
-DURATION_STR_NONNULL(6)
+ *     char text[DURATION_STR_FORMAT_WITH_BUFFER_SIZE];
+ *     duration_str_format_with(7199, 0, DURATION_STR_UNITS_ALL, 1,
+ *                              DURATION_STR_ROUNDING_NEAREST,
+ *                              DURATION_STR_STYLE_SHORT, text);
+ *     puts(text);
+ *
+ * Returns 0, and the text is empty, if the duration is 2^64 seconds or more, if
+ * `rounding` or `style` is above 2, if `units` is the empty set or above
+ * DURATION_STR_UNITS_ALL, or if there is nothing to round up to. The last can
+ * be only if `parts` is 0, or above some 584 billion years. */
+DURATION_STR_NONNULL(7)
 size_t duration_str_format_with(
-    uint64_t secs, uint32_t nanos, uint32_t units, uint32_t parts,
-    uint32_t style,
+    uint64_t secs, uint64_t nanos, uint32_t units, uint32_t parts,
+    uint32_t rounding, uint32_t style,
     char buffer[DURATION_STR_AT_LEAST DURATION_STR_FORMAT_WITH_BUFFER_SIZE]);
 
-/* Breaks a duration of `secs` seconds and `nanos` nanoseconds down into the
- * units of the set `units`, in at most `parts` parts.
+/* Breaks a duration of `secs` seconds and `nanos` nanoseconds together down
+ * into the units of the set `units`, in at most `parts` parts. The arguments up
+ * to `rounding` are those of duration_str_format_with.
  *
  * Returns true, and writes to `counts` how many there are of each unit. The
  * count of a unit is at the unit's number in `enum duration_str_time_unit`. It
@@ -314,6 +337,9 @@ size_t duration_str_format_with(
  * The counts, each times the length of its unit, and the rest are together the
  * duration.
  *
+ * If the duration is rounded up or to the nearest, the parts are those of the
+ * rounded duration, and the rest is 0.
+ *
  * For example, 193 seconds and 29,000,000 nanoseconds in two parts of all units
  * are 3 minutes and 13 seconds, and the rest is 29,000,000. If `parts` is 0, all
  * counts are 0, and the rest is the whole duration. This prints 3,723 seconds as
@@ -322,52 +348,24 @@ size_t duration_str_format_with(
  *     const uint32_t units = DURATION_STR_UNITS_BETWEEN(
  *         DURATION_STR_UNIT_HOUR, DURATION_STR_UNIT_SECOND);
  *     uint64_t counts[DURATION_STR_UNIT_COUNT];
- *     if (duration_str_breakdown(3723, 0, units, 3, counts, NULL))
+ *     if (duration_str_breakdown(3723, 0, units, 3, DURATION_STR_ROUNDING_DOWN,
+ *                                counts, NULL))
  *         printf("%" PRIu64 ":%02" PRIu64 ":%02" PRIu64 "\n",
  *                counts[DURATION_STR_UNIT_HOUR],
  *                counts[DURATION_STR_UNIT_MINUTE],
  *                counts[DURATION_STR_UNIT_SECOND]);
  *
- * Returns false, and leaves `counts` and `*rest` unchanged, if `nanos` is
- * 1,000,000,000 or more, if `units` is the empty set or above
- * DURATION_STR_UNITS_ALL, or if a count or the rest is 2^64 or more. A count
- * can be that large only if each unit in the set is shorter than a second, and
- * the rest only if `parts` is 0. */
-DURATION_STR_MUST_USE DURATION_STR_NONNULL(5)
+ * Returns false, and leaves `counts` and `*rest` unchanged, if the duration is
+ * 2^64 seconds or more, if `rounding` is above 2, if `units` is the empty set or
+ * above DURATION_STR_UNITS_ALL, if there is nothing to round up to, or if a
+ * count or the rest is 2^64 or more. A count can be that large only if each unit
+ * in the set is shorter than a second, and the rest only if `parts` is 0. */
+DURATION_STR_MUST_USE DURATION_STR_NONNULL(6)
 bool duration_str_breakdown(
-    uint64_t secs, uint32_t nanos, uint32_t units, uint32_t parts,
+    uint64_t secs, uint64_t nanos, uint32_t units, uint32_t parts,
+    uint32_t rounding,
     uint64_t counts[DURATION_STR_AT_LEAST DURATION_STR_UNIT_COUNT],
     uint64_t *rest);
-
-/* Rounds a duration of `*secs` seconds and `*nanos` nanoseconds to one that
- * prints whole in the units of the set `units` and at most `parts` parts, so
- * that its text leaves nothing out. `rounding` is one of
- * `enum duration_str_rounding`: down to the greatest such duration that is not
- * longer, up to the least that is not shorter, or to the nearest.
- *
- * Returns true, and writes the rounded duration to `*secs` and `*nanos`. Print
- * it by duration_str_format_with, in the same units and parts. For example,
- * 7,199 seconds, which are 1h 59min 59s, are rounded down to 3,600 seconds in
- * one part, and to the nearest or up to 7,200. This prints `2h`:
- *
- *     uint64_t secs = 7199;
- *     uint32_t nanos = 0;
- *     char text[DURATION_STR_FORMAT_WITH_BUFFER_SIZE];
- *     if (duration_str_round(&secs, &nanos, DURATION_STR_UNITS_ALL, 1,
- *                            DURATION_STR_ROUNDING_NEAREST)) {
- *         duration_str_format_with(secs, nanos, DURATION_STR_UNITS_ALL, 1,
- *                                  DURATION_STR_STYLE_SHORT, text);
- *         puts(text);
- *     }
- *
- * Returns false, and leaves `*secs` and `*nanos` unchanged, if `*nanos` is
- * 1,000,000,000 or more, if `units` is the empty set or above
- * DURATION_STR_UNITS_ALL, if `rounding` is above 2, or if nothing that prints
- * whole is long enough to round up to. The last can be only if `parts` is 0,
- * or above some 584 billion years. */
-DURATION_STR_MUST_USE DURATION_STR_NONNULL(1, 2)
-bool duration_str_round(uint64_t *secs, uint32_t *nanos, uint32_t units,
-                        uint32_t parts, uint32_t rounding);
 
 /* Reads a text under these options. Returns true if it is read. Writes to
  * `*answer` the value, or why the text is refused. */

@@ -1,7 +1,7 @@
 //! Makes slices of C's pointers, and calls the proved functions of the same names. A pointer to
 //! write to is an `Option` if the header lets it be null.
 #![deny(clippy::no_mangle_with_rust_abi)]
-use crate::{answer::Answer, breakdown, format, message, rounding, unit};
+use crate::{answer::Answer, breakdown, format, message, unit};
 use core::mem::{MaybeUninit, offset_of, zeroed};
 use core::slice::from_raw_parts;
 
@@ -63,41 +63,32 @@ extern "C" fn duration_str_format(nanos: u64, out: &mut MaybeUninit<[u8; 64]>) -
 #[unsafe(no_mangle)]
 extern "C" fn duration_str_format_with(
     secs: u64,
-    nanos: u32,
+    nanos: u64,
     units: u32,
     parts: u32,
+    rounding: u32,
     style: u32,
     out: &mut MaybeUninit<[u8; 144]>,
 ) -> usize {
     written(out, |buffer| {
-        format::duration_str_format_with(secs, nanos, units, parts, style, buffer)
+        format::duration_str_format_with(secs, nanos, units, parts, rounding, style, buffer)
     })
 }
 
 #[unsafe(no_mangle)]
 extern "C" fn duration_str_breakdown(
     secs: u64,
-    nanos: u32,
+    nanos: u64,
     units: u32,
     parts: u32,
+    rounding: u32,
     counts: &mut MaybeUninit<[u64; breakdown::UNIT_COUNT]>,
     rest: Option<&mut MaybeUninit<u64>>,
 ) -> bool {
     let (mut each, mut left) = ([0; breakdown::UNIT_COUNT], 0);
-    breakdown::duration_str_breakdown(secs, nanos, units, parts, &mut each, &mut left)
+    breakdown::duration_str_breakdown(secs, nanos, units, parts, rounding, &mut each, &mut left)
         .then(|| (counts.write(each), rest.map(|rest| rest.write(left))))
         .is_some()
-}
-
-#[unsafe(no_mangle)]
-extern "C" fn duration_str_round(
-    secs: &mut u64,
-    nanos: &mut u32,
-    units: u32,
-    parts: u32,
-    rounding: u32,
-) -> bool {
-    rounding::duration_str_round(secs, nanos, units, parts, rounding)
 }
 
 #[unsafe(no_mangle)]

@@ -2,33 +2,36 @@
 //! Durations printed in a format.
 
 use crate::put;
+use crate::rounding::rounded;
 use duration_str_core::{FORMAT_BUFFER_SIZE, Format, Style, Units, write_format};
-use core::time::Duration;
 
-/// Prints a duration in the units of a set, in at most `parts` parts and in a style, to the start
-/// of the buffer, with a zero byte after it. Returns the length of the text in bytes, without the
-/// zero. The rest of the buffer is unchanged.
+/// Rounds a duration of `secs` seconds and `nanos` nanoseconds, and prints it in the units of a
+/// set, in at most `parts` parts and in a style, to the start of the buffer, with a zero byte after
+/// it. Returns the length of the text in bytes, without the zero. The rest of the buffer is
+/// unchanged.
 ///
 /// In the set the bit 2^n stands for the unit at index n of `UNITS`: 1 is the year, 1,024 is the
-/// nanosecond, and 2,047 is all units. The styles are 0 for short, 1 for compact and 2 for long. If
-/// `nanos` is a second or more, `units` is 0 or above 2,047, or `style` is above 2, the call
-/// returns 0, and the text is empty.
+/// nanosecond, and 2,047 is all units. The ways of rounding are 0 for down, 1 for the nearest and 2
+/// for up. The styles are 0 for short, 1 for compact and 2 for long. If the duration is 2^64
+/// seconds or more, `units` is 0 or above 2,047, `rounding` or `style` is above 2, or there is
+/// nothing to round up to, the call returns 0, and the text is empty.
 pub fn duration_str_format_with(
     secs: u64,
-    nanos: u32,
+    nanos: u64,
     units: u32,
     parts: u32,
+    rounding: u32,
     style: u32,
     buffer: &mut [u8; FORMAT_BUFFER_SIZE],
 ) -> usize {
-    match format_of(units, parts, style) {
-        Some(format) if nanos < 1_000_000_000 => {
-            let mut printed = [0; FORMAT_BUFFER_SIZE];
-            let text = write_format(&Duration::new(secs, nanos), format, &mut printed);
-            put(text, buffer)
-        }
-        _ => put("", buffer),
-    }
+    let Some(format) = format_of(units, parts, style) else {
+        return put("", buffer);
+    };
+    let Some(shown) = rounded(secs, nanos, format, rounding) else {
+        return put("", buffer);
+    };
+    let mut printed = [0; FORMAT_BUFFER_SIZE];
+    put(write_format(&shown, format, &mut printed), buffer)
 }
 
 fn format_of(units: u32, parts: u32, style: u32) -> Option<Format> {

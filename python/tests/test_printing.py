@@ -44,17 +44,23 @@ def length_of(text):
 LENGTHS = {unit: parse_ns(f"1{unit}") for unit in UNITS}
 
 
+TOO_LARGE = r"^a count is 2\*\*64 or more: choose a longer unit$"
+
+
 def check_breakdown(test, nanos, **words):
     """The parts must be those that are printed. With the rest they must add up to the duration.
-    Returns that sum."""
-    parts, rest_ns = breakdown(nanos, **words)
+    Returns that sum and the rest. If a count is too large, which must be an error, returns None."""
     printed = format(nanos, **words)
+    if int(re.match(r"\d+", printed)[0]) >= 2**64:
+        test.assertRaisesRegex(OverflowError, TOO_LARGE, breakdown, nanos, **words)
+        return None
+    parts, rest_ns = breakdown(nanos, **words)
     joined = " ".join(f"{count}{unit}" for count, unit in parts)
     test.assertEqual(joined, "" if printed.startswith("0") else printed)
     total = sum(count * LENGTHS[unit] for count, unit in parts) + rest_ns
     if words.get("rounding", "down") == "down":
         test.assertEqual(total, nanos)
-    return total
+    return total, rest_ns
 
 
 class Printing(unittest.TestCase):
@@ -86,8 +92,8 @@ assert {type(each).__module__ for each in [broken, *broken.parts]} == {"duration
                         )
             with self.subTest(text=text, **limits):
                 self.assertEqual(format(value, **limits), short)
-                check_breakdown(self, value, **limits)
-                self.assertEqual(breakdown(value, **limits).rest_ns, secs * SECOND + rest_ns)
+                checked = check_breakdown(self, value, **limits)
+                self.assertIn(checked, [None, (value, secs * SECOND + rest_ns)])
         for text, limits, *_ in VECTORS["printed_as_zero"]:
             for call in [format, breakdown]:
                 with self.subTest(text=text, **limits):
@@ -112,9 +118,10 @@ assert {type(each).__module__ for each in [broken, *broken.parts]} == {"duration
                     compact = printed.replace(" ", "")
                     self.assertEqual(format(value, style="compact", **words), compact)
                     self.assertEqual(format_many([value, None], **words), [printed, None])
-                    total = check_breakdown(self, value, **words)
-                    if rounding != "down":
-                        self.assertEqual(breakdown(value, **words).rest_ns, 0)
+                    checked = check_breakdown(self, value, **words)
+                    if rounding != "down" and checked:
+                        total, rest_ns = checked
+                        self.assertEqual(rest_ns, 0)
                         # A text that is printed whole is what it stands for.
                         self.assertEqual(format(total, **limits), printed)
                     if value % 1000 == 0 and value < 2**64:
@@ -297,11 +304,24 @@ class Breakdowns(unittest.TestCase):
         with self.assertRaisesRegex(OverflowError, r"^a duration of 2\*\*64 seconds or more "):
             breakdown(2**64 * SECOND)
 
-    def test_counts_2_to_the_64_of_a_unit(self):
-        """With 0 seconds instead, the unit could have no part."""
-        for rest in (0, 5):
-            counted = breakdown(2**64 * SECOND - SECOND + rest, units=["us", "ns"], parts=1)
-            self.assertEqual(counted, Breakdown((Part((2**64 - 1) * 10**6, "µs"),), rest))
+    def test_refuses_a_count_of_2_to_the_64(self):
+        for unit in ["ms", "µs", "ns"]:
+            most = (2**64 - 1) * LENGTHS[unit]
+            self.assertEqual(
+                breakdown(most, units=[unit]), Breakdown((Part(2**64 - 1, unit),), 0)
+            )
+            for value, rounding in [
+                (most + LENGTHS[unit], "down"),
+                (most + LENGTHS[unit], "nearest"),
+                (most + 1, "up"),
+                # Nothing below 2**64 seconds is long enough to round this one up to.
+                (2**64 * SECOND - 1, "up"),
+            ]:
+                with self.subTest(unit=unit, value=value, rounding=rounding):
+                    with self.assertRaisesRegex(OverflowError, TOO_LARGE):
+                        breakdown(value, units=[unit], rounding=rounding)
+        longest = breakdown(2**64 * SECOND - 1, largest="s", parts=1)
+        self.assertEqual(longest, Breakdown((Part(2**64 - 1, "s"),), SECOND - 1))
 
     def test_has_named_parts(self):
         counted = breakdown(datetime.timedelta(hours=1, minutes=30), smallest="h")

@@ -190,7 +190,9 @@ class Safety(unittest.TestCase):
                 format(SECOND)
                 format(2**64)
                 duration_str.breakdown(SECOND + 1)
-                duration_str.breakdown(2**93 + 1, units=["ms", "ns"])
+                duration_str.breakdown(2**93 + 1, rounding="up")
+                with self.assertRaises(OverflowError):
+                    duration_str.breakdown(2**93 + 1, units=["ms", "ns"])
                 # A text whose reference is lost takes memory only if it is another each time.
                 for text in ["1x", f"\ud800{number}", "", "600y", None]:
                     try:

@@ -116,13 +116,24 @@ static bool are_equal(struct duration_str_answer one, struct duration_str_answer
 
 /* ---- What must hold of a rounded duration */
 
+#define SECOND UINT64_C(1000000000)
+
 struct duration {
-    uint64_t secs;
-    uint32_t nanos;
+    uint64_t secs, nanos;
 };
 
 static bool is_longer(struct duration one, struct duration other) {
     return one.secs != other.secs ? one.secs > other.secs : one.nanos > other.nanos;
+}
+
+static bool is_same(struct duration one, struct duration other) {
+    return !is_longer(one, other) && !is_longer(other, one);
+}
+
+static struct duration less(struct duration one, struct duration other) {
+    const uint32_t borrowed = one.nanos < other.nanos;
+    return (struct duration){
+        one.secs - other.secs - borrowed, one.nanos + borrowed * SECOND - other.nanos};
 }
 
 /* The duration and the limits with which it is rounded and printed. */
@@ -131,28 +142,59 @@ struct printed {
     uint32_t units, parts;
 };
 
-/* A duration of which a count or the rest has more than 64 bits has no breakdown. */
-static void check_whole(struct duration rounded, uint32_t units, uint32_t parts) {
-    uint64_t counts[DURATION_STR_UNIT_COUNT], rest = 0;
-    HOLDS(!duration_str_breakdown(rounded.secs, rounded.nanos, units, parts, counts, &rest) ||
-          rest == 0);
+static const uint64_t lengths[DURATION_STR_UNIT_COUNT] = {31536000 * SECOND, 7862400 * SECOND,
+    2592000 * SECOND, 604800 * SECOND, 86400 * SECOND, 3600 * SECOND, 60 * SECOND, SECOND, 1000000,
+    1000, 1};
+
+static struct duration sum_of(const uint64_t *counts) {
+    struct duration sum = {0, 0};
+    for (uint32_t unit = 0; unit < DURATION_STR_UNIT_COUNT; unit++)
+        if (lengths[unit] >= SECOND) {
+            sum.secs += counts[unit] * (lengths[unit] / SECOND);
+        } else {
+            sum.secs += counts[unit] / (SECOND / lengths[unit]);
+            sum.nanos += counts[unit] % (SECOND / lengths[unit]) * lengths[unit];
+        }
+    return (struct duration){sum.secs + sum.nanos / SECOND, sum.nanos % SECOND};
 }
 
-/* Returns whether there is a duration to round to, which is then at `*rounded`. */
-static bool is_rounded(struct printed given, uint32_t rounding, struct duration *rounded) {
-    uint64_t *secs = (void *)buffer_at(number_end, sizeof *secs);
-    uint32_t *nanos = (void *)buffer_at(answers_end, sizeof *nanos);
-    memcpy(secs, &given.duration.secs, sizeof *secs);
-    memcpy(nanos, &given.duration.nanos, sizeof *nanos);
-    bool is_there = duration_str_round(secs, nanos, given.units, given.parts, rounding);
-    HOLDS(is_untouched((uint8_t *)secs - CANARIES, (uint8_t *)secs) &&
-          is_untouched((uint8_t *)nanos - CANARIES, (uint8_t *)nanos));
-    *rounded = (struct duration){*secs, *nanos};
+/* Breaks the duration down. Returns whether it can be, and gets what its parts are together. */
+static bool is_rounded(struct printed given, uint32_t rounding, struct duration *sum) {
+    uint64_t *rest = (void *)buffer_at(number_end, sizeof *rest), before = *rest;
+    uint64_t *counts = (void *)buffer_at(answers_end, DURATION_STR_UNIT_COUNT * sizeof *counts);
+    bool is_there = duration_str_breakdown(given.duration.secs, given.duration.nanos, given.units,
+        given.parts, rounding, counts, rest);
+    HOLDS(is_untouched((uint8_t *)rest - CANARIES, (uint8_t *)rest) &&
+          is_untouched((uint8_t *)counts - CANARIES, (uint8_t *)counts));
     if (is_there)
-        check_whole(*rounded, given.units, given.parts);
+        HOLDS(rounding == DURATION_STR_ROUNDING_DOWN || *rest == 0);
     else
-        HOLDS(*secs == given.duration.secs && *nanos == given.duration.nanos);
+        HOLDS(*rest == before && is_untouched((uint8_t *)counts, answers_end));
+    *sum = is_there ? sum_of(counts) : given.duration;
     return is_there;
+}
+
+/* Prints the duration to the end of a page, and returns whether the text is that of the wanted
+ * one, which isn't rounded. */
+static bool prints_as(struct printed given, uint32_t rounding, struct duration wanted) {
+    char text[DURATION_STR_FORMAT_WITH_BUFFER_SIZE];
+    uint8_t *buffer = buffer_at(output_end, sizeof text);
+    size_t length = duration_str_format_with(given.duration.secs, given.duration.nanos, given.units,
+        given.parts, rounding, DURATION_STR_STYLE_SHORT, (char *)buffer);
+    HOLDS(buffer[length] == 0);
+    HOLDS(is_untouched(buffer - CANARIES, buffer) && is_untouched(buffer + length + 1, output_end));
+    return duration_str_format_with(wanted.secs, wanted.nanos, given.units, given.parts,
+               DURATION_STR_ROUNDING_DOWN, DURATION_STR_STYLE_SHORT, text) == length &&
+           length > 0 && strcmp((char *)buffer, text) == 0;
+}
+
+static bool is_refused(struct printed given, uint32_t rounding) {
+    struct duration sum;
+    char text[DURATION_STR_FORMAT_WITH_BUFFER_SIZE];
+    return !is_rounded(given, rounding, &sum) &&
+           duration_str_format_with(given.duration.secs, given.duration.nanos, given.units,
+               given.parts, rounding, DURATION_STR_STYLE_SHORT, text) == 0 &&
+           text[0] == 0;
 }
 
 static struct duration rounded_down(struct printed given) {
@@ -161,56 +203,54 @@ static struct duration rounded_down(struct printed given) {
     return down;
 }
 
-static struct duration less(struct duration one, struct duration other) {
-    const uint32_t borrowed = one.nanos < other.nanos;
-    return (struct duration){
-        one.secs - other.secs - borrowed, one.nanos + borrowed * 1000000000 - other.nanos};
-}
-
+/* The units and parts are right, and the nanoseconds are below a second. */
 static void check_rounded(struct printed given) {
     const struct duration one_nano = {0, 1}, longest = {UINT64_MAX, 999999999};
-    struct duration down = rounded_down(given), up, nearest;
-    HOLDS(!is_longer(down, given.duration));
-    HOLDS(is_rounded(given, DURATION_STR_ROUNDING_NEAREST, &nearest));
-    char as_given[DURATION_STR_FORMAT_WITH_BUFFER_SIZE], as_down[sizeof as_given];
-    duration_str_format_with(
-        given.duration.secs, given.duration.nanos, given.units, given.parts, 0, as_given);
-    duration_str_format_with(down.secs, down.nanos, given.units, given.parts, 0, as_down);
-    HOLDS(strcmp(as_given, as_down) == 0);
+    struct duration down, up, nearest;
+    HOLDS(prints_as(given, DURATION_STR_ROUNDING_DOWN, given.duration));
+    /* A count or a rest of more than 64 bits has no breakdown. */
+    const uint32_t no_fractions =
+        DURATION_STR_UNITS_BETWEEN(DURATION_STR_UNIT_YEAR, DURATION_STR_UNIT_SECOND);
+    if (given.duration.secs > UINT32_MAX && (given.parts == 0 || !(given.units & no_fractions)))
+        return;
+    down = rounded_down(given);
+    HOLDS(!is_longer(down, given.duration) && prints_as(given, DURATION_STR_ROUNDING_DOWN, down));
+    HOLDS(is_rounded(given, DURATION_STR_ROUNDING_NEAREST, &nearest) &&
+          prints_as(given, DURATION_STR_ROUNDING_NEAREST, nearest));
     if (!is_rounded(given, DURATION_STR_ROUNDING_UP, &up)) {
-        HOLDS(is_longer(
-            given.duration, rounded_down((struct printed){longest, given.units, given.parts})));
-        HOLDS(!is_longer(nearest, down) && !is_longer(down, nearest));
+        HOLDS(is_refused(given, DURATION_STR_ROUNDING_UP) && is_same(nearest, down));
+        HOLDS(given.parts == 0 || is_longer(given.duration, rounded_down((struct printed){longest,
+                                                                given.units, given.parts})));
         return;
     }
-    HOLDS(!is_longer(given.duration, up));
-    struct duration whole = rounded_down((struct printed){up, given.units, given.parts});
-    HOLDS(!is_longer(up, whole));
+    HOLDS(!is_longer(given.duration, up) && prints_as(given, DURATION_STR_ROUNDING_UP, up));
+    HOLDS(is_same(rounded_down((struct printed){up, given.units, given.parts}), up));
     /* Nothing between the two prints whole. */
-    if (is_longer(up, down)) {
-        whole = rounded_down((struct printed){less(up, one_nano), given.units, given.parts});
-        HOLDS(!is_longer(whole, down));
-    }
-    struct duration wanted =
-        is_longer(less(up, given.duration), less(given.duration, down)) ? down : up;
-    HOLDS(!is_longer(nearest, wanted) && !is_longer(wanted, nearest));
+    if (is_longer(up, down))
+        HOLDS(!is_longer(
+            rounded_down((struct printed){less(up, one_nano), given.units, given.parts}), down));
+    HOLDS(is_same(
+        nearest, is_longer(less(up, given.duration), less(given.duration, down)) ? down : up));
 }
 
 /* The first bytes of a text as arguments, of which some can be refused. */
 static void check_rounding(struct text text) {
     struct printed given;
-    struct duration rounded;
     uint32_t rounding;
     if (text.length < sizeof given + sizeof rounding)
         return;
     memcpy(&given, text.bytes, sizeof given);
     memcpy(&rounding, text.bytes + sizeof given, sizeof rounding);
-    const bool is_refused = given.duration.nanos >= 1000000000 || given.units == 0 ||
-                            given.units > DURATION_STR_UNITS_ALL;
-    if (is_refused || rounding > DURATION_STR_ROUNDING_UP)
-        HOLDS(!is_rounded(given, rounding, &rounded));
-    given.duration.nanos %= 1000000000;
+    const uint64_t more = given.duration.nanos / SECOND;
+    const bool is_too_long = more > UINT64_MAX - given.duration.secs;
+    if (is_too_long || given.units == 0 || given.units > DURATION_STR_UNITS_ALL ||
+        rounding > DURATION_STR_ROUNDING_UP)
+        HOLDS(is_refused(given, rounding));
     given.units = 1 + given.units % DURATION_STR_UNITS_ALL;
+    const struct duration whole = {given.duration.secs + more, given.duration.nanos % SECOND};
+    if (!is_too_long)
+        HOLDS(prints_as(given, DURATION_STR_ROUNDING_DOWN, whole));
+    given.duration = whole;
     check_rounded(given);
     given.parts %= DURATION_STR_UNIT_COUNT + 2;
     check_rounded(given);
@@ -230,18 +270,13 @@ static void check_printed(uint64_t nanos) {
     }
 }
 
-static uint64_t length_of(uint32_t unit) {
-    struct text one = text_at(prints, (const uint8_t *)"1", 1);
-    return read_with(one, DURATION_STR_OPTION_DEFAULT_UNIT(unit)).nanos;
-}
-
+/* The parts add up, whether the nanoseconds are given alone or with seconds. */
 static void check_parts(uint64_t nanos) {
-    const uint64_t secs = nanos / 1000000000;
-    const uint32_t below_second = nanos % 1000000000, units = 1 + nanos % DURATION_STR_UNITS_ALL,
+    const uint32_t units = 1 + nanos % DURATION_STR_UNITS_ALL,
                    parts = nanos / DURATION_STR_UNITS_ALL % (DURATION_STR_UNIT_COUNT + 2);
     uint64_t *rest = (void *)buffer_at(number_end, sizeof *rest);
     uint64_t *counts = (void *)buffer_at(output_end, DURATION_STR_UNIT_COUNT * sizeof *counts);
-    HOLDS(duration_str_breakdown(secs, below_second, units, parts, counts, rest));
+    HOLDS(duration_str_breakdown(0, nanos, units, parts, DURATION_STR_ROUNDING_DOWN, counts, rest));
     HOLDS(is_untouched((uint8_t *)rest - CANARIES, (uint8_t *)rest) &&
           is_untouched((uint8_t *)counts - CANARIES, (uint8_t *)counts));
     uint64_t sum = 0;
@@ -249,15 +284,17 @@ static void check_parts(uint64_t nanos) {
     for (uint32_t unit = 0; unit < DURATION_STR_UNIT_COUNT; unit++) {
         HOLDS(counts[unit] == 0 || units & DURATION_STR_UNITS(unit));
         found += counts[unit] != 0;
-        sum += counts[unit] * length_of(unit);
+        sum += counts[unit] * lengths[unit];
     }
     HOLDS(found <= parts && sum <= nanos && nanos - sum == *rest);
     uint8_t *buffer = buffer_at(output_end, DURATION_STR_FORMAT_WITH_BUFFER_SIZE);
-    size_t length = duration_str_format_with(
-        secs, below_second, units, parts, DURATION_STR_STYLE_SHORT, (char *)buffer);
+    size_t length = duration_str_format_with(0, nanos, units, parts, DURATION_STR_ROUNDING_DOWN,
+        DURATION_STR_STYLE_SHORT, (char *)buffer);
     struct duration_str_answer answer = read_with(text_at(prints, buffer, length), 0);
     HOLDS(answer.cause == DURATION_STR_CAUSE_READ && answer.nanos == sum);
-    check_rounded((struct printed){{secs, below_second}, units, parts});
+    const struct duration whole = {nanos / SECOND, nanos % SECOND};
+    HOLDS(prints_as((struct printed){{0, nanos}, units, parts}, DURATION_STR_ROUNDING_DOWN, whole));
+    check_rounded((struct printed){whole, units, parts});
 }
 
 static void check_report(struct text text, uint32_t options, struct duration_str_answer wanted) {

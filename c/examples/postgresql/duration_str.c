@@ -46,8 +46,8 @@ static text *printed(int64 secs, int64 nanos) {
         ereport(ERROR, errcode(ERRCODE_NUMERIC_VALUE_OUT_OF_RANGE),
             errmsg("negative durations are not printed"));
 
-    length = duration_str_format_with((uint64)secs, (uint32)nanos, DURATION_STR_UNITS_ALL,
-        DURATION_STR_UNIT_COUNT, DURATION_STR_STYLE_SHORT, line);
+    length = duration_str_format_with((uint64)secs, (uint64)nanos, DURATION_STR_UNITS_ALL,
+        DURATION_STR_UNIT_COUNT, DURATION_STR_ROUNDING_DOWN, DURATION_STR_STYLE_SHORT, line);
     return cstring_to_text(pg_any_to_server(line, (int)length, PG_UTF8));
 }
 
@@ -90,5 +90,5 @@ Datum sql_format_duration(PG_FUNCTION_ARGS) {
 
 Datum sql_format_duration_ns(PG_FUNCTION_ARGS) {
     const int64 nanos = PG_GETARG_INT64(0);
-    PG_RETURN_TEXT_P(printed(nanos / 1000000000, nanos % 1000000000));
+    PG_RETURN_TEXT_P(printed(0, nanos));
 }

@@ -1,48 +1,56 @@
 //! Durations broken down into units.
-ghost use Rattle.std.specs.Prelude.{◌≡◌, ◌+◌, ◌*◌, ◌^◌, ◌<◌, ◌≤◌, ◌⊎◌, Any, IfNone, IfSome, IsFalse, IsTrue};
+ghost use Rattle.std.specs.Prelude.{◌≡◌, ℕ, ◌+◌, ◌*◌, ◌^◌, ◌<◌, ◌≤◌, ◌⊎◌, Any, IfNone, IfSome, IsFalse, IsTrue};
 ghost use Rattle.duration_str.specs.Breakdown.{nanos_left, parts_left, sum_of_parts};
 ghost use Rattle.duration_str.specs.declared.format.Style.TheVariants.{Short};
 ghost use Rattle.duration_str.specs.Units.{rank_of};
 ghost use Rattle.duration_str_c.specs.Breakdown.{counts_of, IsBrokenDown, IsTooLarge};
 ghost use Rattle.duration_str_c.specs.Format.{format_of};
+ghost use Rattle.duration_str_c.specs.Rounding.{IsRoundedBy, NoneRounded};
 ghost use Rattle.duration_str_c.specs.declared.breakdown.TheConstants.{UNIT_COUNT};
 
 use crate::format::short_format_of;
+use crate::rounding::rounded;
 use duration_str::{Breakdown, TimeUnit, UNITS};
-use std::time::Duration;
 
 /// How many units there are.
 pub const UNIT_COUNT: usize = UNITS.len();
 
-/// Breaks a duration down into the units of a set, in at most `parts` parts. Writes to `counts` the
-/// count of each unit, the longest unit first, and to `rest` the nanoseconds that no part has. A
-/// unit without a part has the count 0.
+/// Rounds a duration of `secs` seconds and `nanos` nanoseconds, and breaks it down into the units
+/// of a set, in at most `parts` parts. Writes to `counts` the count of each unit, the longest unit
+/// first, and to `rest` the nanoseconds that no part has. A unit without a part has the count 0.
 ///
-/// The set is given by its bits, as for `duration_str_format_with`. If `nanos` is a second or more,
-/// if `units` is 0 or above 2,047, or if a count or the rest needs more than 64 bits, the call
-/// returns false, and `counts` and `rest` are unchanged. Otherwise it returns true.
+/// The set is given by its bits, and the way of rounding by its number, as for
+/// `duration_str_format_with`. Down keeps the rest. If the duration is 2^64 seconds or more, if
+/// `units` is 0 or above 2,047, if `rounding` is above 2, if there is nothing to round up to, or if
+/// a count or the rest needs more than 64 bits, the call returns false, and `counts` and `rest` are
+/// unchanged. Otherwise it returns true.
 pub fn duration_str_breakdown(
     secs: u64,
-    nanos: u32,
+    nanos: u64,
     units: u32,
     parts: u32,
+    rounding: u32,
     counts: &mut [u64; UNIT_COUNT],
     rest: &mut u64,
 ) -> bool
-    ensures broken_down { IsTrue result → IsBrokenDown (format_of units parts Short)
-        (secs * 1_000_000_000 + nanos) counts.new rest.new }
-    ensures right { IsTrue result → (nanos < 1_000_000_000) × (0 < units) × (units < 2048) }
-    ensures refused { IsFalse result → (1_000_000_000 ≤ nanos) ⊎ ((units ≡ 0) ⊎ ((2048 ≤ units)
-        ⊎ IsTooLarge (format_of units parts Short) (secs * 1_000_000_000 + nanos))) }
+    ensures broken_down { IsTrue result → (shown : ℕ)
+        × IsRoundedBy rounding (format_of units parts Short) (secs * 1_000_000_000 + nanos) shown
+        × IsBrokenDown (format_of units parts Short) shown counts.new rest.new }
+    ensures right { IsTrue result → (0 < units) × (units < 2048) }
+    ensures refused { IsFalse result → (units ≡ 0) ⊎ ((2048 ≤ units)
+        ⊎ (NoneRounded rounding (format_of units parts Short) (secs * 1_000_000_000 + nanos)
+        ⊎ ((shown : ℕ)
+        × IsRoundedBy rounding (format_of units parts Short) (secs * 1_000_000_000 + nanos) shown
+        × IsTooLarge (format_of units parts Short) shown))) }
     ensures unchanged { IsFalse result → (counts.new ≡ counts.old) × (rest.new ≡ rest.old) }
 {
     let Some(format) = short_format_of(units, parts) else {
         return false;
     };
-    if nanos >= 1_000_000_000 {
+    let Some(shown) = rounded(secs, nanos, format, rounding) else {
         return false;
-    }
-    let mut parts = Breakdown::new(&Duration::new(secs, nanos), format);
+    };
+    let mut parts = Breakdown::new(&shown, format);
     let Some(found) = counts_of(&mut parts) else {
         return false;
     };

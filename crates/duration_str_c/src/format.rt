@@ -1,47 +1,49 @@
 //! Durations printed in a format.
 ghost use Rattle.std.specs.Prelude.{◌≡◌, ◌+◌, ◌*◌, ◌<◌, ◌≤◌, ◌∷◌, ◌⊎◌, IfSome, IfNone, IsUtf8, take, drop};
 ghost use Rattle.std.specs.Str.{chars};
-ghost use Rattle.duration_str.specs.Format.{IsPrintedWithin, most_len};
+ghost use Rattle.duration_str.specs.Format.{most_len};
 ghost use Rattle.duration_str.specs.declared.format.Style.TheVariants.{Short};
-ghost use Rattle.duration_str_c.specs.Format.{format_of, style_numbered, units_of};
+ghost use Rattle.duration_str_c.specs.Format.{format_of, style_numbered, units_of, IsPrintedRounded};
 
 use crate::put;
+use crate::rounding::rounded;
 use duration_str::{FORMAT_BUFFER_SIZE, Format, Style, Units, write_format};
-use std::time::Duration;
 
-/// Prints a duration in the units of a set, in at most `parts` parts and in a style, to the start
-/// of the buffer, with a zero byte after it. Returns the length of the text in bytes, without the
-/// zero. The rest of the buffer is unchanged.
+/// Rounds a duration of `secs` seconds and `nanos` nanoseconds, and prints it in the units of a
+/// set, in at most `parts` parts and in a style, to the start of the buffer, with a zero byte after
+/// it. Returns the length of the text in bytes, without the zero. The rest of the buffer is
+/// unchanged.
 ///
 /// In the set the bit 2^n stands for the unit at index n of `UNITS`: 1 is the year, 1,024 is the
-/// nanosecond, and 2,047 is all units. The styles are 0 for short, 1 for compact and 2 for long. If
-/// `nanos` is a second or more, `units` is 0 or above 2,047, or `style` is above 2, the call
-/// returns 0, and the text is empty.
+/// nanosecond, and 2,047 is all units. The ways of rounding are 0 for down, 1 for the nearest and 2
+/// for up. The styles are 0 for short, 1 for compact and 2 for long. If the duration is 2^64
+/// seconds or more, `units` is 0 or above 2,047, `rounding` or `style` is above 2, or there is
+/// nothing to round up to, the call returns 0, and the text is empty.
 pub fn duration_str_format_with(
     secs: u64,
-    nanos: u32,
+    nanos: u64,
     units: u32,
     parts: u32,
+    rounding: u32,
     style: u32,
     buffer: &mut [u8; FORMAT_BUFFER_SIZE],
 ) -> usize
-    ensures text { nanos < 1_000_000_000 → 0 < units → units < 2048 → style ≤ 2
-        → IsPrintedWithin (format_of units parts (style_numbered style))
+    ensures text { 0 < units → units < 2048 → style ≤ 2
+        → IsPrintedRounded rounding (format_of units parts (style_numbered style))
         (secs * 1_000_000_000 + nanos) (chars (take result buffer.new)) }
     ensures utf8 { IsUtf8 (take result buffer.new) }
     ensures rest { drop result buffer.new ≡ 0 ∷ drop (result + 1) buffer.old }
     ensures short { result ≤ most_len (style_numbered style) }
-    ensures refused { (1_000_000_000 ≤ nanos) ⊎ ((units ≡ 0) ⊎ ((2048 ≤ units) ⊎ (2 < style)))
-        → result ≡ 0 }
+    ensures refused { (units ≡ 0) ⊎ ((2048 ≤ units) ⊎ (2 < style)) → result ≡ 0 }
 {
-    match format_of(units, parts, style) {
-        Some(format) if nanos < 1_000_000_000 => {
-            let mut printed = [0; FORMAT_BUFFER_SIZE];
-            let text = write_format(&Duration::new(secs, nanos), format, &mut printed);
-            put(text, buffer)
-        }
-        _ => put("", buffer),
-    }
+    let Some(format) = format_of(units, parts, style) else {
+        return put("", buffer);
+    };
+    let Some(shown) = rounded(secs, nanos, format, rounding) else {
+        return put("", buffer);
+    };
+    let mut printed = [0; FORMAT_BUFFER_SIZE];
+    put(write_format(&shown, format, &mut printed), buffer)
 }
 
 fn format_of(units: u32, parts: u32, style: u32) -> Option<Format>

@@ -1,68 +1,27 @@
-//! Durations rounded to those that print whole.
-ghost use Rattle.std.specs.Prelude.{◌≡◌, ◌+◌, ◌*◌, ◌<◌, ◌≤◌, ◌⊎◌, IfSome, IfNone, IsFalse, IsTrue};
-ghost use Rattle.duration_str.specs.Rounding.{IsRounded, NoneAbove};
-ghost use Rattle.duration_str.specs.declared.format.Style.TheVariants.{Short};
-ghost use Rattle.duration_str.specs.declared.rounding.Rounding.TheVariants.{Up};
-ghost use Rattle.duration_str_c.specs.Format.{format_of};
-ghost use Rattle.duration_str_c.specs.Rounding.{rounding_numbered};
+//! Durations rounded to those that are printed or broken down.
+ghost use Rattle.std.specs.Prelude.{◌+◌, ◌*◌, IfSome, IfNone};
+ghost use Rattle.std.specs.Duration.{as_nanos};
+ghost use Rattle.duration_str_c.specs.Rounding.{IsRoundedBy, NoneRounded};
 
-use crate::format::short_format_of;
-use duration_str::{Rounding, round_to};
+use duration_str::{Format, Rounding, round_to};
 use std::time::Duration;
 
-/// Rounds a duration of `secs` seconds and `nanos` nanoseconds to one that prints whole, without a
-/// rest, in the units of a set and in at most `parts` parts. Writes it to `secs` and `nanos`, and
-/// returns true.
+/// Adds the seconds and the nanoseconds, and rounds the sum to a duration that prints whole,
+/// without a rest, in the format.
 ///
-/// The ways of rounding are 0 for down, 1 for the nearest and 2 for up. The set is given by its
-/// bits, as for `duration_str_format_with`. If `nanos` is a second or more, if `units` is 0 or
-/// above 2,047, if `rounding` is above 2, or if there is nothing to round up to, the call returns
-/// false, and `secs` and `nanos` are unchanged.
-pub fn duration_str_round(
-    secs: &mut u64,
-    nanos: &mut u32,
-    units: u32,
-    parts: u32,
-    rounding: u32,
-) -> bool
-    ensures rounded { IsTrue result → IsRounded (rounding_numbered rounding)
-        (format_of units parts Short) (secs.old * 1_000_000_000 + nanos.old)
-        (secs.new * 1_000_000_000 + nanos.new) }
-    ensures fits { IsTrue result → nanos.new < 1_000_000_000 }
-    ensures right { IsTrue result → (nanos.old < 1_000_000_000) × (0 < units) × (units < 2048)
-        × (rounding ≤ 2) }
-    ensures refused { IsFalse result → (1_000_000_000 ≤ nanos.old) ⊎ ((units ≡ 0)
-        ⊎ ((2048 ≤ units) ⊎ ((2 < rounding) ⊎ ((rounding ≡ 2)
-        × NoneAbove (format_of units parts Short) (secs.old * 1_000_000_000 + nanos.old))))) }
-    ensures unchanged { IsFalse result → (secs.new ≡ secs.old) × (nanos.new ≡ nanos.old) }
+/// The ways of rounding are 0 for down, 1 for the nearest and 2 for up. Down returns the sum as it
+/// is, since what doesn't fit into the format is not printed anyway. If the sum is 2^64 seconds or
+/// more, if `rounding` is above 2, or if there is nothing to round up to, returns `None`.
+pub(crate) fn rounded(secs: u64, nanos: u64, format: Format, rounding: u32) -> Option<Duration>
+    ensures some { IfSome result (λ rounded. IsRoundedBy rounding format
+        (secs * 1_000_000_000 + nanos) (as_nanos rounded)) }
+    ensures none { IfNone result (NoneRounded rounding format (secs * 1_000_000_000 + nanos)) }
 {
-    let Some(format) = short_format_of(units, parts) else {
-        return false;
-    };
-    let Some(rounding) = rounding_numbered(rounding) else {
-        return false;
-    };
-    if *nanos >= 1_000_000_000 {
-        return false;
-    }
-    let Some(rounded) = round_to(&Duration::new(*secs, *nanos), format, rounding) else {
-        return false;
-    };
-    *secs = rounded.as_secs();
-    *nanos = rounded.subsec_nanos();
-    true
-}
-
-fn rounding_numbered(number: u32) -> Option<Rounding>
-    ensures rounding { IfSome result (λ rounding. (number ≤ 2)
-        × (rounding ≡ rounding_numbered number)) }
-    ensures none { IfNone result (2 < number) }
-    ensures up { IfSome result (λ rounding. rounding ≡ Up → number ≡ 2) }
-{
-    match number {
-        0 => Some(Rounding::Down),
-        1 => Some(Rounding::Nearest),
-        2 => Some(Rounding::Up),
+    let given = Duration::from_secs(secs).checked_add(Duration::from_nanos(nanos))?;
+    match rounding {
+        0 => Some(given),
+        1 => round_to(&given, format, Rounding::Nearest),
+        2 => round_to(&given, format, Rounding::Up),
         _ => None,
     }
 }

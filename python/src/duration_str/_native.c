@@ -580,18 +580,13 @@ static inline int take_duration(
     return failed ? -1 : !is_missing;
 }
 
-/* Rounds the duration as the limits say. (What is printed is rounded down without this.) */
-static int round_duration(struct duration *duration, const struct limits *limits) {
-    if (limits->rounding == DURATION_STR_ROUNDING_DOWN ||
-        duration_str_round(
-            &duration->secs, &duration->nanos, limits->units, limits->parts, limits->rounding))
-        return 0;
+static void raise_too_long(void) {
     PyErr_SetString(
         PyExc_ValueError, "no duration below 2**64 seconds is long enough for rounding='up'");
-    return -1;
 }
 
-/* The call without limits is faster, but takes only durations below 2^64 nanoseconds. */
+/* The call without limits is faster, but takes only durations below 2^64 nanoseconds. Returns NULL
+ * with an error if there is nothing to round up to. */
 static PyObject *text_of(const struct duration *duration, const struct limits *limits) {
     char buffer[DURATION_STR_FORMAT_WITH_BUFFER_SIZE];
     const bool is_whole = !memcmp(limits, &no_limits, sizeof *limits);
@@ -599,8 +594,10 @@ static PyObject *text_of(const struct duration *duration, const struct limits *l
         is_whole && duration->secs < UINT64_MAX / SECOND
             ? duration_str_format(duration->secs * SECOND + duration->nanos, buffer)
             : duration_str_format_with(duration->secs, duration->nanos, limits->units,
-                  limits->parts, limits->style, buffer);
-    return PyUnicode_FromStringAndSize(buffer, (Py_ssize_t)length);
+                  limits->parts, limits->rounding, limits->style, buffer);
+    if (!length)
+        raise_too_long();
+    return length ? PyUnicode_FromStringAndSize(buffer, (Py_ssize_t)length) : NULL;
 }
 
 static inline PyObject *text_of_value(
@@ -609,9 +606,7 @@ static inline PyObject *text_of_value(
     const int is_there = take_duration(state, value, function, &duration);
     if (!is_there)
         return Py_NewRef(Py_None);
-    if (is_there < 0 || round_duration(&duration, limits))
-        return NULL;
-    return text_of(&duration, limits);
+    return is_there < 0 ? NULL : text_of(&duration, limits);
 }
 
 static PyObject *format(
@@ -623,19 +618,6 @@ static PyObject *format(
     if (take_limits(state, "format", STYLE, arguments + 1, keywords, &limits))
         return NULL;
     return text_of_value(state, arguments[0], state->kept[NANOS_OF], &limits);
-}
-
-/* The count of the first part, which can be 2^64 or more. It is the number with which the text
- * begins. */
-static PyObject *printed_count(const struct duration *duration, uint32_t units) {
-    char buffer[DURATION_STR_FORMAT_WITH_BUFFER_SIZE];
-    duration_str_format_with(
-        duration->secs, duration->nanos, units, 1, DURATION_STR_STYLE_SHORT, buffer);
-    char *end = buffer;
-    while (*end >= '0' && *end <= '9')
-        end++;
-    *end = '\0';
-    return PyLong_FromString(buffer, NULL, 10);
 }
 
 static PyObject *member(const char *module, const char *name) {
@@ -667,16 +649,14 @@ static PyObject *named_tuple(PyObject *type, PyObject *items) {
     return made;
 }
 
-/* `first` is the count of the first part if it is 2^64 or more, and otherwise NULL. */
-static PyObject *list_of_parts(struct state *state, const uint64_t *counts, PyObject *first) {
+static PyObject *list_of_parts(struct state *state, const uint64_t *counts) {
     PyObject *parts = PyList_New(0);
     for (int unit = 0; parts && unit < DURATION_STR_UNIT_COUNT; unit++) {
         if (!counts[unit])
             continue;
-        const bool is_large = first && PyList_Size(parts) == 0;
-        PyObject *count = is_large ? Py_NewRef(first) : PyLong_FromUnsignedLongLong(counts[unit]);
-        PyObject *part = named_tuple(
-            state->kept[PART], Py_BuildValue("(NO)", count, state->kept[UNIT_NAMES + unit]));
+        PyObject *part =
+            named_tuple(state->kept[PART], Py_BuildValue("(KO)", (unsigned long long)counts[unit],
+                                               state->kept[UNIT_NAMES + unit]));
         if (!part || PyList_Append(parts, part))
             Py_CLEAR(parts);
         Py_XDECREF(part);
@@ -686,23 +666,21 @@ static PyObject *list_of_parts(struct state *state, const uint64_t *counts, PyOb
 
 static PyObject *breakdown_of(
     struct state *state, const struct duration *duration, const struct limits *limits) {
-    uint64_t counts[DURATION_STR_UNIT_COUNT], rest = 0;
-    PyObject *first = NULL;
-    if (!duration_str_breakdown(
-            duration->secs, duration->nanos, limits->units, limits->parts, counts, &rest)) {
-        /* The count of the longest unit is 2^64 or more, so each unit is shorter than a second, and
-         * a second is a multiple of it. Then the seconds only add to that count, so the other
-         * counts and the rest are the same with 1 second. (With 0 seconds that unit could have no
-         * part, and a shorter unit could have one instead.) */
-        first = printed_count(duration, limits->units);
-        if (!first || !duration_str_breakdown(
-                          1, duration->nanos, limits->units, limits->parts, counts, &rest))
-            return NULL;
+    uint64_t counts[DURATION_STR_UNIT_COUNT], rest;
+    if (!duration_str_breakdown(duration->secs, duration->nanos, limits->units, limits->parts,
+            limits->rounding, counts, &rest)) {
+        /* If there is a unit of a second or longer, each count is below 2^64. If there is none, and
+         * nothing is long enough to round up to, a count is 2^64 or more, too. */
+        if (limits->units &
+            DURATION_STR_UNITS_BETWEEN(DURATION_STR_UNIT_YEAR, DURATION_STR_UNIT_SECOND))
+            raise_too_long();
+        else
+            PyErr_SetString(PyExc_OverflowError, "a count is 2**64 or more: choose a longer unit");
+        return NULL;
     }
-    PyObject *list = list_of_parts(state, counts, first);
+    PyObject *list = list_of_parts(state, counts);
     PyObject *parts = list ? PyList_AsTuple(list) : NULL;
     Py_XDECREF(list);
-    Py_XDECREF(first);
     if (!parts)
         return NULL;
     return named_tuple(
@@ -721,8 +699,7 @@ static PyObject *breakdown(
     if (keep_type(state, PART, "Part") || keep_type(state, BREAKDOWN, "Breakdown"))
         return NULL;
     /* nanos_of never returns None, so no value is missing here. */
-    if (take_duration(state, arguments[0], state->kept[NANOS_OF], &duration) != 1 ||
-        round_duration(&duration, &limits))
+    if (take_duration(state, arguments[0], state->kept[NANOS_OF], &duration) != 1)
         return NULL;
     return breakdown_of(state, &duration, &limits);
 }
@@ -1002,13 +979,13 @@ PyDoc_STRVAR(breakdown_doc,
     "nanoseconds, or a timedelta (also NumPy's).\n\n"
     "Returns a named tuple of the `parts` and of the nanoseconds that no part has,\n"
     "`rest_ns`. Each part is a named tuple of the `count` and the `unit`, by the\n"
-    "name that `format` prints in the short style. A count may be 2**64 or more.\n\n"
+    "name that `format` prints in the short style.\n\n"
     "The parts are those that the printed text has, so a duration of 0 has none. The\n"
     "counts, each times the length of its unit, and the rest are together the\n"
     "duration.\n\n"
-    "The options and the errors are those of `format`, which also has a style. If\n"
-    "`rounding` is `nearest` or `up`, the parts are those of the rounded duration,\n"
-    "and the rest is 0.\n\n"
+    "The options and the errors are those of `format`, which also has a style. If a\n"
+    "count is 2**64 or more, OverflowError is raised, too. If `rounding` is `nearest`\n"
+    "or `up`, the parts are those of the rounded duration, and the rest is 0.\n\n"
     ">>> parts, rest_ns = duration_str.breakdown(193_029_000_000, parts=2)\n"
     ">>> parts\n"
     "(Part(count=3, unit='min'), Part(count=13, unit='s'))\n"
