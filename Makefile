@@ -202,10 +202,6 @@ variables = prefix bindir libdir includedir datarootdir mandir docdir
 # compilers misread them.
 installable:
 	@export LC_ALL=C
-	if [[ $$DESTDIR == -* ]]; then
-	    echo "install: DESTDIR begins with -, as options do: write ./$$DESTDIR" >&2
-	    exit 1
-	fi
 	for folder in $(foreach name,$(variables),$(call quoted,$($(name)))); do
 	    if [[ -n $$DESTDIR && $$folder/ == */../* ]]; then
 	        echo "install: $$folder has .., which can lead out of DESTDIR" >&2
