@@ -161,7 +161,8 @@ calls = $(shell export LC_ALL=C; sed '/^static /d' $(header) | \
 cmake_files = $(addprefix cmake/duration_str/duration_str-config,.cmake -version.cmake)
 completions = $(addprefix $(datarootdir)/,bash-completion/completions/duration zsh/site-functions/_duration \
     fish/vendor_completions.d/duration.fish)
-installed = $(addprefix $(bindir)/,durstr duration) $(addprefix $(mandir)/man1/,durstr.1 duration.1) $(completions) \
+installed = $(addprefix $(bindir)/,durstr duration) \
+    $(addprefix $(mandir)/man1/,durstr.1 duration.1) $(completions) \
     $(includedir)/duration_str.h \
     $(addprefix $(libdir)/,libduration_str.a libduration_str.so $(soname)) \
     $(addprefix $(libdir)/,pkgconfig/duration_str.pc $(cmake_files)) \
@@ -202,10 +203,6 @@ variables = prefix bindir libdir includedir datarootdir mandir docdir
 # compilers misread them.
 installable:
 	@export LC_ALL=C
-	if [[ $$DESTDIR == -* ]]; then
-	    echo "install: DESTDIR begins with -, as options do: write ./$$DESTDIR" >&2
-	    exit 1
-	fi
 	for folder in $(foreach name,$(variables),$(call quoted,$($(name)))); do
 	    if [[ -n $$DESTDIR && $$folder/ == */../* ]]; then
 	        echo "install: $$folder has .., which can lead out of DESTDIR" >&2

@@ -5,7 +5,8 @@ addEventListener("securitypolicyviolation", (event) => violations.push(event.vio
 // What the page puts off for some time runs when a test says so, however slow the machine is.
 const putOff = new Map();
 const later = window.setTimeout;
-let timers = 0;
+// The timers of WebKit's driver have other numbers.
+let timers = 1_000_000_000;
 window.setTimeout = (call, milliseconds) => {
     // WebKit's driver waits for a script by the page's own timers.
     if (milliseconds >= 60_000) return later(call, milliseconds);

@@ -166,6 +166,8 @@ class Page:
     def open(self, fragment=""):
         self.driver.get("about:blank")
         self.driver.get(self.address + fragment)
+        # WebKit's driver doesn't wait for the page's script.
+        self.until(lambda: self.ask("document.readyState") == "complete")
 
     def ask(self, expression, *words):
         """JSON can also hold lone surrogates."""
