@@ -12,8 +12,8 @@
 //!   40    1              1600   40    1
 //! ```
 //!
-//! Without the option `lowercase`, a capital has the same digit as its small letter. With it, `M` is
-//! the only capital with a digit that is in a name.
+//! Without the option `lowercase`, a capital has the same digit as its small letter. With it, `M`
+//! is the only capital with a digit that is in a name.
 //!
 //! To find the unit, the number is multiplied by a constant, so that each name has a slot of its
 //! own:
