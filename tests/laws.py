@@ -27,7 +27,7 @@ def weaken(crates):
             name = re.search(r"^(?:pub record|abbrev pub) (\w+)", definition, re.M)[1]
             text = definition.replace("(r : Rules)", f"(r : Rules) (fewer : {of_rules})")
             unit = "(default_unit : Option TimeUnit)"
-            text = text.replace(unit, f"{unit} (fewer : {of_unit})")
+            text = re.sub(rf"(?<!\) ){re.escape(unit)}", f"{unit} (fewer : {of_unit})", text)
             if text == definition or name == "IsMostWithin":
                 unchanged.append(name)
             else:

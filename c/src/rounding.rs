@@ -14,8 +14,14 @@ pub(crate) fn rounded(secs: u64, nanos: u64, format: Format, rounding: u32) -> O
     let given = Duration::from_secs(secs).checked_add(Duration::from_nanos(nanos))?;
     match rounding {
         0 => Some(given),
-        1 => round_to(&given, format, Rounding::Nearest),
-        2 => round_to(&given, format, Rounding::Up),
+        1 => {
+            let nearest = round_to(&given, format, Rounding::Nearest)?;
+            Some(nearest)
+        }
+        2 => {
+            let up = round_to(&given, format, Rounding::Up)?;
+            Some(up)
+        }
         _ => None,
     }
 }

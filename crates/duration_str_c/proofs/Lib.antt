@@ -1,3 +1,4 @@
 pub mod AnswerLemmas
 pub mod BreakdownLemmas
+pub mod RoundingLemmas
 pub mod Rows

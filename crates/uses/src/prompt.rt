@@ -13,7 +13,8 @@ use duration_str::{Cause, Rules, parse_by};
 /// ```text
 /// is_unfinished("1m +", Rules::of(Options::off())) // true
 /// is_unfinished("1m -", Rules::of(Options::off())) // false
-/// is_unfinished("1h 30", Rules::of(Options::off()).default_unit(None)) // true: a unit is missing
+/// // The unit is missing:
+/// is_unfinished("1h 30", Rules::of(Options::off()).default_unit(None)) // true
 /// ```
 pub fn is_unfinished(text: &str, rules: Rules) -> bool
     ensures { (place : ℕ) (expected : Kinds)

@@ -1,0 +1,143 @@
+//! The calls that print and count.
+ghost use Rattle.std.specs.Prelude.{◌≡◌, ◌+◌, ◌%◌, ◌^◌, ◌<◌};
+ghost use Rattle.std.specs.Duration.{as_nanos};
+ghost use Rattle.std.specs.Str.{chars};
+ghost use Rattle.duration_str.specs.Breakdown.{nanos_left, parts_left, sum_of_parts};
+ghost use Rattle.duration_str.specs.Format.{set_of};
+ghost use Rattle.duration_str.specs.declared.format.Style.TheVariants.{Short};
+ghost use Rattle.duration_str.specs.Units.{rank_of};
+ghost use Rattle.duration_str_js.specs.declared.printing.TheConstants.{UNIT_COUNT};
+ghost use Rattle.duration_str_js.specs.Printing.{CountsTaken, IsTaken, PrintsTaken, format_of, rounding_numbered, style_numbered, units_of, units_among, with_counts};
+
+use duration_str::{
+    Breakdown, FORMAT_BUFFER_SIZE, Format, Rounding, Style, TimeUnit, UNITS, Units, round_to,
+    write_format,
+};
+use std::time::Duration;
+
+/// How many units there are.
+pub const UNIT_COUNT: usize = UNITS.len();
+
+/// Prints a duration of this many nanoseconds in the units of a set, in at most `parts` parts, and
+/// returns the text.
+///
+/// In the set the bit 2^n stands for the unit at index n of `UNITS`. A set with further bits is all
+/// units. For 0 the duration is not rounded. Otherwise it is first rounded to one that prints
+/// whole: for 1 to the nearest, and for greater numbers up. The styles are 0 for short, 1 for
+/// compact, and greater numbers for long.
+pub fn print(
+    nanos: u64,
+    units: u16,
+    parts: usize,
+    rounding: u32,
+    style: u32,
+    buffer: &mut [u8; FORMAT_BUFFER_SIZE],
+) -> &str
+    ensures { PrintsTaken (rounding_numbered rounding)
+        (format_of units parts (style_numbered style)) nanos (chars result.now) }
+{
+    let format = format_of(units, parts).style(style_numbered(style));
+    let duration = taken(nanos, format, rounding_numbered(rounding));
+    write_format(&duration, format, buffer)
+}
+
+/// Counts the parts of a duration of this many nanoseconds, in the units and parts and with the
+/// rounding of `print`. Returns the set of the units that have a part. Writes their counts, each at
+/// the index of its unit in `UNITS`, and the nanoseconds that no part has. The other counts are
+/// unchanged. Of each number 64 bits are written.
+pub fn count(
+    nanos: u64,
+    units: u16,
+    parts: usize,
+    rounding: u32,
+    counts: &mut [u64; UNIT_COUNT],
+    rest: &mut u64,
+) -> Units
+    ensures { CountsTaken (rounding_numbered rounding) (format_of units parts Short)
+        nanos counts.old counts.new rest.new result }
+{
+    let format = format_of(units, parts);
+    let duration = taken(nanos, format, rounding_numbered(rounding));
+    let mut parts = Breakdown::new(&duration, format);
+    let counted = count_parts(&mut parts, counts);
+    *rest = low_bits(parts.rest());
+    counted
+}
+
+fn count_parts(parts: &mut Breakdown, counts: &mut [u64; UNIT_COUNT]) -> Units
+    ensures counts { counts.new ≡ with_counts counts.old (parts_left parts.old) }
+    ensures units { result ≡ set_of (units_among (parts_left parts.old)) }
+    ensures rest { nanos_left parts.old ≡ sum_of_parts (parts_left parts.old) + nanos_left parts.new }
+{
+    let mut counted = Units::NONE;
+    while let Some((unit, count)) = parts.next() {
+        counts[rank(unit)] = low_bits(count);
+        counted = counted.with(unit);
+    }
+    counted
+}
+
+fn rank(unit: TimeUnit) -> usize
+    ensures value { result ≡ rank_of unit }
+    ensures inside { result < UNIT_COUNT }
+{
+    unit as usize
+}
+
+fn low_bits(number: u128) -> u64
+    ensures { result ≡ number % 2 ^ 64 }
+{
+    (number % (1 << 64)) as u64
+}
+
+fn format_of(units: u16, parts: usize) -> Format
+    ensures { result ≡ format_of units parts Short }
+{
+    let mut format = Format::whole().parts(parts);
+    format.units = units_of(units);
+    format
+}
+
+fn units_of(bits: u16) -> Units
+    ensures { result ≡ units_of bits }
+{
+    match Units::from_bits(bits) {
+        Some(units) => units,
+        None => Units::ALL,
+    }
+}
+
+fn style_numbered(number: u32) -> Style
+    ensures { result ≡ style_numbered number }
+{
+    match number {
+        0 => Style::Short,
+        1 => Style::Compact,
+        _ => Style::Long,
+    }
+}
+
+fn rounding_numbered(number: u32) -> Option<Rounding>
+    ensures { result ≡ rounding_numbered number }
+{
+    match number {
+        0 => None,
+        1 => Some(Rounding::Nearest),
+        _ => Some(Rounding::Up),
+    }
+}
+
+/// Returns the duration that is printed or counted. JavaScript passes at least one unit and one
+/// part, so there is always something to round up to.
+fn taken(nanos: u64, format: Format, rounding: Option<Rounding>) -> Duration
+    ensures { IsTaken rounding format nanos (as_nanos result) }
+{
+    let given = Duration::from_nanos(nanos);
+    let Some(rounding) = rounding else {
+        return given;
+    };
+    match round_to(&given, format, rounding) {
+        Some(rounded) => rounded,
+        None => given,
+    }
+}

@@ -1,0 +1,110 @@
+// Made by tools/erase of crates/duration_str_js/src/printing.rt.
+//! The calls that print and count.
+
+use duration_str_core::{
+    Breakdown, FORMAT_BUFFER_SIZE, Format, Rounding, Style, TimeUnit, UNITS, Units, round_to,
+    write_format,
+};
+use core::time::Duration;
+
+/// How many units there are.
+pub const UNIT_COUNT: usize = UNITS.len();
+
+/// Prints a duration of this many nanoseconds in the units of a set, in at most `parts` parts, and
+/// returns the text.
+///
+/// In the set the bit 2^n stands for the unit at index n of `UNITS`. A set with further bits is all
+/// units. For 0 the duration is not rounded. Otherwise it is first rounded to one that prints
+/// whole: for 1 to the nearest, and for greater numbers up. The styles are 0 for short, 1 for
+/// compact, and greater numbers for long.
+pub fn print(
+    nanos: u64,
+    units: u16,
+    parts: usize,
+    rounding: u32,
+    style: u32,
+    buffer: &mut [u8; FORMAT_BUFFER_SIZE],
+) -> &str {
+    let format = format_of(units, parts).style(style_numbered(style));
+    let duration = taken(nanos, format, rounding_numbered(rounding));
+    write_format(&duration, format, buffer)
+}
+
+/// Counts the parts of a duration of this many nanoseconds, in the units and parts and with the
+/// rounding of `print`. Returns the set of the units that have a part. Writes their counts, each at
+/// the index of its unit in `UNITS`, and the nanoseconds that no part has. The other counts are
+/// unchanged. Of each number 64 bits are written.
+pub fn count(
+    nanos: u64,
+    units: u16,
+    parts: usize,
+    rounding: u32,
+    counts: &mut [u64; UNIT_COUNT],
+    rest: &mut u64,
+) -> Units {
+    let format = format_of(units, parts);
+    let duration = taken(nanos, format, rounding_numbered(rounding));
+    let mut parts = Breakdown::new(&duration, format);
+    let counted = count_parts(&mut parts, counts);
+    *rest = low_bits(parts.rest());
+    counted
+}
+
+fn count_parts(parts: &mut Breakdown, counts: &mut [u64; UNIT_COUNT]) -> Units {
+    let mut counted = Units::NONE;
+    while let Some((unit, count)) = parts.next() {
+        counts[rank(unit)] = low_bits(count);
+        counted = counted.with(unit);
+    }
+    counted
+}
+
+fn rank(unit: TimeUnit) -> usize {
+    unit as usize
+}
+
+fn low_bits(number: u128) -> u64 {
+    (number % (1 << 64)) as u64
+}
+
+fn format_of(units: u16, parts: usize) -> Format {
+    let mut format = Format::whole().parts(parts);
+    format.units = units_of(units);
+    format
+}
+
+fn units_of(bits: u16) -> Units {
+    match Units::from_bits(bits) {
+        Some(units) => units,
+        None => Units::ALL,
+    }
+}
+
+fn style_numbered(number: u32) -> Style {
+    match number {
+        0 => Style::Short,
+        1 => Style::Compact,
+        _ => Style::Long,
+    }
+}
+
+fn rounding_numbered(number: u32) -> Option<Rounding> {
+    match number {
+        0 => None,
+        1 => Some(Rounding::Nearest),
+        _ => Some(Rounding::Up),
+    }
+}
+
+/// Returns the duration that is printed or counted. JavaScript passes at least one unit and one
+/// part, so there is always something to round up to.
+fn taken(nanos: u64, format: Format, rounding: Option<Rounding>) -> Duration {
+    let given = Duration::from_nanos(nanos);
+    let Some(rounding) = rounding else {
+        return given;
+    };
+    match round_to(&given, format, rounding) {
+        Some(rounded) => rounded,
+        None => given,
+    }
+}
