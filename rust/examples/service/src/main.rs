@@ -57,7 +57,7 @@ mod tests {
         let line = |text| parse_duration(text).unwrap_err();
         for (option, text) in [
             ("timeout", "3h 2 hurs"),
-            ("pause", "5 mons"),
+            ("pause", "5 mos"),
             ("timeout", "-5m"),
         ] {
             // Clap 4.0 begins this with a capital letter, and later versions don't.
