@@ -289,7 +289,7 @@ size_t duration_str_format(
  * may be a second or more. So you give a value that was read as 0 and `nanos`,
  * a number of seconds as `secs` and 0, and a `struct timespec` as its fields.
  * Neither may be negative before it becomes unsigned, as in a difference of two
- * structures: -1 would be some 584 years.
+ * structures: -1 nanosecond would be some 584 years.
  *
  * `units` is the set of the chosen units, and `parts` is the greatest number of
  * parts. `rounding` is one of `enum duration_str_rounding`, and `style` is one

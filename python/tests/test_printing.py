@@ -122,7 +122,7 @@ assert {type(each).__module__ for each in [broken, *broken.parts]} == {"duration
                     if rounding != "down" and checked:
                         total, rest_ns = checked
                         self.assertEqual(rest_ns, 0)
-                        # A text that is printed whole is what it stands for.
+                        # The rounded duration prints whole, and so has the same text.
                         self.assertEqual(format(total, **limits), printed)
                     if value % 1000 == 0 and value < 2**64:
                         length = datetime.timedelta(microseconds=value // 1000)

@@ -944,7 +944,7 @@ PyDoc_STRVAR(format_doc,
     "  units     only these units, such as `('y', 'mon', 'd')`, in any order\n"
     "  largest   the largest unit: `y`, `q`, `mon`, `w`, `d`, `h`, `min`, `s`,\n"
     "            `ms`, `\xc2\xb5s` or `us`, `ns`, or another name that is read\n"
-    "            without `cn_unit`\n"
+    "            without options\n"
     "  smallest  the smallest unit\n"
     "  rounding  `down`, `nearest` or `up`: if the text leaves something out, the\n"
     "            duration is rounded to one whose text doesn't. Of two durations\n"
