@@ -374,6 +374,10 @@ test("prints what it is given, whatever an option's getter calls", () => {
     const options = { get parts() { return parse("2ms"); } };
     assert.equal(format(5_445_000, options), "1h 30min");
     assert.deepEqual(parts(5_445_000, options), { hours: 1, minutes: 30 });
+    // Nanoseconds stand in the module's memory, where the getter's call writes its own.
+    const further = { get parts() { return breakdown(3_600_000_000_001n).parts.length; } };
+    assert.equal(formatNs(5_445_000_000_000n, further), "1h 30min");
+    assert.equal(breakdown(5_445_000_000_000n, further).restNs, 45_000_000_000n);
 });
 
 test("refuses what is negative, not finite or too large", () => {
