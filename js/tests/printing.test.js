@@ -104,6 +104,8 @@ test("prints texts of each length", () => {
         }
     }
     for (let length = 2; length <= 28; length++) assert.ok(ascii.has(length), `${length}`);
+    const longer = "1mon 7h 28min 39s 481ms 613ns";
+    assert.deepEqual([longer.length, formatNs(parseNs(longer))], [29, longer]);
     for (let length = 7; length <= 30; length++) assert.ok(others.has(length), `${length} with µ`);
 });
 
