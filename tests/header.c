@@ -162,9 +162,10 @@ static void check_null_results(void) {
 static bool is_rounded(uint64_t secs, uint64_t nanos, uint32_t units, uint32_t parts,
     uint32_t rounding, uint32_t style, const char *wanted) {
     char printed[DURATION_STR_FORMAT_WITH_BUFFER_SIZE];
-    return duration_str_format_with(secs, nanos, units, parts, rounding, style, printed) ==
-               strlen(wanted) &&
-           strcmp(printed, wanted) == 0;
+    memset(printed, '#', sizeof printed);
+    const size_t length =
+        duration_str_format_with(secs, nanos, units, parts, rounding, style, printed);
+    return length == strlen(wanted) && strcmp(printed, wanted) == 0 && printed[length + 1] == '#';
 }
 
 static bool is_printed(uint64_t secs, uint64_t nanos, uint32_t units, uint32_t parts,

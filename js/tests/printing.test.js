@@ -104,6 +104,8 @@ test("prints texts of each length", () => {
         }
     }
     for (let length = 2; length <= 28; length++) assert.ok(ascii.has(length), `${length}`);
+    const longer = "1mon 7h 28min 39s 481ms 613ns";
+    assert.deepEqual([longer.length, formatNs(parseNs(longer))], [29, longer]);
     for (let length = 7; length <= 30; length++) assert.ok(others.has(length), `${length} with µ`);
 });
 
@@ -374,6 +376,10 @@ test("prints what it is given, whatever an option's getter calls", () => {
     const options = { get parts() { return parse("2ms"); } };
     assert.equal(format(5_445_000, options), "1h 30min");
     assert.deepEqual(parts(5_445_000, options), { hours: 1, minutes: 30 });
+    // Nanoseconds stand in the module's memory, where the getter's call writes its own.
+    const further = { get parts() { return breakdown(3_600_000_000_001n).parts.length; } };
+    assert.equal(formatNs(5_445_000_000_000n, further), "1h 30min");
+    assert.equal(breakdown(5_445_000_000_000n, further).restNs, 45_000_000_000n);
 });
 
 test("refuses what is negative, not finite or too large", () => {

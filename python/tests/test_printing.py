@@ -322,6 +322,8 @@ class Breakdowns(unittest.TestCase):
                         breakdown(value, units=[unit], rounding=rounding)
         longest = breakdown(2**64 * SECOND - 1, largest="s", parts=1)
         self.assertEqual(longest, Breakdown((Part(2**64 - 1, "s"),), SECOND - 1))
+        with self.assertRaisesRegex(ValueError, "is long enough for rounding='up'$"):
+            breakdown(2**64 * SECOND - 1, units=["s"], rounding="up")
 
     def test_has_named_parts(self):
         counted = breakdown(datetime.timedelta(hours=1, minutes=30), smallest="h")

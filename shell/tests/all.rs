@@ -94,6 +94,31 @@ fn divides_fields_at_equals_signs() {
 }
 
 #[test]
+fn divides_csv_at_delimiters() {
+    for (words, line, wanted) in [
+        ("-d, --field 2", r#""a,b",90"#, r#""a,b",1min 30s"#),
+        ("-d, --field 2", r#""a"",90",300"#, r#""a"",90",5min"#),
+        ("-d, --field 2", r#""a"b,90,"c""#, r#""a"b,1min 30s,"c""#),
+        ("-d, --field 2", r#""a,90"#, r#""a,1min 30s"#),
+        ("-d\" --field 2", r#""90""#, r#""1min 30s""#),
+    ] {
+        assert_eq!(
+            run(&words.split(' ').collect::<Vec<_>>(), line.as_bytes()),
+            (0, wanted.into(), "".into()),
+            "{words} {line}"
+        );
+    }
+    // The last field ends before a carriage return.
+    for line in ["\"a,90\"\r\n", "\"a,90\""] {
+        let errors = "duration: line 1, field 2: no such field\n";
+        assert_eq!(
+            run(&["-d,", "--field", "2"], line.as_bytes()),
+            (1, line.into(), errors.into())
+        );
+    }
+}
+
+#[test]
 fn prints_only_the_sum() {
     let log = b"time path took\n9:00 /a 150ms\n9:01 /b 2s\n";
     let third = ["--sum", "--header", "--field", "3"];
@@ -108,6 +133,12 @@ fn prints_only_the_sum() {
     assert_eq!(run(&["--sum"], &lines), (0, "6min 40s\n".into(), "".into()));
     let errors = format!("duration: line 2: {}\n", line("5 mins"));
     assert_eq!(run(&["--sum"], b"1h\n5 mins\n2h\n"), (1, "".into(), errors));
+    // Neither a refused field nor a line that is too long stays, and the sum's line has an end.
+    let first = ["--sum", "-d,", "--field", "1"];
+    assert_eq!(run(&first, b"1h,a\n2h,b"), (0, "3h\n".into(), "".into()));
+    let long = [b"5 mins,\n1h,", &[b'x'; 1 << 20][..], b"\n1h,\n"].concat();
+    let (status, output, _) = run(&first, &long);
+    assert_eq!((status, &*output), (1, ""));
     let errors = "duration: sum of over 584 years\n";
     assert_eq!(
         run(&["--sum"], b"500y\n500y\n"),
@@ -127,6 +158,23 @@ fn takes_large_numbers() {
     assert_eq!(errors, "duration: argument 1, field 70000: no such field\n");
     let errors = run(&["--parts", &format!("{most}0"), "90"], b"").2;
     assert!(errors.contains("'--parts <N>': too large\n"), "{errors}");
+}
+
+/// tests/patterns checks the patterns themselves.
+#[test]
+fn prints_another_pattern_for_each_option() {
+    let options = [
+        "--lowercase",
+        "--cn-unit",
+        "--more-names",
+        "--require-unit",
+        "--from=ms",
+    ];
+    let mut patterns = vec![answer(&["--pattern"])];
+    patterns.extend(options.map(|option| answer(&["--pattern", option])));
+    patterns.sort();
+    patterns.dedup();
+    assert_eq!(patterns.len(), options.len() + 1);
 }
 
 #[test]
