@@ -47,9 +47,9 @@ def main(least, millis, *words):
         times, begin = [], time.perf_counter_ns()
         os.getppid()
         while len(times) < int(least) or time.perf_counter_ns() - begin < int(millis) * 10**6:
-            start = time.perf_counter_ns()
+            start = time.process_time_ns()
             known["round"]()
-            times.append(time.perf_counter_ns() - start)
+            times.append(time.process_time_ns() - start)
         os.getppid()
         print(f"{min(times) / count:.1f}")
 
