@@ -1,7 +1,15 @@
 //! Makes calls of Rust. bench/run says how each such program is called, and puts the calls of its
 //! table into this one.
+#![allow(unused)]
+use duration_str::{HUMAN_BUFFER_SIZE, Options, Rounding::Nearest};
 use std::hint::black_box;
 use std::time::{Duration, Instant};
+
+const ALL_ON: Options = Options {
+    no_calc: true,
+    lowercase: true,
+    cn_unit: true,
+};
 
 struct Rounds {
     least: u32,
@@ -45,7 +53,7 @@ fn main() {
             .collect();
         let nanos = match pair[0].as_str() {
             // CALLS
-            call => panic!("no such call, for {} durations: {call}", lengths.len()),
+            call => panic!("no such call: {call}"),
         };
         println!("{nanos:.1}");
     }

@@ -50,14 +50,12 @@ def draw(text, path):
         rows = rows_of(text, head)
         for place, language in enumerate(LANGUAGES):
             at = next(at for at, row in enumerate(rows) if row[0].startswith(f"{language}:"))
-            peers = [row for row in rows[at + 1 :] if "duration-str" not in row[0]]
-            name = re.match(r"`?(\w+)", peers[0][0])[1]
-            most = max(float(rows[at][1]), float(peers[0][1]))
-            for side, (kind, figure, said) in enumerate(
-                (("ours", rows[at][1], ""), ("theirs", peers[0][1], f"{name} "))
-            ):
-                width = LONGEST * float(figure) / most
-                body.append(bar(kind, left, TOP + STEP * place + 16 * side, width, said + figure))
+            (_, ours), (label, theirs) = rows[at : at + 2]
+            name = re.match(r"`?(\w+)", label)[1]
+            pair = (("ours", ours, ours), ("theirs", theirs, f"{name} {theirs}"))
+            for side, (kind, figure, said) in enumerate(pair):
+                width = LONGEST * float(figure) / max(float(ours), float(theirs))
+                body.append(bar(kind, left, TOP + STEP * place + 16 * side, width, said))
     body.append(bar("ours", 92, bottom + 6, 22, "duration_str"))
     body.append(bar("theirs", 238, bottom + 6, 22, "the library that is named"))
     body.append(f'<text x="520" y="{bottom + 17}">less is better</text>')
