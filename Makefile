@@ -349,4 +349,4 @@ clean:
 	rm -rf out crates/*/out tests/fuzz/out target */target js/dist
 	rm -rf python/build python/src/{*.egg-info,duration_str/*.so} */{LICENSE,NOTICE}
 	find . -name __pycache__ -prune -exec rm -r {} +
-	rm -f {bench,js/module,rust,rust/{core,macros,examples/*,tests/*},shell}/Cargo.lock
+	rm -f {js/module,rust,rust/{core,macros,examples/*,tests/*},shell}/Cargo.lock
