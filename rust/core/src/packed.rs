@@ -62,7 +62,7 @@ pub(crate) fn packed_word(word: &str, o: Options, folds: bool) -> Option<(u64, b
     let mut greek = false;
     let mut chars = word.chars();
     while let Some(c) = chars.next() {
-        greek = greek | (c == 'μ');
+        greek |= c == 'μ';
         packed = with_letter(packed, letter_number(micro_if(folds, c), o)?);
     }
     Some((packed, greek))
