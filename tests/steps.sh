@@ -82,6 +82,18 @@ finds() {
 # can WHAT NEED WORDS..: returns whether the words succeed. If they fail, NEED says what is missing
 can() { "${@:3}" >/dev/null 2>&1 || skips "$1" "missing: $2"; }
 
+# lints WHAT WORDS..: runs these words, which run clippy, as a step. The step is skipped if clippy is
+# missing, or if it is another compiler's: then it can't use the crates that rustc has compiled
+lints() {
+    can "$1" 'clippy (make setup all=yes; or rustup component add clippy)' cargo clippy --version ||
+        return
+    if ! "${@:2}" >"$log" 2>&1 </dev/null && grep -q 'error\[E0514\]' "$log"; then
+        skips "$1" "$(cargo clippy --version) is not that of $("${RUSTC-rustc}" --version)"
+        return
+    fi
+    runs "$@"
+}
+
 # is_rust WHAT MINOR: returns whether rustc is of Rust 1.MINOR or later. If not, WHAT is skipped
 is_rust() {
     can "$1" "Rust 1.$2 or later" awk -F '[ .]' "{ exit \$2 == 1 && \$3 < $2 }" \
