@@ -514,12 +514,11 @@ static inline int take_int(struct state *state, PyObject *value, struct duration
     const long long few = PyLong_AsLongLongAndOverflow(value, &overflow);
     if (overflow < 0) {
         /* Python can refuse to print an int of some thousand digits. */
-        PyErr_SetString(
-            PyExc_ValueError, "a negative duration has no text: below -2**63 nanoseconds");
+        PyErr_SetString(PyExc_ValueError, "the duration is negative: below -2**63 nanoseconds");
         return -1;
     }
     if (!overflow && few < 0) {
-        PyErr_Format(PyExc_ValueError, "a negative duration has no text: %R", value);
+        PyErr_Format(PyExc_ValueError, "the duration is negative: %R", value);
         return -1;
     }
     if (!overflow) {
@@ -535,7 +534,7 @@ static inline int take_int(struct state *state, PyObject *value, struct duration
     Py_DECREF(both);
     if (!PyErr_Occurred())
         return 0;
-    PyErr_SetString(PyExc_OverflowError, "a duration of 2**64 seconds or more has no text");
+    PyErr_SetString(PyExc_OverflowError, "the duration is 2**64 seconds or more");
     return -1;
 }
 
@@ -554,7 +553,7 @@ static int take_timedelta(struct state *state, PyObject *value, struct duration 
     if (parts_of(state, value, parts))
         return -1;
     if (parts[0] < 0) {
-        PyErr_Format(PyExc_ValueError, "a negative duration has no text: %R", value);
+        PyErr_Format(PyExc_ValueError, "the duration is negative: %R", value);
         return -1;
     }
     duration->secs = (uint64_t)parts[0] * 86400 + (uint64_t)parts[1];

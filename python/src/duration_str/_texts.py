@@ -186,7 +186,7 @@ def nanos_of(value: "Any") -> int:
         return nanos + getattr(value, "nanoseconds", 0)
     if numpy and isinstance(value, numpy.timedelta64):
         if numpy.isnat(value):
-            raise ValueError("a missing duration has no text: NaT")
+            raise ValueError("the duration is missing: NaT")
         return int(value.astype("int64")) * nanos_a_step(value.dtype)
     if isinstance(value, int) and not isinstance(value, bool):
         return int.__index__(value)
