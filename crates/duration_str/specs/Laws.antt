@@ -1,6 +1,6 @@
 -- The laws, each as one statement about the definitions.
 use Rattle.std.specs.Prelude.{◌≡◌, ℕ, ◌+◌, ◌*◌, ◌/◌, ◌^◌, ◌<◌, ◌≤◌, Bool, true, false, if◌then◌else◌, List, [], ◌∷◌, ◌++◌, Option, Some, None, is_some, map, ◌%◌, ⊤, ◌↔◌, ◌≢◌, take, drop, codes, encode_utf8_all, Ok, Err, ◌⊎◌, IsTrue, not, ◌==◌, length}
-use Rattle.std.specs.Char.{is_ascii_uppercase, to_ascii_lowercase}
+use Rattle.std.specs.Char.{is_ascii_uppercase}
 use Rattle.std.specs.List.{list_all}
 use Rattle.std.specs.Duration.{FitsDuration}
 use Rattle.std.specs.Iterator.{Yields}

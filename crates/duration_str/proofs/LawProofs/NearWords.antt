@@ -1,4 +1,4 @@
-use Rattle.duration_str.proofs.Common.{[], all_names, ap, arith, bytes_eq, bytes_eq-Decides, Bool, cases_Bool, codes, comparison_form, false, find, inl, inr, List, list_all, list_any, map, more_names, None, not, Option, Options, or_cases, refl, row_of, rules, rules_of, Some, sym, TimeUnit, to_ascii_lowercase, true, unit_of_word, units, ℕ, ◌∙◌, ◌∷◌, ◌≡◌, ◌||◌, ◌==◌}
+use Rattle.duration_str.proofs.Common.{[], all_names, arith, bytes_eq, bytes_eq-Decides, Bool, cases_Bool, codes, comparison_form, false, find, inl, inr, List, list_all, list_any, map, more_names, None, not, Option, Options, or_cases, refl, row_of, rules, rules_of, Some, sym, TimeUnit, to_ascii_lowercase, true, unit_of_word, units, ℕ, ◌∷◌, ◌≡◌, ◌||◌, ◌==◌}
 use Rattle.std.specs.Option.{option_map}
 use Rattle.duration_str.specs.Laws.{IsAdvised, NearWords}
 use Rattle.duration_str.specs.OneLine.{help_name, near_unit, small_words}
