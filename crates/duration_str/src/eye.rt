@@ -4,6 +4,8 @@ ghost use Rattle.std.specs.Str.{IsCharBoundary};
 ghost use Rattle.duration_str.specs.Internal.Positions.{Stands, ahead};
 ghost use Rattle.duration_str.specs.Text.{width};
 
+use crate::slice::range_from;
+
 #[derive(Drop)]
 pub(crate) struct Eye<'a> {
     text: &'a str,
@@ -73,7 +75,8 @@ impl<'a> Eye<'a> {
         requires boundary { IsCharBoundary self.now.text.now start }
         ensures { result.now ≡ slice_range self.now.text.now start self.now.place }
     {
-        &self.text[start..self.place]
+        // SAFETY: the bytes are UTF-8, by the clause `utf8`.
+        unsafe { std::str::from_utf8_unchecked(self.bytes_since(start)) }
     }
 
     /// Returns the bytes of what `since` returns, without checking character boundaries.
@@ -111,7 +114,7 @@ fn decoded_at(text: &str, place: usize) -> char
     requires inside { place < length text.now }
     ensures { Stands text.now place result }
 {
-    match text[place..].chars().next() {
+    match range_from(text, place).chars().next() {
         Some(c) => c,
         None => unreachable!(),
     }

@@ -7,6 +7,7 @@ ghost use Rattle.duration_str.specs.Iteration.{tokens_left, source};
 
 use crate::cause::Cause;
 use crate::options::Options;
+use crate::slice::range_from;
 use crate::token::Tokens;
 
 /// A refusal: the text that was read, and the cause. It prints as a message for people.
@@ -80,7 +81,7 @@ impl<'a> Fault<'a> {
         // To find the token at the place, it is enough to cut the text from the character before
         // the place on.
         let from = last_boundary(self.text, place.saturating_sub(1));
-        token_at(Tokens::new(&self.text[from..], o), place - from)
+        token_at(Tokens::new(range_from(self.text, from), o), place - from)
     }
 }
 

@@ -25,6 +25,7 @@ mod report;
 mod rounding;
 mod rules;
 mod signed;
+mod slice;
 mod table;
 mod term;
 pub mod token;

@@ -8,6 +8,7 @@ ghost use Rattle.duration_str.specs.Messages.{byte_text, caret_text, chars_befor
 
 use crate::fault::Fault;
 use crate::printing::put_number;
+use crate::slice::range_to;
 use std::fmt;
 
 impl Fault<'_> {
@@ -115,7 +116,7 @@ pub(crate) fn chars_before(text: &str, place: usize) -> usize
     ensures count { result ≡ chars_before text.now place }
     ensures short { result ≤ length text.now }
 {
-    text[..place].chars().count()
+    range_to(text, place).chars().count()
 }
 
 fn put_byte(buffer: &mut [u8], place: usize, line: &str) -> Option<usize>

@@ -11,6 +11,7 @@ use crate::cause::Cause;
 use crate::fault::Fault;
 use crate::message::Layout;
 use crate::one_line::{ONE_LINE_BUFFER_SIZE, is_clear};
+use crate::slice::range_to;
 
 /// The size of a buffer that has room for every report: 80 characters of four bytes, two spaces for
 /// each of them before the caret, the caret, two line feeds, and a line.
@@ -55,7 +56,7 @@ impl Fault<'_> {
     {
         match self.cause {
             Cause::Syntax { place, .. } if is_clear_text(self.text) => Layout::Caret {
-                spaces: columns_of(&self.text[..place]),
+                spaces: columns_of(range_to(self.text, place)),
             },
             _ => Layout::Line,
         }

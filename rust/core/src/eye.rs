@@ -1,6 +1,8 @@
 // Made by tools/erase of crates/duration_str/src/eye.rt.
 //! A text that is taken one character after another, with a count of the looks.
 
+use crate::slice::range_from;
+
 pub(crate) struct Eye<'a> {
     text: &'a str,
     place: usize,
@@ -41,7 +43,8 @@ impl<'a> Eye<'a> {
 
     #[inline(always)]
     pub(crate) fn since(&self, start: usize) -> &'a str {
-        &self.text[start..self.place]
+        // SAFETY: the bytes are UTF-8, by the clause `utf8`.
+        unsafe { core::str::from_utf8_unchecked(self.bytes_since(start)) }
     }
 
     /// Returns the bytes of what `since` returns, without checking character boundaries.
@@ -64,7 +67,7 @@ fn character_at(text: &str, place: usize) -> Option<char> {
 #[cold]
 #[inline(never)]
 fn decoded_at(text: &str, place: usize) -> char {
-    match text[place..].chars().next() {
+    match range_from(text, place).chars().next() {
         Some(c) => c,
         None => unreachable!(),
     }

@@ -11,7 +11,7 @@ pub use self::impls::{UnknownStyle, UnknownUnit};
 mod breakdown;
 #[forbid(unsafe_code)]
 mod cause;
-#[forbid(unsafe_code)]
+#[allow(unsafe_code)] // Blocks: 1.
 mod eye;
 #[forbid(unsafe_code)]
 mod fault;
@@ -43,6 +43,8 @@ mod report;
 mod rounding;
 #[forbid(unsafe_code)]
 mod rules;
+#[allow(unsafe_code)] // Blocks: 2.
+mod slice;
 #[forbid(unsafe_code)]
 mod table;
 #[forbid(unsafe_code)]

@@ -3,6 +3,7 @@
 
 use crate::fault::Fault;
 use crate::printing::put_number;
+use crate::slice::range_to;
 use core::fmt;
 
 impl Fault<'_> {
@@ -82,7 +83,7 @@ impl Layout {
 
 #[inline(never)]
 pub(crate) fn chars_before(text: &str, place: usize) -> usize {
-    text[..place].chars().count()
+    range_to(text, place).chars().count()
 }
 
 fn put_byte(buffer: &mut [u8], place: usize, line: &str) -> Option<usize> {

@@ -1,0 +1,17 @@
+// Made by tools/erase of crates/duration_str/src/slice.rt.
+//! Slices of a text at a place that is known to be a character boundary. Rust's own slices test
+//! that, and contain what reports that it isn't one.
+
+/// Returns `&text[..to]`.
+#[inline(always)]
+pub(crate) fn range_to(text: &str, to: usize) -> &str {
+    // SAFETY: what stands before a character boundary of a text is UTF-8.
+    unsafe { core::str::from_utf8_unchecked(&text.as_bytes()[..to]) }
+}
+
+/// Returns `&text[from..]`.
+#[inline(always)]
+pub(crate) fn range_from(text: &str, from: usize) -> &str {
+    // SAFETY: what follows a character boundary of a text is UTF-8.
+    unsafe { core::str::from_utf8_unchecked(&text.as_bytes()[from..]) }
+}
