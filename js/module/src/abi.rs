@@ -138,8 +138,9 @@ fn check_start(text: &str, start: *const u8) {
 }
 
 /// Divides, for the compiler, a number of 128 bits, by a divisor below 2^63. All divisors here are:
-/// the longest one is a year in nanoseconds. The function of Rust's library that this replaces is
-/// seven times as large.
+/// the longest one is a year in nanoseconds. Only what prints contains such a division. The
+/// function of Rust's library that this replaces is seven times as large.
+#[cfg(feature = "print")]
 #[unsafe(no_mangle)]
 #[allow(improper_ctypes_definitions)] // Rust 1.85 warns of 128-bit numbers.
 extern "C" fn __udivti3(dividend: u128, divisor: u128) -> u128 {

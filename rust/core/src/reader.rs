@@ -141,8 +141,20 @@ fn combination(operator: CondUnit, left: u64, right: u64) -> Option<u64> {
     }
 }
 
-#[inline]
+/// Divides the product by the nanoseconds of a second in two steps: first all but its last 32 bits,
+/// and then these with the remainder. So no step divides a number of 128 bits, for which
+/// WebAssembly would need a further function.
+#[cold]
+#[inline(never)]
 fn scaled(left: u64, right: u64) -> Option<u64> {
-    const SECOND: u128 = 1_000_000_000;
-    u64::try_from(left as u128 * right as u128 / SECOND).ok()
+    const SECOND: u64 = 1_000_000_000;
+    const STEP: u64 = 1 << 32;
+    let product = left as u128 * right as u128;
+    let upper = product / STEP as u128;
+    if upper >= SECOND as u128 * STEP as u128 {
+        return None;
+    }
+    let first = upper as u64;
+    let second = first % SECOND * STEP + (product % STEP as u128) as u64;
+    Some(first / SECOND * STEP + second / SECOND)
 }
