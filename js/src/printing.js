@@ -3,8 +3,10 @@ import { printer } from "modules";
 import { ROUNDINGS, STYLES, UNITS } from "./lists.js";
 import { checkPlain, typeOf, unitOf, unknown } from "./options.js";
 
+// The constants here are not computed: esbuild drops only such constants from a bundle that prints
+// nothing.
 /** All durations are below this many nanoseconds. */
-const LIMIT = 1n << 64n;
+const LIMIT = 18_446_744_073_709_551_616n;
 /** No greater number of milliseconds is below the limit. */
 const MOST = 18_446_744_073_709.55;
 /** The names of the units in `parts`, which has no quarters. */
@@ -13,14 +15,14 @@ const PARTS = [
     "seconds", "milliseconds", "microseconds", "nanoseconds",
 ];
 /** A set of units is a number with the bit `1 << unit` for each of them. */
-const ALL_UNITS = (1 << UNITS.length) - 1;
-const COUNTED_UNITS = ALL_UNITS & ~(1 << PARTS.indexOf(null));
+const allUnits = () => (1 << UNITS.length) - 1;
+const countedUnits = () => allUnits() & ~(1 << PARTS.indexOf(null));
 /** The names of the options. For counting there is no style. */
 const FORMAT = ["units", "largest", "smallest", "parts", "rounding", "style"];
 
-// After the module's own memory comes a `struct Page`. These are the offsets of the struct's other
-// fields: the nanoseconds are at 0.
-const COUNTS = 8, TEXT = COUNTS + 8 * UNITS.length;
+// After the module's own memory comes a `struct Page`. The nanoseconds are at 0, the counts at this
+// offset, and the text after them.
+const COUNTS = 8;
 
 let calls, page;
 // Views of the memory from the struct on, and from the text on. This memory never grows.
@@ -30,7 +32,7 @@ function start() {
     calls = printer();
     page = calls.__heap_base.value;
     fields = new DataView(calls.memory.buffer, page);
-    written = new Uint8Array(calls.memory.buffer, page + TEXT);
+    written = new Uint8Array(calls.memory.buffer, page + COUNTS + 8 * UNITS.length);
 }
 
 // ---- Durations
@@ -158,9 +160,9 @@ function output(length) {
 
 function print(value, options) {
     check(value);
-    let left = ALL_UNITS, parts = UNITS.length, rounding = 0, style = 0;
+    let left = allUnits(), parts = UNITS.length, rounding = 0, style = 0;
     if (options !== undefined) {
-        ({ left, parts, rounding, style } = formatOf(options, true, ALL_UNITS, "y"));
+        ({ left, parts, rounding, style } = formatOf(options, true, left, "y"));
     }
     const millis = taken(value);
     return output(calls.print(page, millis, left, parts, rounding, style));
@@ -202,7 +204,7 @@ function count(value, options, all, longest) {
 const countAt = (unit) => fields.getBigUint64(COUNTS + 8 * unit, true);
 
 export function breakdown(value, options = {}) {
-    const { counted } = count(value, options, ALL_UNITS, "y");
+    const { counted } = count(value, options, allUnits(), "y");
     const parts = [];
     for (let unit = 0; unit < UNITS.length; unit++) {
         if (counted >> unit & 1) parts.push({ count: countAt(unit), unit: UNITS[unit] });
@@ -211,7 +213,7 @@ export function breakdown(value, options = {}) {
 }
 
 export function parts(value, options = {}) {
-    const { left, counted } = count(value, options, COUNTED_UNITS, "d");
+    const { left, counted } = count(value, options, countedUnits(), "d");
     // The highest bit of `left` is the smallest unit.
     const zero = Math.min(31 - Math.clz32(left), UNITS.indexOf("s"));
     if (!counted) return { [PARTS[zero]]: 0 };
