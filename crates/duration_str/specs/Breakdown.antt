@@ -7,6 +7,8 @@ use Rattle.duration_str.specs.declared.unit.TimeUnit.{TimeUnit}
 use Rattle.duration_str.specs.Units.{nanos_of}
 use Rattle.duration_str.specs.Format.{IsGreatestWithin, counts_within, lengths_within, units_within}
 use Rattle.duration_str.specs.Printing.{nonzero}
+use Rattle.duration_str.specs.Rounding.{IsShown}
+use Rattle.duration_str.specs.declared.rounding.Rounding.{Rounding}
 use Rattle.duration_str.specs.Internal.UnitTable.{units_of}
 
 -- These are the parts of a duration of `nanos` nanoseconds in this format: of the greatest counts
@@ -15,6 +17,11 @@ abbrev pub AreParts : Format → ℕ → List (TimeUnit × ℕ) → Type 0
 AreParts format nanos parts =
     (counts : List ℕ)
     × IsGreatestWithin (lengths_within format) format.parts nanos counts × (parts ≡ nonzero (units_within format) counts)
+
+-- Of a duration of `nanos` nanoseconds, `shown` nanoseconds are broken down in this format
+-- (`IsShown`), and these are their parts.
+abbrev pub ArePartsRounded : Option Rounding → Format → ℕ → ℕ → List (TimeUnit × ℕ) → Type 0
+ArePartsRounded rounding format nanos shown parts = IsShown rounding format nanos shown × AreParts format shown parts
 
 abbrev pub sum_of_parts : List (TimeUnit × ℕ) → ℕ
 sum_of_parts [] = 0

@@ -1,12 +1,13 @@
 -- A duration rounded to one that prints whole in a format.
-use Rattle.std.specs.Prelude.{◌≡◌, ℕ, ◌+◌, ◌-◌, ◌<◌, ◌≤◌, List, ◌++◌, map}
+use Rattle.std.specs.Prelude.{◌≡◌, ℕ, ◌+◌, ◌-◌, ◌<◌, ◌≤◌, List, ◌++◌, map, Option, None, Some}
 use Rattle.std.specs.Duration.{FitsDuration}
 use Rattle.duration_str.specs.declared.format.Format.{Format}
 use Rattle.duration_str.specs.declared.rounding.Rounding.{Rounding}
 use Rattle.duration_str.specs.declared.rounding.Rounding.TheVariants.{Down, Nearest, Up}
+use Rattle.duration_str.specs.Text.{Characters}
 use Rattle.duration_str.specs.Units.{nanos_of}
 use Rattle.duration_str.specs.Printing.{IsGreatestBreakdown, weighted_sum}
-use Rattle.duration_str.specs.Format.{lengths_within, part_count, shorter_units, units_within}
+use Rattle.duration_str.specs.Format.{IsPrintedWithin, lengths_within, part_count, shorter_units, units_within}
 
 -- The duration fits into the format: its greatest breakdown into the format's units and those of
 -- `shorter_units` has no more parts than the format allows, and each part is in one of the format's
@@ -58,3 +59,18 @@ NoneAbove format nanos = (other : ℕ) → FitsDuration other → PrintsWhole fo
 -- No duration but 0 prints whole.
 abbrev pub OnlyZero : Format → Type 0
 OnlyZero format = (other : ℕ) → PrintsWhole format other → other ≡ 0
+
+-- Of a duration of `nanos` nanoseconds, `shown` nanoseconds are printed or broken down in this
+-- format: those of the duration to which it is rounded, or all of them if it is not rounded.
+abbrev pub IsShown : Option Rounding → Format → ℕ → ℕ → Type 0
+IsShown None format nanos shown = shown ≡ nanos
+IsShown (Some rounding) format nanos shown = FitsDuration shown × IsRounded rounding format nanos shown
+
+-- The duration can't be rounded: it is to be rounded up, and nothing is long enough.
+abbrev pub NoneShown : Option Rounding → Format → ℕ → Type 0
+NoneShown rounding format nanos = (rounding ≡ Some Up) × NoneAbove format nanos
+
+-- The text is that of the duration that is shown (`IsShown`), in the same format.
+abbrev pub IsPrintedRounded : Option Rounding → Format → ℕ → Characters → Type 0
+IsPrintedRounded rounding format nanos text =
+    (shown : ℕ) × IsShown rounding format nanos shown × IsPrintedWithin format shown text

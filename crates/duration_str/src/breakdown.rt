@@ -2,11 +2,13 @@
 ghost use Rattle.std.specs.Prelude.{◌≡◌, ◌∷◌, ◌/◌, ◌%◌, ◌<◌, ◌^◌, IfNone, IfSome, [], MatchOption, ◌+◌, ◌*◌};
 ghost use Rattle.std.specs.Duration.{as_nanos};
 ghost use Rattle.std.specs.Iterator.{YieldsFirstBy, item_count};
-ghost use Rattle.duration_str.specs.Breakdown.{AreParts, YieldsPart, nanos_left, parts_left};
+ghost use Rattle.duration_str.specs.Breakdown.{AreParts, ArePartsRounded, YieldsPart, nanos_left, parts_left};
+ghost use Rattle.duration_str.specs.Rounding.{NoneShown};
 ghost use Rattle.duration_str.specs.Units.{nanos_of};
 ghost use Rattle.duration_str.specs.Internal.UnitTable.{printed_row, units_of};
 
 use crate::format::{Format, Units};
+use crate::rounding::{Rounding, shown};
 use crate::unit::{PRINTED, Printed, TimeUnit, UNITS};
 use std::time::Duration;
 
@@ -55,6 +57,34 @@ impl Breakdown {
         ensures rest { nanos_left result ≡ as_nanos d.now }
     {
         Breakdown::of(d.as_nanos(), format.units, format.parts)
+    }
+
+    /// Rounds the duration to one that prints whole in this format, and returns the breakdown of
+    /// that one, which has no rest. If `rounding` is `None`, the duration is not rounded, and its
+    /// breakdown is that of [`Breakdown::new`].
+    ///
+    /// The result is `None` only for `Rounding::Up`, if no duration up to `Duration::MAX` prints
+    /// whole and is not below the given one.
+    ///
+    /// ```
+    /// use duration_str::{Breakdown, Format, Rounding, TimeUnit};
+    /// use std::time::Duration;
+    ///
+    /// let length = Duration::new(7_199, 0); // 1h 59min 59s
+    /// let one_part = Format::whole().parts(1);
+    /// let mut parts = Breakdown::rounded(&length, one_part, Some(Rounding::Nearest)).unwrap();
+    /// assert!(parts.by_ref().eq([(TimeUnit::Hour, 2)]));
+    /// assert_eq!(parts.rest(), 0);
+    /// ```
+    #[inline]
+    #[must_use]
+    pub fn rounded(d: &Duration, format: Format, rounding: Option<Rounding>) -> Option<Breakdown>
+        ensures some { IfSome result (λ parts. ArePartsRounded rounding format (as_nanos d.now)
+            (nanos_left parts) (parts_left parts)) }
+        ensures none { IfNone result (NoneShown rounding format (as_nanos d.now)) }
+    {
+        let shown = shown(*d, format, rounding)?;
+        Some(Breakdown::new(&shown, format))
     }
 
     /// Returns the nanoseconds that the parts so far leave: the whole duration at first, and at the

@@ -45,7 +45,7 @@ pub use printing::{
     FORMAT_BUFFER_SIZE, HUMAN_BUFFER_SIZE, MAX_LONG_LEN, MAX_PRINTED_LEN, write_format, write_human,
 };
 pub use report::REPORT_BUFFER_SIZE;
-pub use rounding::{Rounding, round_to};
+pub use rounding::{Rounding, round_to, write_rounded};
 pub use rules::Rules;
 pub use token::{Token, Tokens, What};
 pub use top::{

@@ -1,15 +1,16 @@
 //! Durations rounded to those that print whole in a format: that fit into its units and parts, so
 //! that their texts leave nothing out.
-ghost use Rattle.std.specs.Prelude.{◌≡◌, ◌+◌, ◌-◌, ◌<◌, ◌≤◌, ◌⊎◌, IfNone, IfSome, true};
+ghost use Rattle.std.specs.Prelude.{◌≡◌, ◌+◌, ◌-◌, ◌<◌, ◌≤◌, ◌⊎◌, IfNone, IfSome, chars, length, true};
 ghost use Rattle.std.specs.Duration.{as_nanos};
-ghost use Rattle.duration_str.specs.Format.{is_in, up_to};
-ghost use Rattle.duration_str.specs.Rounding.{IsRounded, IsRoundedDown, IsRoundedUp, NoneAbove, OnlyZero};
+ghost use Rattle.duration_str.specs.Format.{is_in, most_len, up_to};
+ghost use Rattle.duration_str.specs.Rounding.{IsPrintedRounded, IsRounded, IsRoundedDown, IsRoundedUp, IsShown, NoneAbove, NoneShown, OnlyZero};
 ghost use Rattle.duration_str.specs.Units.{nanos_of};
 ghost use Rattle.duration_str.specs.declared.rounding.Rounding.TheVariants.{Up};
 ghost use Rattle.duration_str.specs.declared.unit.TimeUnit.TheVariants.{Day};
 
 use crate::breakdown::longest;
 use crate::format::{Format, Units};
+use crate::printing::{FORMAT_BUFFER_SIZE, write_format};
 use crate::unit::TimeUnit;
 use std::time::Duration;
 
@@ -25,13 +26,62 @@ pub enum Rounding {
     Up,
 }
 
+/// Rounds a duration to one that prints whole in this format, and prints that one to the start of a
+/// buffer, as [`write_format`] does. Returns the text. If `rounding` is `None`, the duration is not
+/// rounded, and the rest is left out.
+///
+/// The result is `None` only for `Rounding::Up`, if no duration up to `Duration::MAX` prints whole
+/// and is not below the given one. That is so for 1ns in a format without units or parts.
+///
+/// ```
+/// use duration_str::{FORMAT_BUFFER_SIZE, Format, Rounding, write_rounded};
+/// use std::time::Duration;
+///
+/// let length = Duration::new(7_199, 0); // 1h 59min 59s
+/// let mut buffer = [0; FORMAT_BUFFER_SIZE];
+/// let mut in_parts = |parts, rounding| {
+///     let format = Format::whole().parts(parts);
+///     write_rounded(&length, format, rounding, &mut buffer).map(str::to_string)
+/// };
+/// assert_eq!(in_parts(1, None).as_deref(), Some("1h"));
+/// assert_eq!(in_parts(1, Some(Rounding::Down)).as_deref(), Some("1h"));
+/// assert_eq!(in_parts(1, Some(Rounding::Nearest)).as_deref(), Some("2h"));
+/// assert_eq!(in_parts(0, Some(Rounding::Up)), None);
+/// ```
+#[inline(always)]
+#[must_use]
+pub fn write_rounded<'b>(
+    d: &Duration,
+    format: Format,
+    rounding: Option<Rounding>,
+    buffer: &'b mut [u8; FORMAT_BUFFER_SIZE],
+) -> Option<&'b str>
+    ensures some { IfSome result (λ text.
+        IsPrintedRounded rounding format (as_nanos d.now) (chars text.now)) }
+    ensures none { IfNone result (NoneShown rounding format (as_nanos d.now)) }
+    ensures short { IfSome result (λ text. length text.now ≤ most_len format.style) }
+{
+    let shown = shown(*d, format, rounding)?;
+    Some(write_format(&shown, format, buffer))
+}
+
+/// Returns the duration that is printed or broken down in place of this one.
+#[inline(always)]
+pub(crate) fn shown(d: Duration, format: Format, rounding: Option<Rounding>) -> Option<Duration>
+    ensures some { IfSome result (λ shown. IsShown rounding format (as_nanos d) (as_nanos shown)) }
+    ensures none { IfNone result (NoneShown rounding format (as_nanos d)) }
+{
+    match rounding {
+        Some(rounding) => round_to(&d, format, rounding),
+        None => Some(d),
+    }
+}
+
 /// Rounds the duration to one that prints whole in this format: one that fits into the format's
 /// units and parts, so that its text leaves nothing out. The format's style does not matter.
 ///
-/// A duration that prints whole is returned as it is. For any other, [`write_format`] prints the
-/// text of what `Rounding::Down` gives.
-///
-/// [`write_format`]: crate::write_format
+/// A duration that prints whole is returned as it is. To print or to break down the rounded
+/// duration, call [`write_rounded`] or [`Breakdown::rounded`](crate::Breakdown::rounded).
 ///
 /// The result is `None` only for `Rounding::Up`, if no duration up to `Duration::MAX` prints whole
 /// and is not below the given one. That is so for 1ns in a format without units or parts.

@@ -2,6 +2,7 @@
 //! The breakdown of a duration into parts.
 
 use crate::format::{Format, Units};
+use crate::rounding::{Rounding, shown};
 use crate::unit::{PRINTED, Printed, TimeUnit, UNITS};
 use core::time::Duration;
 
@@ -46,6 +47,30 @@ impl Breakdown {
     #[must_use]
     pub fn new(d: &Duration, format: Format) -> Breakdown {
         Breakdown::of(d.as_nanos(), format.units, format.parts)
+    }
+
+    /// Rounds the duration to one that prints whole in this format, and returns the breakdown of
+    /// that one, which has no rest. If `rounding` is `None`, the duration is not rounded, and its
+    /// breakdown is that of [`Breakdown::new`].
+    ///
+    /// The result is `None` only for `Rounding::Up`, if no duration up to `Duration::MAX` prints
+    /// whole and is not below the given one.
+    ///
+    /// ```
+    /// use duration_str::{Breakdown, Format, Rounding, TimeUnit};
+    /// use std::time::Duration;
+    ///
+    /// let length = Duration::new(7_199, 0); // 1h 59min 59s
+    /// let one_part = Format::whole().parts(1);
+    /// let mut parts = Breakdown::rounded(&length, one_part, Some(Rounding::Nearest)).unwrap();
+    /// assert!(parts.by_ref().eq([(TimeUnit::Hour, 2)]));
+    /// assert_eq!(parts.rest(), 0);
+    /// ```
+    #[inline]
+    #[must_use]
+    pub fn rounded(d: &Duration, format: Format, rounding: Option<Rounding>) -> Option<Breakdown> {
+        let shown = shown(*d, format, rounding)?;
+        Some(Breakdown::new(&shown, format))
     }
 
     /// Returns the nanoseconds that the parts so far leave: the whole duration at first, and at the

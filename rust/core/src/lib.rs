@@ -63,7 +63,7 @@ pub use self::printing::{
     FORMAT_BUFFER_SIZE, HUMAN_BUFFER_SIZE, MAX_LONG_LEN, MAX_PRINTED_LEN, write_format, write_human,
 };
 pub use self::report::REPORT_BUFFER_SIZE;
-pub use self::rounding::{Rounding, round_to};
+pub use self::rounding::{Rounding, round_to, write_rounded};
 pub use self::rules::Rules;
 pub use self::token::{Token, Tokens, What};
 pub use self::unit::{CondUnit, Options, TimeUnit, UNITS};

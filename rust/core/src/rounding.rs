@@ -4,6 +4,7 @@
 
 use crate::breakdown::longest;
 use crate::format::{Format, Units};
+use crate::printing::{FORMAT_BUFFER_SIZE, write_format};
 use crate::unit::TimeUnit;
 use core::time::Duration;
 
@@ -20,13 +21,54 @@ pub enum Rounding {
     Up,
 }
 
+/// Rounds a duration to one that prints whole in this format, and prints that one to the start of a
+/// buffer, as [`write_format`] does. Returns the text. If `rounding` is `None`, the duration is not
+/// rounded, and the rest is left out.
+///
+/// The result is `None` only for `Rounding::Up`, if no duration up to `Duration::MAX` prints whole
+/// and is not below the given one. That is so for 1ns in a format without units or parts.
+///
+/// ```
+/// use duration_str::{FORMAT_BUFFER_SIZE, Format, Rounding, write_rounded};
+/// use std::time::Duration;
+///
+/// let length = Duration::new(7_199, 0); // 1h 59min 59s
+/// let mut buffer = [0; FORMAT_BUFFER_SIZE];
+/// let mut in_parts = |parts, rounding| {
+///     let format = Format::whole().parts(parts);
+///     write_rounded(&length, format, rounding, &mut buffer).map(str::to_string)
+/// };
+/// assert_eq!(in_parts(1, None).as_deref(), Some("1h"));
+/// assert_eq!(in_parts(1, Some(Rounding::Down)).as_deref(), Some("1h"));
+/// assert_eq!(in_parts(1, Some(Rounding::Nearest)).as_deref(), Some("2h"));
+/// assert_eq!(in_parts(0, Some(Rounding::Up)), None);
+/// ```
+#[inline(always)]
+#[must_use]
+pub fn write_rounded<'b>(
+    d: &Duration,
+    format: Format,
+    rounding: Option<Rounding>,
+    buffer: &'b mut [u8; FORMAT_BUFFER_SIZE],
+) -> Option<&'b str> {
+    let shown = shown(*d, format, rounding)?;
+    Some(write_format(&shown, format, buffer))
+}
+
+/// Returns the duration that is printed or broken down in place of this one.
+#[inline(always)]
+pub(crate) fn shown(d: Duration, format: Format, rounding: Option<Rounding>) -> Option<Duration> {
+    match rounding {
+        Some(rounding) => round_to(&d, format, rounding),
+        None => Some(d),
+    }
+}
+
 /// Rounds the duration to one that prints whole in this format: one that fits into the format's
 /// units and parts, so that its text leaves nothing out. The format's style does not matter.
 ///
-/// A duration that prints whole is returned as it is. For any other, [`write_format`] prints the
-/// text of what `Rounding::Down` gives.
-///
-/// [`write_format`]: crate::write_format
+/// A duration that prints whole is returned as it is. To print or to break down the rounded
+/// duration, call [`write_rounded`] or [`Breakdown::rounded`](crate::Breakdown::rounded).
 ///
 /// The result is `None` only for `Rounding::Up`, if no duration up to `Duration::MAX` prints whole
 /// and is not below the given one. That is so for 1ns in a format without units or parts.
