@@ -4,6 +4,7 @@ use core::fmt::{self, Write};
 use core::time::Duration;
 use duration_str_core::{
     Breakdown, FORMAT_BUFFER_SIZE, Format, Rounding, Style, TimeUnit, round_to, write_format,
+    write_rounded,
 };
 
 /// A duration whose `Display` prints it for people, without allocating. You choose the units, the
@@ -119,7 +120,8 @@ impl FormattedDuration {
     #[expect(clippy::inherent_to_string_shadow_display, reason = "the same text")]
     #[must_use]
     pub fn to_string(&self) -> String {
-        <[&str; 2]>::from(self.sign_and_text(&mut [0; FORMAT_BUFFER_SIZE])).concat()
+        self.signed(self.text(&mut [0; FORMAT_BUFFER_SIZE]))
+            .concat()
     }
 
     /// Returns the parts as numbers: the units with their counts, the longest unit first. The style
@@ -147,8 +149,8 @@ impl FormattedDuration {
     /// Rounds the duration in this way to one that prints whole, without a rest, in the units and
     /// parts that you have chosen. If the duration is negative, its magnitude is rounded.
     ///
-    /// `Rounding::Down` changes no text. If no duration up to [`Duration::MAX`] is long enough, as
-    /// with `parts(0)`, `Rounding::Up` rounds down.
+    /// `Rounding::Down` changes no text, but takes the rest away. If no duration up to
+    /// [`Duration::MAX`] is long enough, as with `parts(0)`, `Rounding::Up` changes nothing.
     ///
     /// ```
     /// use duration_str::{Rounding, TimeUnit, format_duration};
@@ -162,24 +164,32 @@ impl FormattedDuration {
     /// assert_eq!(minutes.rounding(Rounding::Up).to_string(), "2h");
     /// ```
     #[must_use]
-    pub fn rounding(self, rounding: Rounding) -> RoundedDuration {
-        let round = |rounding| round_to(&self.magnitude, self.format, rounding);
-        let rounded = round(rounding).or_else(|| round(Rounding::Down));
-        RoundedDuration(FormattedDuration {
-            magnitude: rounded.unwrap_or_default(),
-            ..self
-        })
+    pub const fn rounding(self, rounding: Rounding) -> RoundedDuration {
+        RoundedDuration {
+            given: self,
+            rounding,
+        }
     }
 
     #[inline(always)]
-    fn sign_and_text<'b>(
-        &self,
-        buffer: &'b mut [u8; FORMAT_BUFFER_SIZE],
-    ) -> (&'static str, &'b str) {
-        let magnitude = write_format(&self.magnitude, self.format, buffer);
+    fn text<'b>(&self, buffer: &'b mut [u8; FORMAT_BUFFER_SIZE]) -> &'b str {
+        write_format(&self.magnitude, self.format, buffer)
+    }
+
+    /// Returns the minus, if there is one, and the text of the magnitude.
+    #[inline(always)]
+    fn signed<'b>(&self, magnitude: &'b str) -> [&'b str; 2] {
         // Only a zero begins with `0`.
         let has_minus = self.is_negative && !magnitude.starts_with('0');
-        (if has_minus { "-" } else { "" }, magnitude)
+        [if has_minus { "-" } else { "" }, magnitude]
+    }
+
+    #[inline(always)]
+    fn fmt_signed(&self, magnitude: &str, f: &mut fmt::Formatter<'_>) -> fmt::Result {
+        match (self.signed(magnitude), f.width()) {
+            (["", magnitude], None) => f.write_str(magnitude),
+            (parts, _) => pad(f, &parts),
+        }
     }
 }
 
@@ -281,10 +291,13 @@ chooses! {
     style: Style,
 }
 
-/// A duration that was rounded to print whole in its units and parts, which can't be changed any
+/// A duration that is rounded to print whole in its units and parts, which can't be changed any
 /// more. Call [`FormattedDuration::rounding`] to get one.
 #[derive(Clone, Copy, Debug, PartialEq, Eq, Hash)]
-pub struct RoundedDuration(FormattedDuration);
+pub struct RoundedDuration {
+    given: FormattedDuration,
+    rounding: Rounding,
+}
 
 impl RoundedDuration {
     /// Returns the rounded duration, or its magnitude if it is negative.
@@ -294,12 +307,12 @@ impl RoundedDuration {
     /// use std::time::Duration;
     ///
     /// let build = format_duration(Duration::from_secs(7_199)).parts(1);
-    /// let hours = *build.rounding(Rounding::Nearest).get_ref();
-    /// assert_eq!(hours, Duration::from_secs(7_200));
+    /// assert_eq!(build.rounding(Rounding::Nearest).duration(), Duration::from_secs(7_200));
     /// ```
     #[must_use]
-    pub const fn get_ref(&self) -> &Duration {
-        self.0.get_ref()
+    pub fn duration(&self) -> Duration {
+        let given = &self.given;
+        round_to(&given.magnitude, given.format, self.rounding).unwrap_or(given.magnitude)
     }
 
     /// Returns the text that [`ToString`](alloc::string::ToString) would return, faster, as
@@ -315,10 +328,14 @@ impl RoundedDuration {
     #[expect(clippy::inherent_to_string_shadow_display, reason = "the same text")]
     #[must_use]
     pub fn to_string(&self) -> String {
-        self.0.to_string()
+        match self.text(&mut [0; FORMAT_BUFFER_SIZE]) {
+            Some(magnitude) => self.given.signed(magnitude).concat(),
+            None => self.given.to_string(),
+        }
     }
 
-    /// Returns the parts as numbers, as [`FormattedDuration::breakdown`] does.
+    /// Returns the parts as numbers, as [`FormattedDuration::breakdown`] does. They have no rest,
+    /// except if there is nothing to round up to.
     ///
     /// ```
     /// use duration_str::{Rounding, TimeUnit, format_duration};
@@ -329,14 +346,26 @@ impl RoundedDuration {
     /// ```
     #[must_use]
     pub fn breakdown(&self) -> Breakdown {
-        self.0.breakdown()
+        let given = &self.given;
+        Breakdown::rounded(&given.magnitude, given.format, Some(self.rounding))
+            .unwrap_or_else(|| given.breakdown())
+    }
+
+    /// Returns `None` if there is nothing to round up to.
+    #[inline(always)]
+    fn text<'b>(&self, buffer: &'b mut [u8; FORMAT_BUFFER_SIZE]) -> Option<&'b str> {
+        let given = &self.given;
+        write_rounded(&given.magnitude, given.format, Some(self.rounding), buffer)
     }
 }
 
-/// Writes what a [`FormattedDuration`] writes.
+/// Writes what a [`FormattedDuration`] of the rounded duration writes.
 impl fmt::Display for RoundedDuration {
     fn fmt(&self, f: &mut fmt::Formatter<'_>) -> fmt::Result {
-        self.0.fmt(f)
+        match self.text(&mut [0; FORMAT_BUFFER_SIZE]) {
+            Some(magnitude) => self.given.fmt_signed(magnitude, f),
+            None => self.given.fmt(f),
+        }
     }
 }
 
@@ -345,10 +374,7 @@ impl fmt::Display for RoundedDuration {
 /// cut the text at it.
 impl fmt::Display for FormattedDuration {
     fn fmt(&self, f: &mut fmt::Formatter<'_>) -> fmt::Result {
-        match (self.sign_and_text(&mut [0; FORMAT_BUFFER_SIZE]), f.width()) {
-            (("", magnitude), None) => f.write_str(magnitude),
-            ((sign, magnitude), _) => pad(f, &[sign, magnitude]),
-        }
+        self.fmt_signed(self.text(&mut [0; FORMAT_BUFFER_SIZE]), f)
     }
 }
 

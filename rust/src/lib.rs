@@ -88,7 +88,7 @@
 //! ```
 //!
 //! For durations of `chrono` and `time`, [`HumanFormat::formatted`] does the same. [`write_format`]
-//! writes into a buffer, and allocates nothing.
+//! and [`write_rounded`] write into a buffer, and allocate nothing.
 //!
 //! # Why and where a text is refused
 //!
@@ -214,10 +214,10 @@ pub use derror::{DError, DResult};
 pub use duration_str_core::{
     Breakdown, Cause, CondUnit, Expected, FORMAT_BUFFER_SIZE, Format, HUMAN_BUFFER_SIZE,
     ONE_LINE_BUFFER_SIZE, Options, Rounding, Rules, Style, TimeUnit, Units, UnknownStyle,
-    UnknownUnit, round_to, write_format, write_human,
+    UnknownUnit, write_format, write_human, write_rounded,
 };
-// `MAX_LONG_LEN`, `MAX_PRINTED_LEN` and `UNITS`, below, are hidden, since only the core's
-// documentation names them.
+// `MAX_LONG_LEN`, `MAX_PRINTED_LEN`, `UNITS` and `round_to`, below, are hidden, since only the
+// core's documentation names them.
 #[cfg(feature = "serde")]
 #[allow(deprecated)]
 pub use self::serde::original::{
@@ -235,7 +235,7 @@ pub use self::serde::{
     human, human_more_names, human_or_millis, human_or_seconds, human_require_unit, humantime_serde,
 };
 #[doc(hidden)]
-pub use duration_str_core::{MAX_LONG_LEN, MAX_PRINTED_LEN, UNITS};
+pub use duration_str_core::{MAX_LONG_LEN, MAX_PRINTED_LEN, UNITS, round_to};
 #[cfg(feature = "macros")]
 pub use duration_str_macros::duration;
 pub use error::DurationError;

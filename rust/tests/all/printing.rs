@@ -1,7 +1,7 @@
 use crate::{Limits, Printed, vectors};
 use duration_str::{
-    Format, FormattedDuration, HumanDuration, HumanFormat, Options, Rounding, Style, TimeUnit,
-    format_duration, parse_with, round_to, write_format, write_human,
+    FORMAT_BUFFER_SIZE, Format, FormattedDuration, HumanDuration, HumanFormat, Options, Rounding,
+    Style, TimeUnit, format_duration, parse_with, write_format, write_human, write_rounded,
 };
 #[cfg(any(feature = "chrono", feature = "time"))]
 use proptest::prelude::*;
@@ -90,15 +90,28 @@ fn rounds_as_the_vectors_say() {
         let format = Format::whole().only(&units).largest(first);
         let format = format.smallest(last).parts(parts);
         let length = length_of(&text);
-        let longer = round_to(&length, format, Rounding::Up);
-        assert_eq!(longer.is_some(), up.is_some(), "{text}");
-        // Without a longer duration, `rounding` rounds down.
+        let mut buffer = [0; FORMAT_BUFFER_SIZE];
+        for (rounding, wanted) in [
+            (None, Some(&down)),
+            (Some(Rounding::Down), Some(&down)),
+            (Some(Rounding::Nearest), Some(&nearest)),
+            (Some(Rounding::Up), up.as_ref()),
+        ] {
+            let written = write_rounded(&length, format, rounding, &mut buffer);
+            assert_eq!(written, wanted.map(String::as_str), "{text}");
+        }
+        // Without a longer duration, `rounding` changes nothing.
         let up = up.unwrap_or_else(|| down.clone());
         for printed in in_each_order(length, &limits, Style::Short) {
             let rounded = |rounding| printed.rounding(rounding).to_string();
             assert_eq!(rounded(Rounding::Down), down, "{text}");
             assert_eq!(rounded(Rounding::Nearest), nearest, "{text}");
             assert_eq!(rounded(Rounding::Up), up, "{text}");
+            for rounding in [Rounding::Down, Rounding::Nearest] {
+                let mut parts = printed.rounding(rounding).breakdown();
+                parts.by_ref().for_each(drop);
+                assert_eq!(parts.rest(), 0, "{text}");
+            }
         }
     }
 }

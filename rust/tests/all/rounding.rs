@@ -1,11 +1,22 @@
 //! Rounds durations to those that print whole, in all sets of units and up to 12 parts.
-use duration_str::{
-    Breakdown, Format, Rounding, Style, TimeUnit, UNITS, Units, format_duration, round_to,
-};
+use duration_str::{Breakdown, Format, Rounding, Style, TimeUnit, UNITS, Units, format_duration};
 use std::time::Duration;
 
 const DAY: u64 = 86_400;
 const NANO: Duration = Duration::from_nanos(1);
+
+fn nanos(count: u128) -> Duration {
+    Duration::new(
+        u64::try_from(count / 1_000_000_000).unwrap(),
+        u32::try_from(count % 1_000_000_000).unwrap(),
+    )
+}
+
+/// Returns the duration that is broken down, if there is one.
+fn round_to(length: &Duration, format: Format, rounding: Rounding) -> Option<Duration> {
+    let parts = Breakdown::rounded(length, format, Some(rounding))?;
+    Some(nanos(parts.rest()))
+}
 
 #[test]
 fn rounds() {
@@ -47,12 +58,7 @@ fn rounds() {
 fn whole_below(length: Duration, format: Format) -> Duration {
     let mut parts = Breakdown::new(&length, format);
     parts.by_ref().for_each(drop);
-    let rest = parts.rest();
-    length
-        - Duration::new(
-            u64::try_from(rest / 1_000_000_000).unwrap(),
-            u32::try_from(rest % 1_000_000_000).unwrap(),
-        )
+    length - nanos(parts.rest())
 }
 
 /// Fails if a duration is rounded to one that doesn't print whole, or if another one that prints
@@ -123,23 +129,19 @@ fn prints_rounded() {
 }
 
 #[test]
-fn rounds_down_if_nothing_is_long_enough() {
-    let year = TimeUnit::Year.nanos() / 1_000_000_000;
-    let years = Duration::from_secs(u64::MAX / year * year);
+fn stays_as_it_is_if_nothing_is_long_enough() {
     let longest = format_duration(Duration::MAX);
-    for (printed, text, length) in [
-        (longest.parts(0), "0s", Duration::ZERO),
-        (longest.only(&[]), "0s", Duration::ZERO),
-        (longest.only(&[TimeUnit::Year]), "584942417355y", years),
+    for (printed, text) in [
+        (longest.parts(0), "0s"),
+        (longest.only(&[]), "0s"),
+        (longest.only(&[TimeUnit::Year]), "584942417355y"),
     ] {
         let rounded = printed.rounding(Rounding::Up);
-        assert_eq!(
-            (rounded.to_string(), *rounded.get_ref()),
-            (text.to_string(), length)
-        );
-        let mut parts = rounded.breakdown();
-        parts.by_ref().for_each(drop);
-        assert_eq!(parts.rest(), 0);
+        assert_eq!(rounded.to_string(), text);
+        assert_eq!(format!("{rounded:>15}"), format!("{text:>15}"));
+        assert_eq!(rounded.duration(), Duration::MAX);
+        assert!(rounded.breakdown().eq(printed.breakdown()));
+        assert_eq!(rounded.breakdown().rest(), Duration::MAX.as_nanos());
     }
 }
 
