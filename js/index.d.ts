@@ -103,10 +103,10 @@ interface Counted<Name extends Unit> {
     /** The smallest unit. With `min`, 90 seconds are `1min`. */
     smallest?: Name | undefined;
     /**
-     * How a duration is rounded if its text leaves something out: `down`, the default, or to the
-     * `nearest`, or `up`. The rounded duration is one whose text leaves nothing out. Of two that
-     * are as near, `nearest` takes the longer one. With `min` as the smallest unit, 90 seconds are
-     * `1min`, and rounded to the nearest they are `2min`.
+     * How a duration is first rounded: `down`, to the `nearest`, or `up`. The rounded duration is
+     * one whose text leaves nothing out. Of two that are as near, `nearest` takes the longer one.
+     * With `min` as the smallest unit, 90 seconds are `1min`, and rounded to the nearest they are
+     * `2min`.
      */
     rounding?: "down" | "nearest" | "up" | undefined;
 }
@@ -381,8 +381,8 @@ export function formatNs(nanoseconds: bigint, format?: Format): string;
  * The parts are those that the printed text has, so a duration of 0 has none. The counts, each
  * times the length of its unit, and the rest are together the duration.
  *
- * If you round to the `nearest` or `up`, the parts are those of the rounded duration, and the rest
- * is 0. A number with a fraction is rounded to nanoseconds first, as by `format`.
+ * If you name a `rounding`, the parts are those of the rounded duration, and the rest is 0. A
+ * number with a fraction is rounded to nanoseconds first, as by `format`.
  *
  * ```js
  * const { parts, restNs } = breakdown(193_029, { parts: 2 });

@@ -18,7 +18,7 @@ export const NAMES = [
 ];
 /** The styles, in the order of `enum duration_str_style`. */
 export const STYLES = ["short", "compact", "long"];
-/** The ways of rounding, in the order of `enum duration_str_rounding`. */
+/** The ways of rounding, in the order of `enum duration_str_rounding`, without the first. */
 export const ROUNDINGS = ["down", "nearest", "up"];
 /** The codes of answers, at the places of their numbers. */
 export const CODES = ["READ", "EMPTY", "SYNTAX", "NUMBER_TOO_LARGE", "OVERFLOW", "MIXED", "OUT_OF_RANGE", "NOT_TEXT"];

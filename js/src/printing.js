@@ -82,6 +82,11 @@ function unitsOf(names) {
     return units;
 }
 
+/** The module's number of a way of rounding. 0 is not to round. */
+function wayOf(rounding) {
+    return rounding === undefined ? 0 : 1 + placeOf("rounding", rounding, ROUNDINGS);
+}
+
 /** No duration has more parts than there are units. */
 function countOf(parts) {
     if (typeof parts !== "number") {
@@ -116,7 +121,7 @@ function unitsLeft({ units, largest, smallest }, all, longest) {
 /** The numbers by which the module knows the format. Only printing has a style. */
 function formatOf(options, hasStyle, all, longest) {
     checkPlain(options);
-    const chosen = { smallest: "ns", parts: Infinity, rounding: "down", style: "short" };
+    const chosen = { smallest: "ns", parts: Infinity, style: "short" };
     for (const name of Object.keys(options)) {
         if (!FORMAT.includes(name)) throw unknown(name);
         const value = options[name];
@@ -128,7 +133,7 @@ function formatOf(options, hasStyle, all, longest) {
         left: unitsLeft(chosen, all, longest),
         parts: countOf(chosen.parts),
         style: placeOf("style", chosen.style, STYLES),
-        rounding: placeOf("rounding", chosen.rounding, ROUNDINGS),
+        rounding: wayOf(chosen.rounding),
     };
 }
 

@@ -43,6 +43,9 @@ test("rounds as the vectors say", () => {
     for (const [text, limits, ...texts] of VECTORS.rounded) {
         if (!tryParseNs(text).ok) continue;
         const value = parseNs(text);
+        for (const rounding of [undefined, "down"]) {
+            assert.equal(formatNs(value, { ...limits, rounding }), texts[0], text);
+        }
         for (const [place, rounding] of ["down", "nearest", "up"].entries()) {
             const printed = texts[place];
             const options = { ...limits, rounding };
@@ -52,11 +55,7 @@ test("rounds as the vectors say", () => {
             const { parts: counted, restNs } = breakdown(value, options);
             const joined = counted.map(({ count, unit }) => `${count}${unit}`).join(" ");
             assert.equal(joined, printed.startsWith("0") ? "" : printed, text);
-            if (rounding === "down") {
-                assert.equal(restNs, breakdown(value, limits).restNs, text);
-                continue;
-            }
-            assert.equal(restNs, 0n);
+            assert.equal(restNs, 0n, text);
             const total = counted.reduce((sum, { count, unit }) => sum + count * LENGTHS[unit], 0n);
             if (total < 2n ** 64n) assert.equal(formatNs(total, limits), printed);
         }

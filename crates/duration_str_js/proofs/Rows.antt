@@ -1,7 +1,7 @@
 -- Examples that are computed, such as the rules that bits stand for, and the counts of parts.
 use Rattle.std.proofs.Common.{◌≡◌, ◌∷◌, [], None, Some}
 use Rattle.duration_str.specs.declared.format.TheConstants.Units.{ALL}
-use Rattle.duration_str.specs.declared.rounding.Rounding.TheVariants.{Nearest, Up}
+use Rattle.duration_str.specs.declared.rounding.Rounding.TheVariants.{Down, Nearest, Up}
 use Rattle.duration_str.specs.declared.unit.TimeUnit.TheVariants.{Day, Hour, MilliSecond, Minute, NanoSecond, Second, Year}
 use Rattle.duration_str.specs.Format.{set_of}
 use Rattle.duration_str.specs.MoreNames.{more_row_of}
@@ -25,9 +25,10 @@ bits = assumption
 
 pub record Numbers : Type 0 where
   pub rounding-none : rounding_numbered 0 ≡ None
-  pub rounding-nearest : rounding_numbered 1 ≡ Some Nearest
-  pub rounding-up : rounding_numbered 2 ≡ Some Up
-  pub rounding-greater : rounding_numbered 3 ≡ Some Up
+  pub rounding-down : rounding_numbered 1 ≡ Some Down
+  pub rounding-nearest : rounding_numbered 2 ≡ Some Nearest
+  pub rounding-up : rounding_numbered 3 ≡ Some Up
+  pub rounding-greater : rounding_numbered 4 ≡ Some Up
   pub units-quarter : units_of 2 ≡ record { bits = 2 }
   pub units-all : units_of 2047 ≡ ALL
   pub units-above_the_last : units_of 2048 ≡ ALL

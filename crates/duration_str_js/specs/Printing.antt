@@ -1,16 +1,15 @@
 -- How a duration is printed or counted in a format that numbers stand for.
-use Rattle.std.specs.Prelude.{◌≡◌, ℕ, ◌-◌, ◌%◌, ◌^◌, ◌==◌, ◌⊎◌, nat_lt, List, [], ◌∷◌, map, Option, None, Some, slice_set, if◌then◌else◌}
+use Rattle.std.specs.Prelude.{◌≡◌, ℕ, ◌-◌, ◌%◌, ◌^◌, ◌==◌, nat_lt, List, [], ◌∷◌, map, Option, None, Some, slice_set, if◌then◌else◌}
 use Rattle.duration_str.specs.declared.format.Format.{Format}
 use Rattle.duration_str.specs.declared.format.Style.{Style}
 use Rattle.duration_str.specs.declared.format.Style.TheVariants.{Short, Compact, Long}
 use Rattle.duration_str.specs.declared.format.TheConstants.Units.{ALL}
 use Rattle.duration_str.specs.declared.format.Units.{Units}
 use Rattle.duration_str.specs.declared.rounding.Rounding.{Rounding}
-use Rattle.duration_str.specs.declared.rounding.Rounding.TheVariants.{Nearest, Up}
+use Rattle.duration_str.specs.declared.rounding.Rounding.TheVariants.{Down, Nearest, Up}
 use Rattle.duration_str.specs.declared.unit.TimeUnit.{TimeUnit}
-use Rattle.duration_str.specs.Breakdown.{AreParts, sum_of_parts}
-use Rattle.duration_str.specs.Format.{IsPrintedWithin, set_of}
-use Rattle.duration_str.specs.Rounding.{IsRounded, NoneAbove}
+use Rattle.duration_str.specs.Breakdown.{ArePartsRounded, sum_of_parts}
+use Rattle.duration_str.specs.Format.{set_of}
 use Rattle.duration_str.specs.Units.{rank_of}
 
 abbrev pub style_numbered : ℕ → Style
@@ -24,19 +23,11 @@ abbrev pub format_of : ℕ → ℕ → Style → Format
 format_of units parts style = record { units = units_of units; parts = parts; style = style }
 
 abbrev pub rounding_numbered : ℕ → Option Rounding
-rounding_numbered number = if number == 0 then None else if number == 1 then Some Nearest else Some Up
-
--- This duration is printed or counted in place of the given one: what that is rounded to, or that
--- itself, if it is not rounded or if there is nothing to round up to.
-abbrev pub IsTaken : Option Rounding → Format → ℕ → ℕ → Type 0
-IsTaken None format given taken = taken ≡ given
-IsTaken (Some rounding) format given taken =
-    IsRounded rounding format given taken ⊎ ((rounding ≡ Up) × NoneAbove format given × (taken ≡ given))
-
--- The text is that of the duration that is taken.
-abbrev pub PrintsTaken : Option Rounding → Format → ℕ → List ℕ → Type 0
-PrintsTaken rounding format given text =
-    (taken : ℕ) × IsTaken rounding format given taken × IsPrintedWithin format taken text
+rounding_numbered number =
+    if number == 0 then None
+    else if number == 1 then Some Down
+    else if number == 2 then Some Nearest
+    else Some Up
 
 -- the counts, with those of the parts written over them. Of each count 64 bits are written
 abbrev pub with_counts : List ℕ → List (TimeUnit × ℕ) → List ℕ
@@ -46,13 +37,13 @@ with_counts counts ((u, n) ∷ parts) = with_counts (slice_set counts (rank_of u
 abbrev pub units_among : List (TimeUnit × ℕ) → List TimeUnit
 units_among parts = map (λ part. part.0) parts
 
--- The parts are those of the duration that is taken. Their counts are written over the old ones,
--- the set has their units, and the rest is what they leave of the duration.
-pub record CountsTaken (rounding : Option Rounding) (format : Format) (given : ℕ) (old new : List ℕ) (rest : ℕ) (set : Units) : Type 0 where
-  pub taken : ℕ
-  pub is_taken : IsTaken rounding format given taken
+-- A duration of `nanos` nanoseconds is rounded and broken down in this format (`ArePartsRounded`).
+-- The counts of its parts are written over the old ones, the set has their units, and the rest is
+-- what they leave.
+pub record IsCounted (rounding : Option Rounding) (format : Format) (nanos : ℕ) (old new : List ℕ) (rest : ℕ) (set : Units) : Type 0 where
+  pub shown : ℕ
   pub parts : List (TimeUnit × ℕ)
-  pub are_parts : AreParts format taken parts
+  pub are_parts : ArePartsRounded rounding format nanos shown parts
   pub counts : new ≡ with_counts old parts
   pub units : set ≡ set_of (units_among parts)
-  pub rest_of : rest ≡ (taken - sum_of_parts parts) % 2 ^ 64
+  pub rest_of : rest ≡ (shown - sum_of_parts parts) % 2 ^ 64

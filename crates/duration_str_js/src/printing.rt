@@ -1,17 +1,16 @@
 //! The calls that print and count.
-ghost use Rattle.std.specs.Prelude.{◌≡◌, ◌+◌, ◌%◌, ◌^◌, ◌<◌};
-ghost use Rattle.std.specs.Duration.{as_nanos};
+ghost use Rattle.std.specs.Prelude.{◌≡◌, ◌+◌, ◌%◌, ◌^◌, ◌<◌, IfNone, IfSome};
 ghost use Rattle.std.specs.Str.{chars};
 ghost use Rattle.duration_str.specs.Breakdown.{nanos_left, parts_left, sum_of_parts};
 ghost use Rattle.duration_str.specs.Format.{set_of};
 ghost use Rattle.duration_str.specs.declared.format.Style.TheVariants.{Short};
+ghost use Rattle.duration_str.specs.Rounding.{IsPrintedRounded, NoneShown};
 ghost use Rattle.duration_str.specs.Units.{rank_of};
 ghost use Rattle.duration_str_js.specs.declared.printing.TheConstants.{UNIT_COUNT};
-ghost use Rattle.duration_str_js.specs.Printing.{CountsTaken, IsTaken, PrintsTaken, format_of, rounding_numbered, style_numbered, units_of, units_among, with_counts};
+ghost use Rattle.duration_str_js.specs.Printing.{IsCounted, format_of, rounding_numbered, style_numbered, units_of, units_among, with_counts};
 
 use duration_str::{
-    Breakdown, FORMAT_BUFFER_SIZE, Format, Rounding, Style, TimeUnit, UNITS, Units, round_to,
-    write_format,
+    Breakdown, FORMAT_BUFFER_SIZE, Format, Rounding, Style, TimeUnit, UNITS, Units, write_rounded,
 };
 use std::time::Duration;
 
@@ -23,8 +22,11 @@ pub const UNIT_COUNT: usize = UNITS.len();
 ///
 /// In the set the bit 2^n stands for the unit at index n of `UNITS`. A set with further bits is all
 /// units. For 0 the duration is not rounded. Otherwise it is first rounded to one that prints
-/// whole: for 1 to the nearest, and for greater numbers up. The styles are 0 for short, 1 for
-/// compact, and greater numbers for long.
+/// whole: for 1 down, for 2 to the nearest, and for greater numbers up. The styles are 0 for short,
+/// 1 for compact, and greater numbers for long.
+///
+/// The result is `None` if nothing is long enough to round up to. JavaScript passes at least one
+/// unit and one part, so there is always something.
 pub fn print(
     nanos: u64,
     units: u16,
@@ -32,19 +34,23 @@ pub fn print(
     rounding: u32,
     style: u32,
     buffer: &mut [u8; FORMAT_BUFFER_SIZE],
-) -> &str
-    ensures { PrintsTaken (rounding_numbered rounding)
-        (format_of units parts (style_numbered style)) nanos (chars result.now) }
+) -> Option<&str>
+    ensures some { IfSome result (λ text. IsPrintedRounded (rounding_numbered rounding)
+        (format_of units parts (style_numbered style)) nanos (chars text.now)) }
+    ensures none { IfNone result (NoneShown (rounding_numbered rounding)
+        (format_of units parts (style_numbered style)) nanos) }
 {
     let format = format_of(units, parts).style(style_numbered(style));
-    let duration = taken(nanos, format, rounding_numbered(rounding));
-    write_format(&duration, format, buffer)
+    let duration = Duration::from_nanos(nanos);
+    write_rounded(&duration, format, rounding_numbered(rounding), buffer)
 }
 
 /// Counts the parts of a duration of this many nanoseconds, in the units and parts and with the
 /// rounding of `print`. Returns the set of the units that have a part. Writes their counts, each at
 /// the index of its unit in `UNITS`, and the nanoseconds that no part has. The other counts are
 /// unchanged. Of each number 64 bits are written.
+///
+/// If the result is `None`, as that of `print`, nothing is written.
 pub fn count(
     nanos: u64,
     units: u16,
@@ -52,16 +58,19 @@ pub fn count(
     rounding: u32,
     counts: &mut [u64; UNIT_COUNT],
     rest: &mut u64,
-) -> Units
-    ensures { CountsTaken (rounding_numbered rounding) (format_of units parts Short)
-        nanos counts.old counts.new rest.new result }
+) -> Option<Units>
+    ensures some { IfSome result (λ counted. IsCounted (rounding_numbered rounding)
+        (format_of units parts Short) nanos counts.old counts.new rest.new counted) }
+    ensures none { IfNone result (NoneShown (rounding_numbered rounding)
+        (format_of units parts Short) nanos) }
+    ensures unchanged { IfNone result ((counts.new ≡ counts.old) × (rest.new ≡ rest.old)) }
 {
     let format = format_of(units, parts);
-    let duration = taken(nanos, format, rounding_numbered(rounding));
-    let mut parts = Breakdown::new(&duration, format);
+    let duration = Duration::from_nanos(nanos);
+    let mut parts = Breakdown::rounded(&duration, format, rounding_numbered(rounding))?;
     let counted = count_parts(&mut parts, counts);
     *rest = low_bits(parts.rest());
-    counted
+    Some(counted)
 }
 
 fn count_parts(parts: &mut Breakdown, counts: &mut [u64; UNIT_COUNT]) -> Units
@@ -122,22 +131,8 @@ fn rounding_numbered(number: u32) -> Option<Rounding>
 {
     match number {
         0 => None,
-        1 => Some(Rounding::Nearest),
+        1 => Some(Rounding::Down),
+        2 => Some(Rounding::Nearest),
         _ => Some(Rounding::Up),
-    }
-}
-
-/// Returns the duration that is printed or counted. JavaScript passes at least one unit and one
-/// part, so there is always something to round up to.
-fn taken(nanos: u64, format: Format, rounding: Option<Rounding>) -> Duration
-    ensures { IsTaken rounding format nanos (as_nanos result) }
-{
-    let given = Duration::from_nanos(nanos);
-    let Some(rounding) = rounding else {
-        return given;
-    };
-    match round_to(&given, format, rounding) {
-        Some(rounded) => rounded,
-        None => given,
     }
 }

@@ -76,7 +76,7 @@ mod printing {
     }
 
     /// Prints this many milliseconds, or, if the number is negative, the duration of the page.
-    /// Returns the length of the text.
+    /// Returns the length of the text, or 0 if there is none.
     #[unsafe(no_mangle)]
     extern "C" fn print(
         page: &mut Page,
@@ -89,8 +89,10 @@ mod printing {
         let nanos = given(page, millis);
         let start = page.text.as_ptr();
         let text = printing::print(nanos, units, parts, rounding, style, &mut page.text);
-        check_start(text, start);
-        text.len()
+        text.map_or(0, |text| {
+            check_start(text, start);
+            text.len()
+        })
     }
 
     /// Counts the parts of a duration, which is given as to `print`. Returns the set of the units
@@ -106,8 +108,7 @@ mod printing {
         let nanos = given(page, millis);
         let (counts, rest) = (&mut page.counts, &mut page.nanos);
         printing::count(nanos, units, parts, rounding, counts, rest)
-            .bits()
-            .into()
+            .map_or(0, |counted| counted.bits().into())
     }
 
     fn given(page: &Page, millis: f64) -> u64 {

@@ -2,8 +2,7 @@
 //! The calls that print and count.
 
 use duration_str_core::{
-    Breakdown, FORMAT_BUFFER_SIZE, Format, Rounding, Style, TimeUnit, UNITS, Units, round_to,
-    write_format,
+    Breakdown, FORMAT_BUFFER_SIZE, Format, Rounding, Style, TimeUnit, UNITS, Units, write_rounded,
 };
 use core::time::Duration;
 
@@ -15,8 +14,11 @@ pub const UNIT_COUNT: usize = UNITS.len();
 ///
 /// In the set the bit 2^n stands for the unit at index n of `UNITS`. A set with further bits is all
 /// units. For 0 the duration is not rounded. Otherwise it is first rounded to one that prints
-/// whole: for 1 to the nearest, and for greater numbers up. The styles are 0 for short, 1 for
-/// compact, and greater numbers for long.
+/// whole: for 1 down, for 2 to the nearest, and for greater numbers up. The styles are 0 for short,
+/// 1 for compact, and greater numbers for long.
+///
+/// The result is `None` if nothing is long enough to round up to. JavaScript passes at least one
+/// unit and one part, so there is always something.
 pub fn print(
     nanos: u64,
     units: u16,
@@ -24,16 +26,18 @@ pub fn print(
     rounding: u32,
     style: u32,
     buffer: &mut [u8; FORMAT_BUFFER_SIZE],
-) -> &str {
+) -> Option<&str> {
     let format = format_of(units, parts).style(style_numbered(style));
-    let duration = taken(nanos, format, rounding_numbered(rounding));
-    write_format(&duration, format, buffer)
+    let duration = Duration::from_nanos(nanos);
+    write_rounded(&duration, format, rounding_numbered(rounding), buffer)
 }
 
 /// Counts the parts of a duration of this many nanoseconds, in the units and parts and with the
 /// rounding of `print`. Returns the set of the units that have a part. Writes their counts, each at
 /// the index of its unit in `UNITS`, and the nanoseconds that no part has. The other counts are
 /// unchanged. Of each number 64 bits are written.
+///
+/// If the result is `None`, as that of `print`, nothing is written.
 pub fn count(
     nanos: u64,
     units: u16,
@@ -41,13 +45,13 @@ pub fn count(
     rounding: u32,
     counts: &mut [u64; UNIT_COUNT],
     rest: &mut u64,
-) -> Units {
+) -> Option<Units> {
     let format = format_of(units, parts);
-    let duration = taken(nanos, format, rounding_numbered(rounding));
-    let mut parts = Breakdown::new(&duration, format);
+    let duration = Duration::from_nanos(nanos);
+    let mut parts = Breakdown::rounded(&duration, format, rounding_numbered(rounding))?;
     let counted = count_parts(&mut parts, counts);
     *rest = low_bits(parts.rest());
-    counted
+    Some(counted)
 }
 
 fn count_parts(parts: &mut Breakdown, counts: &mut [u64; UNIT_COUNT]) -> Units {
@@ -91,20 +95,8 @@ fn style_numbered(number: u32) -> Style {
 fn rounding_numbered(number: u32) -> Option<Rounding> {
     match number {
         0 => None,
-        1 => Some(Rounding::Nearest),
+        1 => Some(Rounding::Down),
+        2 => Some(Rounding::Nearest),
         _ => Some(Rounding::Up),
-    }
-}
-
-/// Returns the duration that is printed or counted. JavaScript passes at least one unit and one
-/// part, so there is always something to round up to.
-fn taken(nanos: u64, format: Format, rounding: Option<Rounding>) -> Duration {
-    let given = Duration::from_nanos(nanos);
-    let Some(rounding) = rounding else {
-        return given;
-    };
-    match round_to(&given, format, rounding) {
-        Some(rounded) => rounded,
-        None => given,
     }
 }
