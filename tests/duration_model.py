@@ -83,10 +83,10 @@ def printed(nanos, options):
 
 def rounded(nanos, options):
     """The duration that is printed. Without rounding it stays as it is, and has a rest."""
-    way = options.get("round", "down")
-    if way == "down":
+    if "round" not in options:
         return nanos
-    return reference.round_to(nanos, units_of(options), options.get("parts", 11), way)
+    units, parts = units_of(options), options.get("parts", 11)
+    return reference.round_to(nanos, units, parts, options["round"])
 
 
 def parts_of(nanos, options):

@@ -6,7 +6,7 @@ use clap::{Command, CommandFactory, Parser, ValueEnum};
 use clap_complete::Shell;
 use duration_str::{
     Breakdown, FORMAT_BUFFER_SIZE, Format, Options, Rounding, Style, TimeUnit, Units, UnknownUnit,
-    parse_duration, round_to, write_format,
+    parse_duration, write_rounded,
 };
 use std::borrow::Cow;
 use std::ffi::{OsStr, OsString};
@@ -39,8 +39,8 @@ pub struct Choices {
         value_parser = up_to_nine)]
     decimals: Option<u8>,
     /// Round durations that can't be printed exactly: down, to the nearest, or up
-    #[arg(long, value_name = "WAY", default_value = "down")]
-    pub round: Round,
+    #[arg(long, value_name = "WAY")]
+    round: Option<Round>,
     /// Read a number without a unit in this unit; a text that is only a number may be 12.5 or
     /// 1e-05. Unless the unit is s, + and * are not read
     #[arg(long, value_name = "UNIT", value_parser = unit)]
@@ -176,20 +176,18 @@ impl Choices {
         }
     }
 
-    /// Returns the duration that is printed for people. Printing rounds down by itself, so then the
-    /// duration stays as it is, and has a rest.
-    fn rounded(&self, nanos: u64) -> Duration {
-        let duration = Duration::from_nanos(nanos);
-        if self.round == Round::Down {
-            return duration;
-        }
-        // A duration of up to 584 years is rounded up to 585 years at most.
-        round_to(&duration, self.format(), self.round.into())
-            .expect("there is a unit, and more than 0 parts")
+    fn rounding(&self) -> Option<Rounding> {
+        self.round.map(Rounding::from)
+    }
+
+    /// A number is rounded down if no way of rounding is given.
+    pub fn round(&self) -> Round {
+        self.round.unwrap_or(Round::Down)
     }
 
     pub fn breakdown(&self, nanos: u64) -> Breakdown {
-        Breakdown::new(&self.rounded(nanos), self.format())
+        Breakdown::rounded(&Duration::from_nanos(nanos), self.format(), self.rounding())
+            .expect(LONG_ENOUGH)
     }
 
     pub fn printed<'b>(
@@ -198,11 +196,18 @@ impl Choices {
         buffer: &'b mut [u8; FORMAT_BUFFER_SIZE],
     ) -> Cow<'b, str> {
         if let Some(unit) = self.to {
-            return in_unit(nanos, unit, self.decimals, self.round).into();
+            return in_unit(nanos, unit, self.decimals, self.round()).into();
         }
-        write_format(&self.rounded(nanos), self.format(), buffer).into()
+        let duration = Duration::from_nanos(nanos);
+        write_rounded(&duration, self.format(), self.rounding(), buffer)
+            .expect(LONG_ENOUGH)
+            .into()
     }
 }
+
+/// There is always something to round up to: a duration of up to 584 years becomes 585 years at
+/// most.
+const LONG_ENOUGH: &str = "there is a unit, and more than 0 parts";
 
 /// If `decimals` is `None`, the number has as many decimals as it needs, up to nine.
 pub fn in_unit(nanos: u64, unit: TimeUnit, decimals: Option<u8>, round: Round) -> String {

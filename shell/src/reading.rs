@@ -55,7 +55,7 @@ pub fn read<'a>(bytes: &'a [u8], choices: &Choices) -> Result<(&'a str, u64), Re
     let text = std::str::from_utf8(bytes).map_err(|_| Refusal::new("not UTF-8"))?;
     if let Some((number, nanos)) = choices
         .from
-        .and_then(|unit| bare_number(text, unit, choices.round))
+        .and_then(|unit| bare_number(text, unit, choices.round()))
     {
         let dots = if number.len() > 40 { "..." } else { "" };
         let too_large = |_| {
