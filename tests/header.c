@@ -150,11 +150,11 @@ static void check_null_results(void) {
     }
     uint64_t counts[DURATION_STR_UNIT_COUNT];
     expect(duration_str_breakdown(193, 29000000, DURATION_STR_UNITS_ALL, 2,
-               DURATION_STR_ROUNDING_DOWN, counts, NULL) &&
+               DURATION_STR_ROUNDING_NONE, counts, NULL) &&
                counts[DURATION_STR_UNIT_MINUTE] == 3 && counts[DURATION_STR_UNIT_SECOND] == 13,
         "counts without the rest");
     counts[0] = 7;
-    expect(!duration_str_breakdown(1, 0, 0, 2, DURATION_STR_ROUNDING_DOWN, counts, NULL) &&
+    expect(!duration_str_breakdown(1, 0, 0, 2, DURATION_STR_ROUNDING_NONE, counts, NULL) &&
                counts[0] == 7,
         "no counts without the rest");
 }
@@ -170,7 +170,7 @@ static bool is_rounded(uint64_t secs, uint64_t nanos, uint32_t units, uint32_t p
 
 static bool is_printed(uint64_t secs, uint64_t nanos, uint32_t units, uint32_t parts,
     uint32_t style, const char *wanted) {
-    return is_rounded(secs, nanos, units, parts, DURATION_STR_ROUNDING_DOWN, style, wanted);
+    return is_rounded(secs, nanos, units, parts, DURATION_STR_ROUNDING_NONE, style, wanted);
 }
 
 static void check_printing(void) {
@@ -223,38 +223,40 @@ static bool is_broken_down(const struct breakdown *wanted) {
 }
 
 static void check_breakdowns(void) {
-    const uint32_t all = DURATION_STR_UNITS_ALL, down = DURATION_STR_ROUNDING_DOWN,
-                   nearest = DURATION_STR_ROUNDING_NEAREST, up = DURATION_STR_ROUNDING_UP,
+    const uint32_t all = DURATION_STR_UNITS_ALL, none = DURATION_STR_ROUNDING_NONE,
+                   down = DURATION_STR_ROUNDING_DOWN, nearest = DURATION_STR_ROUNDING_NEAREST,
+                   up = DURATION_STR_ROUNDING_UP,
                    second = DURATION_STR_UNITS(DURATION_STR_UNIT_SECOND),
                    millisecond = DURATION_STR_UNITS(DURATION_STR_UNIT_MILLISECOND);
     const struct breakdown rows[] = {
-        {39689999, 123456789, all, 11, down, {1, 1, 0, 0, 3, 8, 59, 59, 123, 456, 789}, 0},
-        {0, 39689999123456789, all, 11, down, {1, 1, 0, 0, 3, 8, 59, 59, 123, 456, 789}, 0},
-        {7199, 0, all, 1, down, {0, 0, 0, 0, 0, 1, 0, 0, 0, 0, 0}, 3599000000000},
+        {39689999, 123456789, all, 11, none, {1, 1, 0, 0, 3, 8, 59, 59, 123, 456, 789}, 0},
+        {0, 39689999123456789, all, 11, none, {1, 1, 0, 0, 3, 8, 59, 59, 123, 456, 789}, 0},
+        {7199, 0, all, 1, none, {0, 0, 0, 0, 0, 1, 0, 0, 0, 0, 0}, 3599000000000},
+        {7199, 0, all, 1, down, {0, 0, 0, 0, 0, 1, 0, 0, 0, 0, 0}, 0},
         {7199, 0, all, 1, nearest, {0, 0, 0, 0, 0, 2, 0, 0, 0, 0, 0}, 0},
         {193, 29000000, all, 1, nearest, {0, 0, 0, 0, 0, 0, 3, 0, 0, 0, 0}, 0},
         {193, 29000000, all, 1, up, {0, 0, 0, 0, 0, 0, 4, 0, 0, 0, 0}, 0},
         /* A rest of 2^64 - 1 nanoseconds, and counts of 2^64 - 1 milliseconds and seconds */
-        {18446744073, 709551615, all, 0, down, {0, 0, 0, 0, 0, 0, 0, 0, 0, 0, 0}, UINT64_MAX},
-        {18446744073709551, 615999999, millisecond, 1, down,
+        {18446744073, 709551615, all, 0, none, {0, 0, 0, 0, 0, 0, 0, 0, 0, 0, 0}, UINT64_MAX},
+        {18446744073709551, 615999999, millisecond, 1, none,
             {0, 0, 0, 0, 0, 0, 0, 0, UINT64_MAX, 0, 0}, 999999},
-        {UINT64_MAX, 999999999, second, 1, down, {0, 0, 0, 0, 0, 0, 0, UINT64_MAX, 0, 0, 0},
+        {UINT64_MAX, 999999999, second, 1, none, {0, 0, 0, 0, 0, 0, 0, UINT64_MAX, 0, 0, 0},
             999999999},
         /* 584,942,417,355 years of 31,536,000 seconds, and 2,271,615 seconds */
-        {UINT64_MAX, 0, all, 11, down, {584942417355, 0, 0, 3, 5, 7, 0, 15, 0, 0, 0}, 0},
+        {UINT64_MAX, 0, all, 11, none, {584942417355, 0, 0, 3, 5, 7, 0, 15, 0, 0, 0}, 0},
     };
     for (size_t at = 0; at < sizeof rows / sizeof *rows; at++)
         expect(is_broken_down(&rows[at]), "a breakdown");
     uint64_t counts[DURATION_STR_UNIT_COUNT], rest = 77;
     expect(!duration_str_breakdown(
-               18446744073709551, 616000000, millisecond, 1, down, counts, &rest) &&
-               !duration_str_breakdown(18446744073, 709551616, all, 0, down, counts, &rest) &&
+               18446744073709551, 616000000, millisecond, 1, none, counts, &rest) &&
+               !duration_str_breakdown(18446744073, 709551616, all, 0, none, counts, &rest) &&
                !duration_str_breakdown(
                    18446744073709551, 615999999, millisecond, 1, up, counts, &rest) &&
                rest == 77,
         "a count or a rest of 2^64");
-    expect(!duration_str_breakdown(UINT64_MAX, 1000000000, all, 11, down, counts, &rest) &&
-               !duration_str_breakdown(1, 0, all + 1, 11, down, counts, &rest) &&
+    expect(!duration_str_breakdown(UINT64_MAX, 1000000000, all, 11, none, counts, &rest) &&
+               !duration_str_breakdown(1, 0, all + 1, 11, none, counts, &rest) &&
                !duration_str_breakdown(1, 0, all, 11, up + 1, counts, &rest) && rest == 77,
         "wrong arguments");
 }
@@ -266,15 +268,16 @@ struct rounded {
 };
 
 static void check_rounding(void) {
-    const uint32_t down = DURATION_STR_ROUNDING_DOWN, nearest = DURATION_STR_ROUNDING_NEAREST,
-                   up = DURATION_STR_ROUNDING_UP, all = DURATION_STR_UNITS_ALL,
-                   year = DURATION_STR_UNITS(DURATION_STR_UNIT_YEAR),
+    const uint32_t none = DURATION_STR_ROUNDING_NONE, down = DURATION_STR_ROUNDING_DOWN,
+                   nearest = DURATION_STR_ROUNDING_NEAREST, up = DURATION_STR_ROUNDING_UP,
+                   all = DURATION_STR_UNITS_ALL, year = DURATION_STR_UNITS(DURATION_STR_UNIT_YEAR),
                    second = DURATION_STR_UNITS(DURATION_STR_UNIT_SECOND);
     const uint32_t months_and_weeks =
         DURATION_STR_UNITS(DURATION_STR_UNIT_MONTH) | DURATION_STR_UNITS(DURATION_STR_UNIT_WEEK);
     /* 584,942,417,355 years. One more would be more than 2^64 seconds. */
     const uint64_t last_year = 18446744073707280000u;
     const struct rounded rows[] = {
+        {7199, 0, all, 1, none, "1h"},
         {7199, 0, all, 1, down, "1h"},
         {7199, 0, all, 1, nearest, "2h"},
         {0, 7199000000000, all, 1, nearest, "2h"},
@@ -291,7 +294,7 @@ static void check_rounding(void) {
         {last_year - 1, 1, year, 1, up, "584942417355y"},
         {UINT64_MAX, 999999999, year, 1, nearest, "584942417355y"},
         {UINT64_MAX, 999999999, second, 1, down, "18446744073709551615s"},
-        {UINT64_MAX, 1000000000, second, 1, down, ""},
+        {UINT64_MAX, 1000000000, second, 1, none, ""},
         {5, 7, 0, 1, nearest, ""},
         {5, 7, all + 1, 1, nearest, ""},
         {5, 7, all, 1, up + 1, ""},

@@ -66,8 +66,8 @@ func (duration Duration) Clock() string {
 		nanos = 0
 	}
 	var counts [C.DURATION_STR_UNIT_COUNT]C.uint64_t
-	const units, down = 1<<h | 1<<min | 1<<s, C.DURATION_STR_ROUNDING_DOWN
-	C.duration_str_breakdown(0, C.uint64_t(nanos), units, 3, down, &counts[0], nil)
+	const units, none = 1<<h | 1<<min | 1<<s, C.DURATION_STR_ROUNDING_NONE
+	C.duration_str_breakdown(0, C.uint64_t(nanos), units, 3, none, &counts[0], nil)
 	return fmt.Sprintf("%d:%02d:%02d", counts[h], counts[min], counts[s])
 }
 

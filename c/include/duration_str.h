@@ -228,16 +228,17 @@ enum duration_str_style {
 };
 
 /* To which duration another one is rounded before it is printed or broken
- * down. */
+ * down: to one whose text in the same units and parts leaves nothing out, and
+ * that so has no rest. */
 enum duration_str_rounding {
-    /* to none: what doesn't fit into the units and parts is left out */
-    DURATION_STR_ROUNDING_DOWN = 0,
-    /* to the nearest one whose text in the same units and parts leaves nothing
-     * out, or to the longer of two that are equally near */
-    DURATION_STR_ROUNDING_NEAREST = 1,
-    /* to the shortest one that is not below it and whose text in the same units
-     * and parts leaves nothing out */
-    DURATION_STR_ROUNDING_UP = 2
+    /* to none: what doesn't fit into the units and parts is the rest */
+    DURATION_STR_ROUNDING_NONE = 0,
+    /* to the longest one that is not above it, which has the same text */
+    DURATION_STR_ROUNDING_DOWN = 1,
+    /* to the nearest one, or to the longer of two that are equally near */
+    DURATION_STR_ROUNDING_NEAREST = 2,
+    /* to the shortest one that is not below it */
+    DURATION_STR_ROUNDING_UP = 3
 };
 
 /* The answer to a text: its value, or why it is refused. A field that doesn't
@@ -314,9 +315,9 @@ size_t duration_str_format(
  *     puts(text);
  *
  * Returns 0, and the text is empty, if the duration is 2^64 seconds or more, if
- * `rounding` or `style` is above 2, if `units` is the empty set or above
- * DURATION_STR_UNITS_ALL, or if there is nothing to round up to. The last can
- * be only if `parts` is 0, or above some 584 billion years. */
+ * `rounding` is above 3, if `style` is above 2, if `units` is the empty set or
+ * above DURATION_STR_UNITS_ALL, or if there is nothing to round up to. The last
+ * can be only if `parts` is 0, or above some 584 billion years. */
 DURATION_STR_NONNULL(7)
 size_t duration_str_format_with(
     uint64_t secs, uint64_t nanos, uint32_t units, uint32_t parts,
@@ -337,8 +338,8 @@ size_t duration_str_format_with(
  * The counts, each times the length of its unit, and the rest are together the
  * duration.
  *
- * If the duration is rounded up or to the nearest, the parts are those of the
- * rounded duration, and the rest is 0.
+ * If the duration is rounded, the parts are those of the rounded duration, and
+ * the rest is 0.
  *
  * For example, 193 seconds and 29,000,000 nanoseconds in two parts of all units
  * are 3 minutes and 13 seconds, and the rest is 29,000,000. If `parts` is 0, all
@@ -348,7 +349,7 @@ size_t duration_str_format_with(
  *     const uint32_t units = DURATION_STR_UNITS_BETWEEN(
  *         DURATION_STR_UNIT_HOUR, DURATION_STR_UNIT_SECOND);
  *     uint64_t counts[DURATION_STR_UNIT_COUNT];
- *     if (duration_str_breakdown(3723, 0, units, 3, DURATION_STR_ROUNDING_DOWN,
+ *     if (duration_str_breakdown(3723, 0, units, 3, DURATION_STR_ROUNDING_NONE,
  *                                counts, NULL))
  *         printf("%" PRIu64 ":%02" PRIu64 ":%02" PRIu64 "\n",
  *                counts[DURATION_STR_UNIT_HOUR],
@@ -356,7 +357,7 @@ size_t duration_str_format_with(
  *                counts[DURATION_STR_UNIT_SECOND]);
  *
  * Returns false, and leaves `counts` and `*rest` unchanged, if the duration is
- * 2^64 seconds or more, if `rounding` is above 2, if `units` is the empty set or
+ * 2^64 seconds or more, if `rounding` is above 3, if `units` is the empty set or
  * above DURATION_STR_UNITS_ALL, if there is nothing to round up to, or if a
  * count or the rest is 2^64 or more. A count can be that large only if each unit
  * in the set is shorter than a second, and the rest only if `parts` is 0. */

@@ -2,7 +2,7 @@
 //! Durations broken down into units.
 
 use crate::format::short_format_of;
-use crate::rounding::rounded;
+use crate::rounding::given;
 use duration_str_core::{Breakdown, TimeUnit, UNITS};
 
 /// How many units there are.
@@ -13,10 +13,10 @@ pub const UNIT_COUNT: usize = UNITS.len();
 /// first, and to `rest` the nanoseconds that no part has. A unit without a part has the count 0.
 ///
 /// The set is given by its bits, and the way of rounding by its number, as for
-/// `duration_str_format_with`. Down keeps the rest. If the duration is 2^64 seconds or more, if
-/// `units` is 0 or above 2,047, if `rounding` is above 2, if there is nothing to round up to, or if
-/// a count or the rest needs more than 64 bits, the call returns false, and `counts` and `rest` are
-/// unchanged. Otherwise it returns true.
+/// `duration_str_format_with`. A rounded duration has no rest. If the duration is 2^64 seconds or
+/// more, if `units` is 0 or above 2,047, if `rounding` is above 3, if there is nothing to round up
+/// to, or if a count or the rest needs more than 64 bits, the call returns false, and `counts` and
+/// `rest` are unchanged. Otherwise it returns true.
 pub fn duration_str_breakdown(
     secs: u64,
     nanos: u64,
@@ -29,10 +29,12 @@ pub fn duration_str_breakdown(
     let Some(format) = short_format_of(units, parts) else {
         return false;
     };
-    let Some(shown) = rounded(secs, nanos, format, rounding) else {
+    let Some((duration, rounding)) = given(secs, nanos, rounding) else {
         return false;
     };
-    let mut parts = Breakdown::new(&shown, format);
+    let Some(mut parts) = Breakdown::rounded(&duration, format, rounding) else {
+        return false;
+    };
     let Some(found) = counts_of(&mut parts) else {
         return false;
     };

@@ -1,27 +1,21 @@
 // Made by tools/erase of crates/duration_str_c/src/rounding.rt.
-//! Durations rounded to those that are printed or broken down.
+//! Durations that are given by numbers, and how they are rounded.
 
-use duration_str_core::{Format, Rounding, round_to};
+use duration_str_core::Rounding;
 use core::time::Duration;
 
-/// Adds the seconds and the nanoseconds, and rounds the sum to a duration that prints whole,
-/// without a rest, in the format.
+/// Returns the sum of the seconds and the nanoseconds, and the way of rounding.
 ///
-/// The ways of rounding are 0 for down, 1 for the nearest and 2 for up. Down returns the sum as it
-/// is, since what doesn't fit into the format is not printed anyway. If the sum is 2^64 seconds or
-/// more, if `rounding` is above 2, or if there is nothing to round up to, returns `None`.
-pub(crate) fn rounded(secs: u64, nanos: u64, format: Format, rounding: u32) -> Option<Duration> {
-    let given = Duration::from_secs(secs).checked_add(Duration::from_nanos(nanos))?;
+/// The ways of rounding are 0 for none, 1 for down, 2 for the nearest and 3 for up. If the sum is
+/// 2^64 seconds or more, or if `rounding` is above 3, returns `None`.
+#[inline(always)]
+pub(crate) fn given(secs: u64, nanos: u64, rounding: u32) -> Option<(Duration, Option<Rounding>)> {
+    let sum = Duration::from_secs(secs).checked_add(Duration::from_nanos(nanos))?;
     match rounding {
-        0 => Some(given),
-        1 => {
-            let nearest = round_to(&given, format, Rounding::Nearest)?;
-            Some(nearest)
-        }
-        2 => {
-            let up = round_to(&given, format, Rounding::Up)?;
-            Some(up)
-        }
+        0 => Some((sum, None)),
+        1 => Some((sum, Some(Rounding::Down))),
+        2 => Some((sum, Some(Rounding::Nearest))),
+        3 => Some((sum, Some(Rounding::Up))),
         _ => None,
     }
 }

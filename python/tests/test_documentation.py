@@ -76,7 +76,7 @@ class Documentation(unittest.TestCase):
                 f"(text, /, *, {options}, default_unit='s')",
                 str(inspect.signature(getattr(duration_str, name))),
             )
-        limits = "parts=11, units=None, largest='y', smallest='ns', rounding='down'"
+        limits = "parts=11, units=None, largest='y', smallest='ns', rounding=None"
         for name, more in ("format", ", style='short'"), ("breakdown", ""):
             signature = inspect.signature(getattr(duration_str, name))
             self.assertEqual(f"(value, /, *, {limits}{more})", str(signature))

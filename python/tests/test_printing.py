@@ -58,8 +58,10 @@ def check_breakdown(test, nanos, **words):
     joined = " ".join(f"{count}{unit}" for count, unit in parts)
     test.assertEqual(joined, "" if printed.startswith("0") else printed)
     total = sum(count * LENGTHS[unit] for count, unit in parts) + rest_ns
-    if words.get("rounding", "down") == "down":
+    if words.get("rounding") is None:
         test.assertEqual(total, nanos)
+    else:
+        test.assertEqual(rest_ns, 0)
     return total, rest_ns
 
 
@@ -103,7 +105,8 @@ assert {type(each).__module__ for each in [broken, *broken.parts]} == {"duration
     def test_rounds_as_the_vectors_say(self):
         for text, limits, *texts in VECTORS["rounded"]:
             value = length_of(text)
-            self.assertEqual(format(value, **limits), texts[0])
+            self.assertEqual(format(value, rounding=None, **limits), texts[0])
+            check_breakdown(self, value, rounding=None, **limits)
             for rounding, printed in zip(typing.get_args(Rounding), texts):
                 words = {**limits, "rounding": rounding}
                 with self.subTest(text=text, **words):
@@ -119,9 +122,8 @@ assert {type(each).__module__ for each in [broken, *broken.parts]} == {"duration
                     self.assertEqual(format(value, style="compact", **words), compact)
                     self.assertEqual(format_many([value, None], **words), [printed, None])
                     checked = check_breakdown(self, value, **words)
-                    if rounding != "down" and checked:
-                        total, rest_ns = checked
-                        self.assertEqual(rest_ns, 0)
+                    if checked:
+                        total, _ = checked
                         # The rounded duration prints whole, and so has the same text.
                         self.assertEqual(format(total, **limits), printed)
                     if value % 1000 == 0 and value < 2**64:
@@ -201,7 +203,7 @@ assert {type(each).__module__ for each in [broken, *broken.parts]} == {"duration
         ]
         rows += [
             ({"rounding": rounding}, TypeError, "^rounding must be one of")
-            for rounding in (None, True)
+            for rounding in (0, True)
         ]
         rows += [
             ({"parts": value}, TypeError, "parts must be a whole number")

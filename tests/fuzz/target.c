@@ -167,7 +167,7 @@ static bool is_rounded(struct printed given, uint32_t rounding, struct duration 
     HOLDS(is_untouched((uint8_t *)rest - CANARIES, (uint8_t *)rest) &&
           is_untouched((uint8_t *)counts - CANARIES, (uint8_t *)counts));
     if (is_there)
-        HOLDS(rounding == DURATION_STR_ROUNDING_DOWN || *rest == 0);
+        HOLDS(rounding == DURATION_STR_ROUNDING_NONE || *rest == 0);
     else
         HOLDS(*rest == before && is_untouched((uint8_t *)counts, answers_end));
     *sum = is_there ? sum_of(counts) : given.duration;
@@ -184,7 +184,7 @@ static bool prints_as(struct printed given, uint32_t rounding, struct duration w
     HOLDS(buffer[length] == 0);
     HOLDS(is_untouched(buffer - CANARIES, buffer) && is_untouched(buffer + length + 1, output_end));
     return duration_str_format_with(wanted.secs, wanted.nanos, given.units, given.parts,
-               DURATION_STR_ROUNDING_DOWN, DURATION_STR_STYLE_SHORT, text) == length &&
+               DURATION_STR_ROUNDING_NONE, DURATION_STR_STYLE_SHORT, text) == length &&
            length > 0 && strcmp((char *)buffer, text) == 0;
 }
 
@@ -207,7 +207,7 @@ static struct duration rounded_down(struct printed given) {
 static void check_rounded(struct printed given) {
     const struct duration one_nano = {0, 1}, longest = {UINT64_MAX, 999999999};
     struct duration down, up, nearest;
-    HOLDS(prints_as(given, DURATION_STR_ROUNDING_DOWN, given.duration));
+    HOLDS(prints_as(given, DURATION_STR_ROUNDING_NONE, given.duration));
     /* A count or a rest of more than 64 bits has no breakdown. */
     const uint32_t no_fractions =
         DURATION_STR_UNITS_BETWEEN(DURATION_STR_UNIT_YEAR, DURATION_STR_UNIT_SECOND);
@@ -249,7 +249,7 @@ static void check_rounding(struct text text) {
     given.units = 1 + given.units % DURATION_STR_UNITS_ALL;
     const struct duration whole = {given.duration.secs + more, given.duration.nanos % SECOND};
     if (!is_too_long)
-        HOLDS(prints_as(given, DURATION_STR_ROUNDING_DOWN, whole));
+        HOLDS(prints_as(given, DURATION_STR_ROUNDING_NONE, whole));
     given.duration = whole;
     check_rounded(given);
     given.parts %= DURATION_STR_UNIT_COUNT + 2;
@@ -276,7 +276,7 @@ static void check_parts(uint64_t nanos) {
                    parts = nanos / DURATION_STR_UNITS_ALL % (DURATION_STR_UNIT_COUNT + 2);
     uint64_t *rest = (void *)buffer_at(number_end, sizeof *rest);
     uint64_t *counts = (void *)buffer_at(output_end, DURATION_STR_UNIT_COUNT * sizeof *counts);
-    HOLDS(duration_str_breakdown(0, nanos, units, parts, DURATION_STR_ROUNDING_DOWN, counts, rest));
+    HOLDS(duration_str_breakdown(0, nanos, units, parts, DURATION_STR_ROUNDING_NONE, counts, rest));
     HOLDS(is_untouched((uint8_t *)rest - CANARIES, (uint8_t *)rest) &&
           is_untouched((uint8_t *)counts - CANARIES, (uint8_t *)counts));
     uint64_t sum = 0;
@@ -288,12 +288,12 @@ static void check_parts(uint64_t nanos) {
     }
     HOLDS(found <= parts && sum <= nanos && nanos - sum == *rest);
     uint8_t *buffer = buffer_at(output_end, DURATION_STR_FORMAT_WITH_BUFFER_SIZE);
-    size_t length = duration_str_format_with(0, nanos, units, parts, DURATION_STR_ROUNDING_DOWN,
+    size_t length = duration_str_format_with(0, nanos, units, parts, DURATION_STR_ROUNDING_NONE,
         DURATION_STR_STYLE_SHORT, (char *)buffer);
     struct duration_str_answer answer = read_with(text_at(prints, buffer, length), 0);
     HOLDS(answer.cause == DURATION_STR_CAUSE_READ && answer.nanos == sum);
     const struct duration whole = {nanos / SECOND, nanos % SECOND};
-    HOLDS(prints_as((struct printed){{0, nanos}, units, parts}, DURATION_STR_ROUNDING_DOWN, whole));
+    HOLDS(prints_as((struct printed){{0, nanos}, units, parts}, DURATION_STR_ROUNDING_NONE, whole));
     check_rounded((struct printed){whole, units, parts});
 }
 

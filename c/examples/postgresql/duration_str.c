@@ -47,7 +47,7 @@ static text *printed(int64 secs, int64 nanos) {
             errmsg("negative durations are not printed"));
 
     length = duration_str_format_with((uint64)secs, (uint64)nanos, DURATION_STR_UNITS_ALL,
-        DURATION_STR_UNIT_COUNT, DURATION_STR_ROUNDING_DOWN, DURATION_STR_STYLE_SHORT, line);
+        DURATION_STR_UNIT_COUNT, DURATION_STR_ROUNDING_NONE, DURATION_STR_STYLE_SHORT, line);
     return cstring_to_text(pg_any_to_server(line, (int)length, PG_UTF8));
 }
 

@@ -1,9 +1,9 @@
 -- Lemmas about the counts of units among the parts of a duration.
-use Rattle.std.proofs.Common.{ap, arith, eqb-true, inl, inr, List, map, refl, rules, slice_set, [], ℕ, ◌∙◌, ◌++◌, ◌∷◌, ◌+◌, ◌-◌, ◌<◌, ◌==◌, ◌^◌, ◌≡◌, ◌≤◌, if◌then◌else◌, nat_lt}
+use Rattle.std.proofs.Common.{ap, arith, eqb-true, inl, inr, List, map, Option, refl, rules, slice_set, [], ℕ, ◌∙◌, ◌++◌, ◌∷◌, ◌+◌, ◌-◌, ◌<◌, ◌==◌, ◌^◌, ◌≡◌, ◌≤◌, if◌then◌else◌, nat_lt}
 use Rattle.std.proofs.lemmas.Bool.{cases_Bool}
 use Rattle.std.proofs.lemmas.Bool.Decides.{nat_tests}
 use Rattle.std.specs.Prelude.{Any, count_by, ⊤}
-use Rattle.duration_str.specs.Breakdown.{AreParts, parts_left, sum_of_parts}
+use Rattle.duration_str.specs.Breakdown.{AreParts, ArePartsRounded, parts_left, sum_of_parts}
 use Rattle.duration_str.specs.Format.{chosen, counts_within}
 use Rattle.duration_str.specs.Internal.UnitTable.{units_of}
 use Rattle.duration_str.specs.Printing.{nonzero, weighted_sum}
@@ -11,6 +11,7 @@ use Rattle.duration_str.specs.Units.{nanos_of, rank_of, units}
 use Rattle.duration_str.specs.declared.breakdown.Breakdown.{Breakdown}
 use Rattle.duration_str.specs.declared.format.Format.{Format}
 use Rattle.duration_str.specs.declared.format.Units.{Units}
+use Rattle.duration_str.specs.declared.rounding.Rounding.{Rounding}
 use Rattle.duration_str.specs.declared.unit.TimeUnit.{TimeUnit}
 use Rattle.duration_str.specs.declared.unit.TimeUnit.TheVariants.{Year, Quarter, Month, Week, Day, Hour, Minute, Second, MilliSecond, MicroSecond, NanoSecond}
 use Rattle.duration_str_c.specs.Breakdown.{count_of, counts_of, IsTooLarge}
@@ -149,25 +150,28 @@ parts_within format nanos parts (counts, greatest, are) =
 
 -- ---- A count or the rest is too large
 
-pub large_counts : (format : Format) (nanos : ℕ) (parts : List (TimeUnit × ℕ)) → AreParts format nanos parts
-    → Any (λ n. 2 ^ 64 ≤ n) (counts_of parts) → IsTooLarge format nanos
-large_counts format nanos parts are large = record {
+pub large_counts : (rounding : Option Rounding) (format : Format) (nanos shown : ℕ) (parts : List (TimeUnit × ℕ))
+    → ArePartsRounded rounding format nanos shown parts → Any (λ n. 2 ^ 64 ≤ n) (counts_of parts)
+    → IsTooLarge rounding format nanos
+large_counts rounding format nanos shown parts are large = record {
   counts = counts_of parts;
-  rest = nanos - sum_of_parts parts;
+  rest = shown - sum_of_parts parts;
   broken_down = record {
+    shown = shown;
     parts = parts;
-    greatest = are;
+    are_parts = are;
     each = refl;
-    whole = omega (arith, parts_within format nanos parts are);
+    whole = omega (arith, parts_within format shown parts are.1);
   };
   large = inl large;
 }
 
-pub large_rest : (format : Format) (nanos rest : ℕ) (parts : List (TimeUnit × ℕ)) → AreParts format nanos parts
-    → nanos ≡ sum_of_parts parts + rest → 2 ^ 64 ≤ rest → IsTooLarge format nanos
-large_rest format nanos rest parts are whole large = record {
+pub large_rest : (rounding : Option Rounding) (format : Format) (nanos shown rest : ℕ) (parts : List (TimeUnit × ℕ))
+    → ArePartsRounded rounding format nanos shown parts → shown ≡ sum_of_parts parts + rest → 2 ^ 64 ≤ rest
+    → IsTooLarge rounding format nanos
+large_rest rounding format nanos shown rest parts are whole large = record {
   counts = counts_of parts;
   rest = rest;
-  broken_down = record { parts = parts; greatest = are; each = refl; whole = whole };
+  broken_down = record { shown = shown; parts = parts; are_parts = are; each = refl; whole = whole };
   large = inr large;
 }

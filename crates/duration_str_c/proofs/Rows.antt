@@ -1,6 +1,7 @@
 -- Examples that are computed, such as which bits are options, and the counts of units.
 use Rattle.std.proofs.Common.{◌≡◌, ◌+◌, ◌∷◌, [], codes, false, negsuc, None, pos, Some, true}
 use Rattle.duration_str.specs.Options.{off}
+use Rattle.duration_str.specs.declared.rounding.Rounding.TheVariants.{Down, Nearest, Up}
 use Rattle.duration_str.specs.declared.unit.TimeUnit.TheVariants.{Day, Hour, MilliSecond, Minute, NanoSecond, Second, Year}
 use Rattle.duration_str.specs.Breakdown.{parts_in, sum_of_parts}
 use Rattle.duration_str.specs.MoreNames.{more_row_of}
@@ -8,6 +9,7 @@ use Rattle.duration_str.specs.Rules.{rules_of, unit_of_word}
 use Rattle.duration_str.specs.Units.{row_of, units}
 use Rattle.duration_str_c.specs.Answers.{are_options, default_unit_of_bits, rules_of_bits}
 use Rattle.duration_str_c.specs.Breakdown.{counts_of}
+use Rattle.duration_str_c.specs.Rounding.{rounding_numbered}
 use Rattle.duration_str_c.specs.Units.{number_of}
 
 pub record Bits : Type 0 where
@@ -39,6 +41,15 @@ pub record Bits : Type 0 where
 
 pub bits : Bits
 bits = assumption
+
+pub record Roundings : Type 0 where
+  pub none : rounding_numbered 0 ≡ None
+  pub down : rounding_numbered 1 ≡ Some Down
+  pub nearest : rounding_numbered 2 ≡ Some Nearest
+  pub up : rounding_numbered 3 ≡ Some Up
+
+pub roundings : Roundings
+roundings = assumption
 
 pub record UnitNumbers : Type 0 where
   pub year : number_of (Some Year) ≡ pos 0

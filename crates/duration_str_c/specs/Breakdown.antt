@@ -1,8 +1,9 @@
 -- The counts of a duration's parts, one for each unit, and the nanoseconds that the parts leave.
-use Rattle.std.specs.Prelude.{◌≡◌, ℕ, ◌+◌, ◌^◌, ◌≤◌, ◌==◌, ◌⊎◌, Any, List, [], ◌∷◌, if◌then◌else◌, map}
+use Rattle.std.specs.Prelude.{◌≡◌, ℕ, ◌+◌, ◌^◌, ◌≤◌, ◌==◌, ◌⊎◌, Any, List, [], ◌∷◌, if◌then◌else◌, map, Option}
 use Rattle.duration_str.specs.declared.format.Format.{Format}
+use Rattle.duration_str.specs.declared.rounding.Rounding.{Rounding}
 use Rattle.duration_str.specs.declared.unit.TimeUnit.{TimeUnit}
-use Rattle.duration_str.specs.Breakdown.{AreParts, sum_of_parts}
+use Rattle.duration_str.specs.Breakdown.{ArePartsRounded, sum_of_parts}
 use Rattle.duration_str.specs.Units.{nanos_of, units}
 
 abbrev pub count_of : List (TimeUnit × ℕ) → TimeUnit → ℕ
@@ -13,18 +14,20 @@ count_of ((v, n) ∷ parts) u = if nanos_of v == nanos_of u then n else count_of
 abbrev pub counts_of : List (TimeUnit × ℕ) → List ℕ
 counts_of parts = map (count_of parts) units
 
--- The counts are those of all units among the parts of a duration of `nanos` nanoseconds in this
--- format. The parts and the rest are together the whole duration.
-pub record IsBrokenDown (format : Format) (nanos : ℕ) (counts : List ℕ) (rest : ℕ) : Type 0 where
+-- A duration of `nanos` nanoseconds is rounded and broken down in this format (`ArePartsRounded`).
+-- The counts are those of all units among its parts, and the parts and the rest are together all of
+-- what is broken down.
+pub record IsBrokenDown (rounding : Option Rounding) (format : Format) (nanos : ℕ) (counts : List ℕ) (rest : ℕ) : Type 0 where
+  pub shown : ℕ
   pub parts : List (TimeUnit × ℕ)
-  pub greatest : AreParts format nanos parts
+  pub are_parts : ArePartsRounded rounding format nanos shown parts
   pub each : counts ≡ counts_of parts
-  pub whole : nanos ≡ sum_of_parts parts + rest
+  pub whole : shown ≡ sum_of_parts parts + rest
 
--- A count or the rest needs more than 64 bits, if a duration of `nanos` nanoseconds is broken down
--- in this format.
-pub record IsTooLarge (format : Format) (nanos : ℕ) : Type 0 where
+-- A count or the rest needs more than 64 bits, if a duration of `nanos` nanoseconds is rounded and
+-- broken down in this format.
+pub record IsTooLarge (rounding : Option Rounding) (format : Format) (nanos : ℕ) : Type 0 where
   pub counts : List ℕ
   pub rest : ℕ
-  pub broken_down : IsBrokenDown format nanos counts rest
+  pub broken_down : IsBrokenDown rounding format nanos counts rest
   pub large : Any (λ n. 2 ^ 64 ≤ n) counts ⊎ (2 ^ 64 ≤ rest)

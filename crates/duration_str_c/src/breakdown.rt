@@ -5,11 +5,11 @@ ghost use Rattle.duration_str.specs.declared.format.Style.TheVariants.{Short};
 ghost use Rattle.duration_str.specs.Units.{rank_of};
 ghost use Rattle.duration_str_c.specs.Breakdown.{counts_of, IsBrokenDown, IsTooLarge};
 ghost use Rattle.duration_str_c.specs.Format.{format_of};
-ghost use Rattle.duration_str_c.specs.Rounding.{IsRoundedBy, NoneRounded};
+ghost use Rattle.duration_str_c.specs.Rounding.{AreRight, NoneRounded, rounding_numbered};
 ghost use Rattle.duration_str_c.specs.declared.breakdown.TheConstants.{UNIT_COUNT};
 
 use crate::format::short_format_of;
-use crate::rounding::rounded;
+use crate::rounding::given;
 use duration_str::{Breakdown, TimeUnit, UNITS};
 
 /// How many units there are.
@@ -20,10 +20,10 @@ pub const UNIT_COUNT: usize = UNITS.len();
 /// first, and to `rest` the nanoseconds that no part has. A unit without a part has the count 0.
 ///
 /// The set is given by its bits, and the way of rounding by its number, as for
-/// `duration_str_format_with`. Down keeps the rest. If the duration is 2^64 seconds or more, if
-/// `units` is 0 or above 2,047, if `rounding` is above 2, if there is nothing to round up to, or if
-/// a count or the rest needs more than 64 bits, the call returns false, and `counts` and `rest` are
-/// unchanged. Otherwise it returns true.
+/// `duration_str_format_with`. A rounded duration has no rest. If the duration is 2^64 seconds or
+/// more, if `units` is 0 or above 2,047, if `rounding` is above 3, if there is nothing to round up
+/// to, or if a count or the rest needs more than 64 bits, the call returns false, and `counts` and
+/// `rest` are unchanged. Otherwise it returns true.
 pub fn duration_str_breakdown(
     secs: u64,
     nanos: u64,
@@ -33,24 +33,25 @@ pub fn duration_str_breakdown(
     counts: &mut [u64; UNIT_COUNT],
     rest: &mut u64,
 ) -> bool
-    ensures broken_down { IsTrue result → (shown : ℕ)
-        × IsRoundedBy rounding (format_of units parts Short) (secs * 1_000_000_000 + nanos) shown
-        × IsBrokenDown (format_of units parts Short) shown counts.new rest.new }
-    ensures right { IsTrue result → (0 < units) × (units < 2048) }
+    ensures broken_down { IsTrue result → IsBrokenDown (rounding_numbered rounding)
+        (format_of units parts Short) (secs * 1_000_000_000 + nanos) counts.new rest.new }
+    ensures right { IsTrue result → (0 < units) × (units < 2048)
+        × AreRight rounding (secs * 1_000_000_000 + nanos) }
     ensures refused { IsFalse result → (units ≡ 0) ⊎ ((2048 ≤ units)
         ⊎ (NoneRounded rounding (format_of units parts Short) (secs * 1_000_000_000 + nanos)
-        ⊎ ((shown : ℕ)
-        × IsRoundedBy rounding (format_of units parts Short) (secs * 1_000_000_000 + nanos) shown
-        × IsTooLarge (format_of units parts Short) shown))) }
+        ⊎ IsTooLarge (rounding_numbered rounding) (format_of units parts Short)
+        (secs * 1_000_000_000 + nanos))) }
     ensures unchanged { IsFalse result → (counts.new ≡ counts.old) × (rest.new ≡ rest.old) }
 {
     let Some(format) = short_format_of(units, parts) else {
         return false;
     };
-    let Some(shown) = rounded(secs, nanos, format, rounding) else {
+    let Some((duration, rounding)) = given(secs, nanos, rounding) else {
         return false;
     };
-    let mut parts = Breakdown::new(&shown, format);
+    let Some(mut parts) = Breakdown::rounded(&duration, format, rounding) else {
+        return false;
+    };
     let Some(found) = counts_of(&mut parts) else {
         return false;
     };

@@ -3,11 +3,11 @@ ghost use Rattle.std.specs.Prelude.{◌≡◌, ◌+◌, ◌*◌, ◌<◌, ◌≤
 ghost use Rattle.std.specs.Str.{chars};
 ghost use Rattle.duration_str.specs.Format.{most_len};
 ghost use Rattle.duration_str.specs.declared.format.Style.TheVariants.{Short};
-ghost use Rattle.duration_str_c.specs.Format.{format_of, style_numbered, units_of, IsPrintedRounded};
+ghost use Rattle.duration_str_c.specs.Format.{format_of, style_numbered, units_of, IsFormatted};
 
 use crate::put;
-use crate::rounding::rounded;
-use duration_str::{FORMAT_BUFFER_SIZE, Format, Style, Units, write_format};
+use crate::rounding::given;
+use duration_str::{FORMAT_BUFFER_SIZE, Format, Style, Units, write_rounded};
 
 /// Rounds a duration of `secs` seconds and `nanos` nanoseconds, and prints it in the units of a
 /// set, in at most `parts` parts and in a style, to the start of the buffer, with a zero byte after
@@ -15,10 +15,10 @@ use duration_str::{FORMAT_BUFFER_SIZE, Format, Style, Units, write_format};
 /// unchanged.
 ///
 /// In the set the bit 2^n stands for the unit at index n of `UNITS`: 1 is the year, 1,024 is the
-/// nanosecond, and 2,047 is all units. The ways of rounding are 0 for down, 1 for the nearest and 2
-/// for up. The styles are 0 for short, 1 for compact and 2 for long. If the duration is 2^64
-/// seconds or more, `units` is 0 or above 2,047, `rounding` or `style` is above 2, or there is
-/// nothing to round up to, the call returns 0, and the text is empty.
+/// nanosecond, and 2,047 is all units. The ways of rounding are 0 for none, 1 for down, 2 for the
+/// nearest and 3 for up. The styles are 0 for short, 1 for compact and 2 for long. If the duration
+/// is 2^64 seconds or more, `units` is 0 or above 2,047, `rounding` is above 3, `style` is above 2,
+/// or there is nothing to round up to, the call returns 0, and the text is empty.
 pub fn duration_str_format_with(
     secs: u64,
     nanos: u64,
@@ -29,7 +29,7 @@ pub fn duration_str_format_with(
     buffer: &mut [u8; FORMAT_BUFFER_SIZE],
 ) -> usize
     ensures text { 0 < units → units < 2048 → style ≤ 2
-        → IsPrintedRounded rounding (format_of units parts (style_numbered style))
+        → IsFormatted rounding (format_of units parts (style_numbered style))
         (secs * 1_000_000_000 + nanos) (chars (take result buffer.new)) }
     ensures utf8 { IsUtf8 (take result buffer.new) }
     ensures rest { drop result buffer.new ≡ 0 ∷ drop (result + 1) buffer.old }
@@ -39,11 +39,14 @@ pub fn duration_str_format_with(
     let Some(format) = format_of(units, parts, style) else {
         return put("", buffer);
     };
-    let Some(shown) = rounded(secs, nanos, format, rounding) else {
+    let Some((duration, rounding)) = given(secs, nanos, rounding) else {
         return put("", buffer);
     };
     let mut printed = [0; FORMAT_BUFFER_SIZE];
-    put(write_format(&shown, format, &mut printed), buffer)
+    match write_rounded(&duration, format, rounding, &mut printed) {
+        Some(text) => put(text, buffer),
+        None => put("", buffer),
+    }
 }
 
 fn format_of(units: u32, parts: u32, style: u32) -> Option<Format>

@@ -56,7 +56,7 @@ To read a text:
 To print an int of nanoseconds or a timedelta:
 
 format(value, /, *, parts=11, units=None, largest="y", smallest="ns",
-       rounding="down", style="short")
+       rounding=None, style="short")
 
 To get the counts of such a duration, for a text of your own, call `breakdown`
 with the same options except `style`. It returns a `Breakdown`.

@@ -248,7 +248,7 @@ def format_many(
     units: Iterable[Unit] | None = None,
     largest: Unit = "y",
     smallest: Unit = "ns",
-    rounding: Rounding = "down",
+    rounding: Rounding | None = None,
     style: Style = "short",
 ) -> Any:
     """Prints a column of durations, each as `format` does. A duration is an

@@ -399,7 +399,7 @@ struct limits {
 };
 
 static const struct limits no_limits = {DURATION_STR_UNITS_ALL, DURATION_STR_UNIT_NANOSECOND + 1,
-    DURATION_STR_ROUNDING_DOWN, DURATION_STR_STYLE_SHORT};
+    DURATION_STR_ROUNDING_NONE, DURATION_STR_STYLE_SHORT};
 
 static int take_parts(PyObject *value, uint32_t *parts) {
     int overflow;
@@ -428,6 +428,15 @@ static int take_one_of(PyObject *name, const char *keyword, const char *const na
             return 0;
     raise_name(name, keyword, listed);
     return -1;
+}
+
+/* None is not to round. The names are those of the ways from DURATION_STR_ROUNDING_DOWN on. */
+static int take_rounding(PyObject *value, uint32_t *rounding) {
+    if (Py_IsNone(value))
+        return 0;
+    const int failed = take_one_of(value, "rounding", rounding_names, listed_roundings, rounding);
+    *rounding += DURATION_STR_ROUNDING_DOWN;
+    return failed;
 }
 
 static int take_units(struct state *state, PyObject *value, uint32_t *units) {
@@ -476,7 +485,7 @@ static int take_limit(struct state *state, int keyword, PyObject *value, struct 
         *smallest = unit_of(state, value, "smallest");
         return *smallest < 0 ? -1 : 0;
     case ROUNDING:
-        return take_one_of(value, "rounding", rounding_names, listed_roundings, &limits->rounding);
+        return take_rounding(value, &limits->rounding);
     case STYLE:
         return take_one_of(value, "style", style_names, listed_styles, &limits->style);
     }
@@ -937,7 +946,7 @@ PyDoc_STRVAR(parse_seconds_doc,
     "`parse_ns` returns the exact value, and has the same options and errors.");
 PyDoc_STRVAR(format_doc,
     "format($module, value, /, *, parts=11, units=None, largest='y', smallest='ns', "
-    "rounding='down', style='short')\n--\n\n"
+    "rounding=None, style='short')\n--\n\n"
     "Prints a duration: an int of nanoseconds, or a timedelta (also NumPy's).\n\n"
     "  parts     the greatest number of parts\n"
     "  units     only these units, such as `('y', 'mon', 'd')`, in any order\n"
@@ -945,9 +954,9 @@ PyDoc_STRVAR(format_doc,
     "            `ms`, `\xc2\xb5s` or `us`, `ns`, or another name that is read\n"
     "            without options\n"
     "  smallest  the smallest unit\n"
-    "  rounding  `down`, `nearest` or `up`: if the text leaves something out, the\n"
-    "            duration is rounded to one whose text doesn't. Of two durations\n"
-    "            that are as near, `nearest` takes the longer one\n"
+    "  rounding  `down`, `nearest` or `up`: the duration is first rounded to one\n"
+    "            whose text leaves nothing out. Of two durations that are as near,\n"
+    "            `nearest` takes the longer one\n"
     "  style     `short` (`1h 30min`), `compact` (`1h30min`) or `long`\n"
     "            (`1 hour 30 minutes`)\n\n"
     "The text has as many of the largest chosen unit as fit into the duration, then\n"
@@ -973,7 +982,7 @@ PyDoc_STRVAR(format_doc,
     "'1y 4mon 15d'");
 PyDoc_STRVAR(breakdown_doc,
     "breakdown($module, value, /, *, parts=11, units=None, largest='y', smallest='ns', "
-    "rounding='down')\n--\n\n"
+    "rounding=None)\n--\n\n"
     "Breaks a duration down into counts of units. The duration is an int of\n"
     "nanoseconds, or a timedelta (also NumPy's).\n\n"
     "Returns a named tuple of the `parts` and of the nanoseconds that no part has,\n"
@@ -983,9 +992,8 @@ PyDoc_STRVAR(breakdown_doc,
     "counts, each times the length of its unit, and the rest are together the\n"
     "duration.\n\n"
     "The options and the errors are those of `format`, which also has a style. If a\n"
-    "count is 2**64 or more, OverflowError is raised, too. If `rounding` is\n"
-    "`nearest` or `up`, the parts are those of the rounded duration, and the rest is\n"
-    "0.\n\n"
+    "count is 2**64 or more, OverflowError is raised, too. If a `rounding` is given,\n"
+    "the parts are those of the rounded duration, and the rest is 0.\n\n"
     ">>> parts, rest_ns = duration_str.breakdown(193_029_000_000, parts=2)\n"
     ">>> parts\n"
     "(Part(count=3, unit='min'), Part(count=13, unit='s'))\n"

@@ -92,7 +92,7 @@ def format(
     units: Iterable[Unit] | None = None,
     largest: Unit = "y",
     smallest: Unit = "ns",
-    rounding: Rounding = "down",
+    rounding: Rounding | None = None,
     style: Style = "short",
 ) -> str: ...
 def breakdown(
@@ -103,7 +103,7 @@ def breakdown(
     units: Iterable[Unit] | None = None,
     largest: Unit = "y",
     smallest: Unit = "ns",
-    rounding: Rounding = "down",
+    rounding: Rounding | None = None,
 ) -> Breakdown: ...
 def reading(
     *,
@@ -120,7 +120,7 @@ def limits(
     units: Iterable[Unit] | None,
     largest: Unit,
     smallest: Unit,
-    rounding: Rounding,
+    rounding: Rounding | None,
     style: Style,
 ) -> tuple[int, int, int, int]: ...
 def format_list(
