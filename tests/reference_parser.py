@@ -676,12 +676,15 @@ HELP = {
     r"\.(?=[0-9])": "numbers have digits only: write 1500ms for 1.5s",
     r"(?<=[0-9])([,_'](?=[0-9])|[Ee](?=[-+0-9]))": "numbers have digits only",
     r"(?<=[0-9]):(?=[0-9])": "clock times are not read: write 1h 30m or 1m 30s",
+    "[()]": "brackets are not read",
+    "/": "division is not read",
 }
 # Further help, if there are only blanks before the place.
 FIRST_HELP = {
     "-(?=[0-9.])": "negative durations are not read",
     r"\+(?=[0-9.])": 'a leading "+" is not read',
     "[Pp][Tt]?(?=[0-9])": "ISO 8601 is not read: write 1mon 30m for P1MT30M",
+    "[\"']": "quotation marks are not read",
 }
 
 

@@ -570,8 +570,22 @@ pub record Lines : Type 0 where
       ≡ codes "expected a number at column 1, found \"+\""
   pub line-plus_later : one_line_of (codes "1++2") (Syntax 2 number_alone)
       ≡ codes "expected a number at column 3, found \"+\""
-  pub line-other_first : one_line_of (codes "(5m") (Syntax 0 number_alone)
-      ≡ codes "expected a number at column 1, found \"(\""
+  pub line-other_first : one_line_of (codes "*5m") (Syntax 0 number_alone)
+      ≡ codes "expected a number at column 1, found \"*\""
+  pub line-bracket : one_line_of (codes "(5m") (Syntax 0 number_alone)
+      ≡ codes "expected a number at column 1, found \"(\" (brackets are not read)"
+  pub line-bracket_later : one_line_of (codes "5m)") (Syntax 2 after_unit)
+      ≡ codes "expected a number, '+', '*' or the end at column 3, found \")\" (brackets are not read)"
+  pub line-slash : one_line_of (codes "1/2h") (Syntax 1 after_number)
+      ≡ codes "expected a unit, '+', '*' or the end at column 2, found \"/\" (division is not read)"
+  pub line-slash_without_a_unit : one_line_of (codes "90 / 2") (Syntax 3 unit_alone)
+      ≡ codes "expected a unit at column 4, found \"/\" (division is not read)"
+  pub line-quotation_mark : one_line_of (codes " \"5m\"") (Syntax 1 number_alone)
+      ≡ codes "expected a number at column 2, found \"\\\"\" (quotation marks are not read)"
+  pub line-apostrophe : one_line_of (codes "'5m'") (Syntax 0 number_alone)
+      ≡ codes "expected a number at column 1, found \"'\" (quotation marks are not read)"
+  pub line-quotation_mark_later : one_line_of (codes "5m\"") (Syntax 2 after_unit)
+      ≡ codes "expected a number, '+', '*' or the end at column 3, found \"\\\"\""
   pub line-iso : one_line_of (codes "Pt5M") (Syntax 0 number_alone)
       ≡ codes "expected a number at column 1, found \"Pt\" (ISO 8601 is not read: write 1mon 30m for P1MT30M)"
   pub line-comma_between : one_line_of (codes "1h, 30m") (Syntax 2 after_unit)

@@ -116,6 +116,13 @@ abbrev pub unit_help : Option Characters → Bytes → Bytes
 unit_help (Some name) help = name_help (encode_utf8_all name)
 unit_help None help = help_or_units help
 
+-- the help for a sign wherever it is, given the piece's bytes
+abbrev pub sign_help : Bytes → Bytes
+sign_help piece =
+    if bytes_eq piece (codes "(") || bytes_eq piece (codes ")") then codes " (brackets are not read)"
+    else if bytes_eq piece (codes "/") then codes " (division is not read)"
+    else []
+
 -- the help for a piece that has only blanks before it, given the piece's bytes and the byte after
 -- it
 abbrev pub first_help : Bytes → ℕ → Bytes
@@ -126,7 +133,8 @@ first_help piece next =
     else if is_signed && bytes_eq piece (codes "+") then codes " (a leading \"+\" is not read)"
     else if is_digit next && (bytes_eq small (codes "p") || bytes_eq small (codes "pt"))
     then codes " (ISO 8601 is not read: write 1mon 30m for P1MT30M)"
-    else []
+    else if bytes_eq piece (codes "\"") || bytes_eq piece (codes "'") then codes " (quotation marks are not read)"
+    else sign_help piece
 
 -- the help for a piece after a digit, given the piece's bytes and the byte after it
 abbrev pub digit_help : Bytes → ℕ → Bytes
@@ -136,7 +144,7 @@ digit_help piece next =
     if is_exponent || (is_between && (bytes_eq piece (codes ",") || bytes_eq piece (codes "_") || bytes_eq piece (codes "'")))
     then codes " (numbers have digits only)"
     else if is_between && bytes_eq piece (codes ":") then codes " (clock times are not read: write 1h 30m or 1m 30s)"
-    else []
+    else sign_help piece
 
 -- the help for the piece at byte `place`, given the piece's bytes. Both a number and the end can
 -- stand at a place only after a unit
@@ -154,7 +162,7 @@ help_at expected text place piece =
     then codes " (numbers have digits only: write 1500ms for 1.5s)"
     else if list_all is_blank before then first_help piece next
     else if is_digit last then digit_help piece next
-    else []
+    else sign_help piece
 
 -- the help at the end of a line that says what was expected. It is `help`, unless that is empty and
 -- a unit could stand there, but neither an operator nor the end. Then it is what to write: for a

@@ -16,7 +16,7 @@ ghost use Rattle.duration_str.specs.Faults.{place_of};
 ghost use Rattle.duration_str.specs.Messages.{chars_before};
 ghost use Rattle.std.specs.Option.{ForSome};
 ghost use Rattle.std.specs.Int.{is_in_range};
-ghost use Rattle.duration_str.specs.OneLine.{one_line_of, is_plain, is_clear, is_letter, is_like, first_piece, shown, quoted, at_column, found_line, found_words, unknown_line, syntax_line, text_line, overflow_line, expected_words, begins_with_letter, help_name, near_name, near_unit, name_help, unit_help, first_help, digit_help, help_or_units, help_at, missing_unit_help};
+ghost use Rattle.duration_str.specs.OneLine.{one_line_of, is_plain, is_clear, is_letter, is_like, first_piece, shown, quoted, at_column, found_line, found_words, unknown_line, syntax_line, text_line, overflow_line, expected_words, begins_with_letter, help_name, near_name, near_unit, name_help, unit_help, first_help, digit_help, sign_help, help_or_units, help_at, missing_unit_help};
 ghost use Rattle.duration_str.specs.declared.one_line.TheConstants.{MAX_ONE_LINE_LEN};
 
 use crate::cause::{Cause, Expected};
@@ -438,7 +438,7 @@ fn help_at(expected: Expected, text: &[u8], place: usize, piece: &str) -> &'stat
     } else if last.is_ascii_digit() {
         digit_help(piece, next)
     } else {
-        ""
+        sign_help(piece)
     }
 }
 
@@ -452,8 +452,10 @@ fn first_help(piece: &str, next: u8) -> &'static str
         r#" (a leading "+" is not read)"#
     } else if next.is_ascii_digit() && (is_word(piece, "p") || is_word(piece, "pt")) {
         " (ISO 8601 is not read: write 1mon 30m for P1MT30M)"
+    } else if piece == "\"" || piece == "'" {
+        " (quotation marks are not read)"
     } else {
-        ""
+        sign_help(piece)
     }
 }
 
@@ -466,6 +468,19 @@ fn digit_help(piece: &str, next: u8) -> &'static str
         " (numbers have digits only)"
     } else if is_between && piece == ":" {
         " (clock times are not read: write 1h 30m or 1m 30s)"
+    } else {
+        sign_help(piece)
+    }
+}
+
+/// Returns the help for a sign, wherever it is.
+fn sign_help(piece: &str) -> &'static str
+    ensures { result.now ≡ sign_help piece.now }
+{
+    if piece == "(" || piece == ")" {
+        " (brackets are not read)"
+    } else if piece == "/" {
+        " (division is not read)"
     } else {
         ""
     }

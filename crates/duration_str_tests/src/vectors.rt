@@ -273,5 +273,12 @@ pub static VECTORS: &str = r##"
 ["1.5.2", ["default_unit=s"], "SYNTAX", 1, ".", ["unit", "operator", "end"]],
 ["-5", ["default_unit=s"], "SYNTAX", 0, "-", ["number"]],
 ["1700000000000000000", ["default_unit=s"], "OVERFLOW", 0, null, []],
-["664613997892457936451903530140172288", ["default_unit=s"], "NUMBER_TOO_LARGE", 0, null, []]]}
+["664613997892457936451903530140172288", ["default_unit=s"], "NUMBER_TOO_LARGE", 0, null, []],
+["(1h+30m)*2", [], "SYNTAX", 0, "(", ["number"]],
+["2*(1h+30m)", [], "SYNTAX", 2, "(", ["number"]],
+["1h)", [], "SYNTAX", 2, ")", ["number", "operator", "end"]],
+["1h / 2", [], "SYNTAX", 3, "/", ["number", "operator", "end"]],
+["\"30m\"", [], "SYNTAX", 0, "\"", ["number"]],
+[" '30m'", [], "SYNTAX", 1, "'", ["number"]],
+["10' 30\"", [], "SYNTAX", 2, "'", ["unit", "operator", "end"]]]}
 "##;

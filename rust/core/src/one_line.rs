@@ -340,7 +340,7 @@ fn help_at(expected: Expected, text: &[u8], place: usize, piece: &str) -> &'stat
     } else if last.is_ascii_digit() {
         digit_help(piece, next)
     } else {
-        ""
+        sign_help(piece)
     }
 }
 
@@ -352,8 +352,10 @@ fn first_help(piece: &str, next: u8) -> &'static str {
         r#" (a leading "+" is not read)"#
     } else if next.is_ascii_digit() && (is_word(piece, "p") || is_word(piece, "pt")) {
         " (ISO 8601 is not read: write 1mon 30m for P1MT30M)"
+    } else if piece == "\"" || piece == "'" {
+        " (quotation marks are not read)"
     } else {
-        ""
+        sign_help(piece)
     }
 }
 
@@ -364,6 +366,17 @@ fn digit_help(piece: &str, next: u8) -> &'static str {
         " (numbers have digits only)"
     } else if is_between && piece == ":" {
         " (clock times are not read: write 1h 30m or 1m 30s)"
+    } else {
+        sign_help(piece)
+    }
+}
+
+/// Returns the help for a sign, wherever it is.
+fn sign_help(piece: &str) -> &'static str {
+    if piece == "(" || piece == ")" {
+        " (brackets are not read)"
+    } else if piece == "/" {
+        " (division is not read)"
     } else {
         ""
     }

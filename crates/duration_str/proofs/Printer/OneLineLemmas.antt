@@ -181,7 +181,7 @@ expected_short expected = search (chosen, literal) depth 20
 
 help_short : (expected : Expected) (text : List ℕ) (place : ℕ) (piece : List ℕ)
     → IsShort 52 (help_at expected text place piece)
-help_short expected text place piece = search (chosen, literal) depth 30
+help_short expected text place piece = search (chosen, literal) depth 40
 
 name_short : (u : TimeUnit) → IsShort 3 (encode_utf8_all (help_name u))
 unfolding lib.Utf8.encode
