@@ -4,11 +4,14 @@ compares them with what stands in their places, and writes them.
 import json
 import pathlib
 import re
+import sys
 
-import patterns
-import units
+TOP = pathlib.Path(__file__).resolve().parent.parent
+sys.path.append(str(TOP / "tools"))
+import patterns  # noqa: E402
+import units  # noqa: E402
 
-CRATES = pathlib.Path(__file__).resolve().parent.parent / "crates"
+CRATES = TOP / "crates"
 UNITS = list(units.table())
 FURTHER = list(units.more())
 PRINTED = [unit.printed for unit in UNITS]
@@ -32,6 +35,12 @@ def variants(name, source):
 # in that of their numbers.
 STYLES = variants("Style", "format.rt")
 ROUNDINGS = variants("Rounding", "rounding.rt")
+(helps,) = found(r"^pub enum Help \{([^}]*)\}", "duration_str/src/help.rt")
+# Each help has its comment.
+HELPS = {
+    re.sub(r"(?<=[a-z])(?=[A-Z0-9])", "_", name).upper(): comment.replace("\n    /// ", " ")
+    for comment, name in re.findall(r"^    /// (.*(?:\n    /// .*)*)\n    (\w+)\S*,$", helps, re.M)
+}
 constants = found(r"^const (\w+): u32 = \d+;$", "duration_str_c/src/answer.rt")
 CAUSES = ["READ", *constants[: constants.index("UNKNOWN_OPTION") + 1]]
 

@@ -8,7 +8,9 @@ import re
 import shutil
 import subprocess
 
+import lists
 import reference_parser
+from reference_parser import HELP_WORDS
 
 ROOT = pathlib.Path(__file__).resolve().parent.parent
 CRATE = ROOT / "crates/duration_str"
@@ -82,11 +84,13 @@ def texts_of_vectors():
 
 
 def other_helps():
-    _, table = read("docs/GRAMMAR.md").split("| help | what stands at the place |\n|---|---|\n")
+    codes = [reference_parser.Help(name).code() for name in HELP_WORDS]
+    if codes != [*lists.HELPS]:
+        yield f"docs/GRAMMAR.md: the helps are {codes}, and those of the source {[*lists.HELPS]}"
     lines = set(texts_of_vectors())
-    for help_text in re.findall("^\\| `(.*?)` \\|", table.split("\n\n")[0], re.M):
-        if not any(line.endswith(f" ({help_text})") for line in lines):
-            yield f"docs/GRAMMAR.md: no error in the vectors has the help `{help_text}`"
+    for words in HELP_WORDS.values():
+        if not any(line.endswith(f" ({words})") for line in lines):
+            yield f"docs/GRAMMAR.md: no error in the vectors has the help `{words}`"
 
 
 def other_lines():

@@ -650,7 +650,6 @@ def message(text, answer):
 SMALL_WORDS = {"mon": "mo mos"}
 NEAR_WORDS = {unit.printed.replace("µ", "u"): unit.further for unit in UNITS}
 NEAR_WORDS["us"] += " μs μsec μsecs μsecond μseconds"
-NAMES = "y, q, mon, w, d, h, min, s, ms, us or ns"
 QUOTED = 40
 
 
@@ -672,20 +671,39 @@ ESCAPES = {'"': '\\"', "\\": "\\\\", "\t": "\\t", "\n": "\\n", "\r": "\\r"}
 # The help for a text that matches a pattern at the place.
 LETTER = r"A-Za-z\x80-\U0010ffff"
 HELP = {
-    rf"(?<=[{LETTER}])\.": "units have no point",
-    r"\.(?=[0-9])": "numbers have digits only: write 1500ms for 1.5s",
-    r"(?<=[0-9])([,_'](?=[0-9])|[Ee](?=[-+0-9]))": "numbers have digits only",
-    r"(?<=[0-9]):(?=[0-9])": "clock times are not read: write 1h 30m or 1m 30s",
-    "[()]": "brackets are not read",
-    "/": "division is not read",
+    rf"(?<=[{LETTER}])\.": "NoPoint",
+    r"\.(?=[0-9])": "Fraction",
+    r"(?<=[0-9])([,_'](?=[0-9])|[Ee](?=[-+0-9]))": "DigitsOnly",
+    r"(?<=[0-9]):(?=[0-9])": "ClockTime",
+    "[()]": "Brackets",
+    "/": "Division",
 }
 # Further help, if there are only blanks before the place.
 FIRST_HELP = {
-    "-(?=[0-9.])": "negative durations are not read",
-    r"\+(?=[0-9.])": 'a leading "+" is not read',
-    "[Pp][Tt]?(?=[0-9])": "ISO 8601 is not read: write 1mon 30m for P1MT30M",
-    "[\"']": "quotation marks are not read",
+    "-(?=[0-9.])": "Negative",
+    r"\+(?=[0-9.])": "LeadingPlus",
+    "[Pp][Tt]?(?=[0-9])": "Iso8601",
+    "[\"']": "QuotationMarks",
 }
+# The words of each help, from GRAMMAR's table, in its order
+HELP_TABLE = GRAMMAR.read_text("utf-8").split("\n| name | words | what stands ")[1].split("\n\n")[0]
+HELP_WORDS = dict(re.findall(r"^\| `(\w+)` \| `(.*?)` \|", HELP_TABLE, re.M))
+
+
+class Help(typing.NamedTuple):
+    """A help's name, and the name that it suggests, if it does."""
+
+    name: str
+    suggestion: typing.Optional[str] = None
+
+    def words(self):
+        return HELP_WORDS[self.name].replace('"min"', f'"{self.suggestion}"')
+
+    def code(self):
+        return re.sub("(?<=[a-z])(?=[A-Z0-9])", "_", self.name).upper()
+
+    def number(self):
+        return 1 + [*HELP_WORDS].index(self.name)
 
 
 def escape(character):
@@ -727,14 +745,10 @@ def near_name(word):
 
 def help_at(text, place, piece, expected):
     if {"number", "end"} <= set(expected) and piece.translate(FOLDED) in {",", "&", "and"}:
-        return 'one duration is read, without "," or "and"'
+        return "OneDuration"
     rows = HELP if text[:place].strip(BLANKS) else HELP | FIRST_HELP
     return next(
-        (
-            help_text
-            for pattern, help_text in rows.items()
-            if re.compile(pattern).match(text, place)
-        ),
+        (name for pattern, name in rows.items() if re.compile(pattern).match(text, place)),
         None,
     )
 
@@ -742,7 +756,26 @@ def help_at(text, place, piece, expected):
 def missing_unit_help(text, expected):
     if expected != {"unit"}:
         return None
-    return f"write the number's unit: {NAMES}" if text.strip(BLANKS + "0") else "write 0s"
+    return "MissingUnit" if text.strip(BLANKS + "0") else "Zero"
+
+
+def is_unknown_unit(piece, expected):
+    return "unit" in expected and piece != "" and kind_in_line(piece[0]) == "letter"
+
+
+def help_of(text, answer):
+    """The help for a refused text, or None."""
+    if answer.cause == "overflow" and text.strip(BLANKS + DIGITS) == "":
+        return Help("LargeNumber")
+    if answer.cause != "syntax":
+        return None
+    piece = piece_at(text, answer.place)
+    name = help_at(text, answer.place, piece, answer.expected)
+    if is_unknown_unit(piece, answer.expected):
+        near = near_name(piece)
+        return Help("DidYouMean", near) if near else Help(name or "Units")
+    name = name or missing_unit_help(text, answer.expected)
+    return name and Help(name)
 
 
 def expected_in_line(expected):
@@ -769,6 +802,11 @@ def report(text, answer):
 
 @functools.lru_cache(1 << 16)
 def one_line(text, answer):
+    found = help_of(text, answer)
+    return problem(text, answer) + (f" ({found.words()})" if found else "")
+
+
+def problem(text, answer):
     match answer.cause:
         case "empty":
             return "empty text"
@@ -777,34 +815,15 @@ def one_line(text, answer):
         case "overflow" if "*" in text:
             return f"step of over 584 years in {quote(text)}"
         case "overflow":
-            seconds = (
-                " (write the number's unit, such as ns)"
-                if text.strip(BLANKS + DIGITS) == ""
-                else ""
-            )
-            return f"duration of over 584 years in {quote(text)}{seconds}"
+            return f"duration of over 584 years in {quote(text)}"
         case "number too large":
             return f"number of 2^64 or more in {quote(text)}"
     piece = piece_at(text, answer.place)
     column = f" at column {answer.place + 1}"
-    if "unit" in answer.expected and piece and kind_in_line(piece[0]) == "letter":
-        name = near_name(piece)
-        help_text = (
-            f'did you mean "{name}"?'
-            if name
-            else help_at(text, answer.place, piece, answer.expected) or f"write {NAMES}"
-        )
-        return f"unknown unit {quote(piece)}{column} ({help_text})"
-    help_text = help_at(text, answer.place, piece, answer.expected) or missing_unit_help(
-        text, answer.expected
-    )
+    if is_unknown_unit(piece, answer.expected):
+        return f"unknown unit {quote(piece)}{column}"
     found = f", found {quote(piece) if piece else 'the end'}"
-    return (
-        expected_in_line(answer.expected)
-        + column
-        + found
-        + (f" ({help_text})" if help_text else "")
-    )
+    return expected_in_line(answer.expected) + column + found
 
 
 def output_of(line, choice, text_of_refusal=message):

@@ -1,6 +1,6 @@
--- A fault in one line: what is wrong, and for a syntax fault at which column, and what stands
--- there.
-use Rattle.std.specs.Prelude.{ℕ, ◌+◌, ◌-◌, Bool, false, not, ◌&&◌, ◌||◌, List, [], ◌∷◌, ◌++◌, Option, Some, None, if◌then◌else◌, ◌==◌, nat_le, decimal, encode_utf8_all, map, take, drop, length, slice_index, option_map, chars, bytes_eq, codes}
+-- The help for a fault, and the fault in one line: what is wrong, for a syntax fault at which
+-- column, and what stands there, and then the words of the help.
+use Rattle.std.specs.Prelude.{ℕ, ◌+◌, ◌-◌, Bool, false, not, ◌&&◌, ◌||◌, List, [], ◌∷◌, ◌++◌, Option, Some, None, unwrap_or, if◌then◌else◌, ◌==◌, nat_le, decimal, encode_utf8_all, map, take, drop, length, slice_index, option_map, chars, bytes_eq, codes}
 use Rattle.std.specs.Char.{is_ascii_alphabetic, is_control, to_ascii_lowercase}
 use Rattle.std.specs.Char.Escape.{escape_default}
 use Rattle.std.specs.Int.{is_in_range}
@@ -8,6 +8,8 @@ use Rattle.std.specs.List.{list_any, list_all, find, take_while}
 use Rattle.duration_str.specs.declared.cause.Expected.{Expected}
 use Rattle.duration_str.specs.declared.cause.Cause.{Cause}
 use Rattle.duration_str.specs.declared.cause.Cause.TheVariants.{Empty, Syntax, NumberTooLarge, Overflow, Mixed}
+use Rattle.duration_str.specs.declared.help.Help.{Help}
+use Rattle.duration_str.specs.declared.help.Help.TheVariants.{DidYouMean, Units, Fraction, DigitsOnly, ClockTime, Negative, LeadingPlus, Iso8601, OneDuration, NoPoint, Brackets, Division, QuotationMarks, MissingUnit, Zero, LargeNumber}
 use Rattle.duration_str.specs.declared.unit.TimeUnit.{TimeUnit}
 use Rattle.duration_str.specs.declared.unit.TimeUnit.TheVariants.{Month, MicroSecond}
 use Rattle.duration_str.specs.Text.{Bytes, Characters, is_blank, is_digit}
@@ -100,80 +102,141 @@ help_name u = (row_of u).printed
 abbrev pub near_name : Characters → Option Characters
 near_name word = option_map help_name (near_unit word)
 
-abbrev pub name_help : Bytes → Bytes
-name_help name = codes " (did you mean \"" ++ (name ++ codes "\"?)")
-
--- the names that a help lists, one of each unit, and the bracket after them
-abbrev pub listed_names : Bytes
-listed_names = codes "y, q, mon, w, d, h, min, s, ms, us or ns)"
-
-abbrev pub help_or_units : Bytes → Bytes
-help_or_units help = if length help == 0 then codes " (write " ++ listed_names else help
-
--- the help for a word that is no unit: the name that it is near, or otherwise the help for its
--- place, or otherwise a name of each unit
-abbrev pub unit_help : Option Characters → Bytes → Bytes
-unit_help (Some name) help = name_help (encode_utf8_all name)
-unit_help None help = help_or_units help
+-- the help for letters where a unit could stand: the unit that they are near, or otherwise the help
+-- for their place, or otherwise a name of each unit
+abbrev pub unit_help : Option TimeUnit → Option Help → Help
+unit_help (Some unit) help = DidYouMean unit
+unit_help None help = unwrap_or help Units
 
 -- the help for a sign wherever it is, given the piece's bytes
-abbrev pub sign_help : Bytes → Bytes
+abbrev pub sign_help : Bytes → Option Help
 sign_help piece =
-    if bytes_eq piece (codes "(") || bytes_eq piece (codes ")") then codes " (brackets are not read)"
-    else if bytes_eq piece (codes "/") then codes " (division is not read)"
-    else []
+    if bytes_eq piece (codes "(") || bytes_eq piece (codes ")") then Some Brackets
+    else if bytes_eq piece (codes "/") then Some Division
+    else None
 
 -- the help for a piece that has only blanks before it, given the piece's bytes and the byte after
 -- it
-abbrev pub first_help : Bytes → ℕ → Bytes
+abbrev pub first_help : Bytes → ℕ → Option Help
 first_help piece next =
     let is_signed = is_digit next || next == 46 in
     let small = map to_ascii_lowercase piece in
-    if is_signed && bytes_eq piece (codes "-") then codes " (negative durations are not read)"
-    else if is_signed && bytes_eq piece (codes "+") then codes " (a leading \"+\" is not read)"
-    else if is_digit next && (bytes_eq small (codes "p") || bytes_eq small (codes "pt"))
-    then codes " (ISO 8601 is not read: write 1mon 30m for P1MT30M)"
-    else if bytes_eq piece (codes "\"") || bytes_eq piece (codes "'") then codes " (quotation marks are not read)"
+    if is_signed && bytes_eq piece (codes "-") then Some Negative
+    else if is_signed && bytes_eq piece (codes "+") then Some LeadingPlus
+    else if is_digit next && (bytes_eq small (codes "p") || bytes_eq small (codes "pt")) then Some Iso8601
+    else if bytes_eq piece (codes "\"") || bytes_eq piece (codes "'") then Some QuotationMarks
     else sign_help piece
 
 -- the help for a piece after a digit, given the piece's bytes and the byte after it
-abbrev pub digit_help : Bytes → ℕ → Bytes
+abbrev pub digit_help : Bytes → ℕ → Option Help
 digit_help piece next =
     let is_between = is_digit next in
     let is_exponent = (is_between || next == 43 || next == 45) && bytes_eq (map to_ascii_lowercase piece) (codes "e") in
     if is_exponent || (is_between && (bytes_eq piece (codes ",") || bytes_eq piece (codes "_") || bytes_eq piece (codes "'")))
-    then codes " (numbers have digits only)"
-    else if is_between && bytes_eq piece (codes ":") then codes " (clock times are not read: write 1h 30m or 1m 30s)"
+    then Some DigitsOnly
+    else if is_between && bytes_eq piece (codes ":") then Some ClockTime
     else sign_help piece
 
 -- the help for the piece at byte `place`, given the piece's bytes. Both a number and the end can
 -- stand at a place only after a unit
-abbrev pub help_at : Expected → Bytes → ℕ → Bytes → Bytes
+abbrev pub help_at : Expected → Bytes → ℕ → Bytes → Option Help
 help_at expected text place piece =
     let before = take place text in
     let last = slice_index before (length before - 1) in
     let next = slice_index text (place + length piece) in
     if expected.number && expected.text_end
     && (bytes_eq piece (codes ",") || bytes_eq piece (codes "&") || bytes_eq (map to_ascii_lowercase piece) (codes "and"))
-    then codes " (one duration is read, without \",\" or \"and\")"
-    else if bytes_eq piece (codes ".") && (is_ascii_alphabetic last || nat_le 0x80 last)
-    then codes " (units have no point)"
-    else if bytes_eq piece (codes ".") && is_digit next
-    then codes " (numbers have digits only: write 1500ms for 1.5s)"
+    then Some OneDuration
+    else if bytes_eq piece (codes ".") && (is_ascii_alphabetic last || nat_le 0x80 last) then Some NoPoint
+    else if bytes_eq piece (codes ".") && is_digit next then Some Fraction
     else if list_all is_blank before then first_help piece next
     else if is_digit last then digit_help piece next
     else sign_help piece
 
--- the help at the end of a line that says what was expected. It is `help`, unless that is empty and
--- a unit could stand there, but neither an operator nor the end. Then it is what to write: for a
--- text of zeros and blanks `0s`, since zero is the same in each unit
-abbrev pub missing_unit_help : Expected → Bytes → Bytes → Bytes
-missing_unit_help expected text help =
-    let lacks_unit = expected.unit_word && not (expected.operator || expected.text_end) in
-    if lacks_unit && length help == 0
-    then (if list_all (λ b. b == 48 || is_blank b) text then codes " (write 0s)"
-    else codes " (write the number's unit: " ++ listed_names)
-    else help
+-- The help where no letters stand at a place for a unit. It is `help`, unless there is none and a
+-- unit could stand there, but neither an operator nor the end. Then it is that the unit is missing:
+-- in a text of zeros and blanks the second, since zero is the same in each unit
+abbrev pub missing_unit_help : Expected → Bytes → Option Help → Option Help
+missing_unit_help expected text (Some help) = Some help
+missing_unit_help expected text None =
+    if expected.unit_word && not (expected.operator || expected.text_end)
+    then (if list_all (λ b. b == 48 || is_blank b) text then Some Zero else Some MissingUnit)
+    else None
+
+-- whether a piece is taken for a word that should name a unit
+abbrev pub is_unknown_unit : Expected → Characters → Bool
+is_unknown_unit expected piece = expected.unit_word && begins_with_letter piece
+
+-- the help for a syntax fault at byte `place`, where this piece stands
+abbrev pub syntax_help : Bytes → ℕ → Expected → Characters → Option Help
+syntax_help text place expected piece =
+    let help = help_at expected text place (encode_utf8_all piece) in
+    if is_unknown_unit expected piece then Some (unit_help (near_unit piece) help)
+    else missing_unit_help expected text help
+
+-- the help for an overflow: for a number alone, that a shorter unit may be meant
+abbrev pub overflow_help : Bytes → Option Help
+overflow_help text = if list_all (λ b. is_digit b || is_blank b) text then Some LargeNumber else None
+
+-- the help for the bytes of a text that is refused for this cause, if any
+abbrev pub help_of : Bytes → Cause → Option Help
+help_of text (Syntax place expected) = syntax_help text place expected (first_piece (chars (drop place text)))
+help_of text (Overflow place) = overflow_help text
+help_of text cause = None
+
+-- the bytes of the name that a help says to write instead of the word at the place, if it names one
+abbrev pub suggestion_of : Help → Option Bytes
+suggestion_of (DidYouMean unit) = Some (encode_utf8_all (help_name unit))
+suggestion_of help = None
+
+-- the number of a help for programs in other languages
+abbrev pub help_number : Help → ℕ
+help_number (DidYouMean unit) = 1
+help_number Units = 2
+help_number Fraction = 3
+help_number DigitsOnly = 4
+help_number ClockTime = 5
+help_number Negative = 6
+help_number LeadingPlus = 7
+help_number Iso8601 = 8
+help_number OneDuration = 9
+help_number NoPoint = 10
+help_number Brackets = 11
+help_number Division = 12
+help_number QuotationMarks = 13
+help_number MissingUnit = 14
+help_number Zero = 15
+help_number LargeNumber = 16
+
+-- ---- The words of a help
+
+-- the names that a help lists, one of each unit, and the bracket after them
+abbrev pub listed_names : Bytes
+listed_names = codes "y, q, mon, w, d, h, min, s, ms, us or ns)"
+
+-- the words with which a help ends the line
+abbrev pub help_words : Help → Bytes
+help_words (DidYouMean unit) = codes " (did you mean \"" ++ (encode_utf8_all (help_name unit) ++ codes "\"?)")
+help_words Units = codes " (write " ++ listed_names
+help_words Fraction = codes " (numbers have digits only: write 1500ms for 1.5s)"
+help_words DigitsOnly = codes " (numbers have digits only)"
+help_words ClockTime = codes " (clock times are not read: write 1h 30m or 1m 30s)"
+help_words Negative = codes " (negative durations are not read)"
+help_words LeadingPlus = codes " (a leading \"+\" is not read)"
+help_words Iso8601 = codes " (ISO 8601 is not read: write 1mon 30m for P1MT30M)"
+help_words OneDuration = codes " (one duration is read, without \",\" or \"and\")"
+help_words NoPoint = codes " (units have no point)"
+help_words Brackets = codes " (brackets are not read)"
+help_words Division = codes " (division is not read)"
+help_words QuotationMarks = codes " (quotation marks are not read)"
+help_words MissingUnit = codes " (write the number's unit: " ++ listed_names
+help_words Zero = codes " (write 0s)"
+help_words LargeNumber = codes " (write the number's unit, such as ns)"
+
+-- the end of a line: the words of its help, if any
+abbrev pub help_end : Option Help → Bytes
+help_end (Some help) = help_words help
+help_end None = []
 
 -- ---- The line
 
@@ -194,38 +257,37 @@ abbrev pub found_words : Characters → Bytes
 found_words [] = codes ", found the end"
 found_words (c ∷ piece) = codes ", found " ++ quoted (c ∷ piece)
 
-abbrev pub found_line : Bytes → ℕ → Characters → Bytes → Bytes
-found_line words column piece help = words ++ (at_column column ++ (found_words piece ++ help))
+abbrev pub found_problem : Bytes → ℕ → Characters → Bytes
+found_problem words column piece = words ++ (at_column column ++ found_words piece)
 
-abbrev pub unknown_line : ℕ → Characters → Bytes → Bytes
-unknown_line column word help = codes "unknown unit " ++ (quoted word ++ (at_column column ++ help))
+abbrev pub unknown_problem : ℕ → Characters → Bytes
+unknown_problem column word = codes "unknown unit " ++ (quoted word ++ at_column column)
 
--- the line of a syntax fault. Columns are counted in characters, from 1
-abbrev pub syntax_line : Bytes → ℕ → Expected → Characters → Bytes
-syntax_line text place expected piece =
-    let column = chars_before text place + 1 in
-    let bytes = encode_utf8_all piece in
-    let help = help_at expected text place bytes in
-    if expected.unit_word && begins_with_letter piece then unknown_line column piece (unit_help (near_name piece) help)
-    else found_line (expected_words expected) column piece (missing_unit_help expected text help)
+-- what is wrong at this column, where this piece stands
+abbrev pub problem_at : ℕ → Expected → Characters → Bytes
+problem_at column expected piece =
+    if is_unknown_unit expected piece then unknown_problem column piece
+    else found_problem (expected_words expected) column piece
 
-abbrev pub text_line : Bytes → Bytes → Bytes → Bytes
-text_line problem text help = problem ++ (codes " in " ++ (quoted (chars text) ++ help))
+abbrev pub text_problem : Bytes → Bytes → Bytes
+text_problem problem text = problem ++ (codes " in " ++ quoted (chars text))
 
--- the line of an overflow. If the text has a `*`, a step can be too large though the value is not,
--- so the line then speaks of a step
-abbrev pub overflow_line : Bytes → Bytes
-overflow_line text =
-    if list_any (λ b. b == 42) text then text_line (codes "step of over 584 years") text []
-    else if list_all (λ b. is_digit b || is_blank b) text
-    then text_line (codes "duration of over 584 years") text (codes " (write the number's unit, such as ns)")
-    else text_line (codes "duration of over 584 years") text []
+-- what is too large. If the text has a `*`, a step can be too large though the value is not
+abbrev pub overflow_words : Bytes → Bytes
+overflow_words text =
+    if list_any (λ b. b == 42) text then codes "step of over 584 years" else codes "duration of over 584 years"
 
--- the bytes of the line, given the bytes of the text that was read
+-- what is wrong, given the bytes of the text that was read. Columns are counted in characters,
+-- from 1
+abbrev pub problem_of : Bytes → Cause → Bytes
+problem_of text Empty = codes "empty text"
+problem_of text (Syntax place expected) =
+    problem_at (chars_before text place + 1) expected (first_piece (chars (drop place text)))
+problem_of text (NumberTooLarge place) = text_problem (codes "number of 2^64 or more") text
+problem_of text (Overflow place) = text_problem (overflow_words text) text
+problem_of text (Mixed first later) = text_problem (codes "sum and product mixed") text
+problem_of text cause = encode_utf8_all (line_of cause)
+
+-- the bytes of the line: what is wrong, and the help, if any
 abbrev pub one_line_of : Bytes → Cause → Bytes
-one_line_of text Empty = codes "empty text"
-one_line_of text (Syntax place expected) = syntax_line text place expected (first_piece (chars (drop place text)))
-one_line_of text (NumberTooLarge place) = text_line (codes "number of 2^64 or more") text []
-one_line_of text (Overflow place) = overflow_line text
-one_line_of text (Mixed first later) = text_line (codes "sum and product mixed") text []
-one_line_of text cause = encode_utf8_all (line_of cause)
+one_line_of text cause = problem_of text cause ++ help_end (help_of text cause)

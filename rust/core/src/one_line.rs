@@ -8,12 +8,8 @@
 
 use crate::cause::{Cause, Expected};
 use crate::fault::Fault;
+use crate::help::{Found, Help, found_at, overflow_help};
 use crate::message::{chars_before, put, put_decimal};
-use crate::more_names;
-use crate::more_names::added_unit;
-use crate::options::Options;
-use crate::packed::packed_word;
-use crate::token::is_blank;
 use crate::unit::TimeUnit;
 
 /// No fault's line has more bytes than this.
@@ -30,7 +26,7 @@ pub const MAX_ONE_LINE_LEN: usize = 294;
 /// The size of a buffer that has room for every fault's line.
 pub const ONE_LINE_BUFFER_SIZE: usize = 384;
 
-const MOST_SHOWN: usize = 40;
+pub(crate) const MOST_SHOWN: usize = 40;
 
 impl Fault<'_> {
     /// Writes the fault in one line to the start of a buffer, and returns the line. It says what is
@@ -62,48 +58,48 @@ fn put_line(buffer: &mut [u8], text: &str, cause: Cause) -> Option<usize> {
     match cause {
         Cause::Empty => put(buffer, 0, b"empty text"),
         Cause::Syntax { place, expected } => put_syntax(buffer, text, place, expected),
-        Cause::NumberTooLarge { .. } => put_text_line(buffer, "number of 2^64 or more", text, ""),
+        Cause::NumberTooLarge { .. } => put_text_problem(buffer, "number of 2^64 or more", text),
         Cause::Overflow { .. } => put_overflow(buffer, text),
-        Cause::Mixed { .. } => put_text_line(buffer, "sum and product mixed", text, ""),
+        Cause::Mixed { .. } => put_text_problem(buffer, "sum and product mixed", text),
         Cause::OutOfRange | Cause::NotText { .. } => put_text(buffer, 0, cause.line()),
     }
 }
 
 fn put_syntax(buffer: &mut [u8], text: &str, place: usize, expected: Expected) -> Option<usize> {
-    let piece = first_piece(&text[place..]);
-    let column = column_at(text, place);
-    let help = help_at(expected, text.as_bytes(), place, piece);
-    if expected.unit_word && begins_with_letter(piece) {
-        put_unknown(buffer, column, piece, help)
+    let found = found_at(text, place, expected);
+    let end = put_syntax_problem(buffer, column_at(text, place), expected, &found)?;
+    put_help(buffer, end, found.help)
+}
+
+#[inline(always)]
+fn put_syntax_problem(
+    buffer: &mut [u8],
+    column: usize,
+    expected: Expected,
+    found: &Found<'_>,
+) -> Option<usize> {
+    if found.is_unknown_unit {
+        put_unknown(buffer, column, found.piece)
     } else {
-        let found_help = missing_unit_help(expected, text.as_bytes(), help);
-        put_found(buffer, expected_words(expected), column, piece, found_help)
+        put_found(buffer, expected_words(expected), column, found.piece)
     }
+}
+
+fn put_unknown(buffer: &mut [u8], column: usize, word: &str) -> Option<usize> {
+    let start = put(buffer, 0, b"unknown unit ")?;
+    let end = put_quoted(buffer, start, word)?;
+    put_column(buffer, end, column)
+}
+
+fn put_found(buffer: &mut [u8], words: &str, column: usize, piece: &str) -> Option<usize> {
+    let start = put_text(buffer, 0, words)?;
+    let number = put_column(buffer, start, column)?;
+    put_words(buffer, number, piece)
 }
 
 #[inline(always)]
 fn column_at(text: &str, place: usize) -> usize {
     chars_before(text, place) + 1
-}
-
-fn put_unknown(buffer: &mut [u8], column: usize, word: &str, help: &str) -> Option<usize> {
-    let start = put(buffer, 0, b"unknown unit ")?;
-    let end = put_quoted(buffer, start, word)?;
-    let number = put_column(buffer, end, column)?;
-    put_unit_help(buffer, number, word, help)
-}
-
-fn put_found(
-    buffer: &mut [u8],
-    words: &str,
-    column: usize,
-    piece: &str,
-    help: &str,
-) -> Option<usize> {
-    let start = put_text(buffer, 0, words)?;
-    let number = put_column(buffer, start, column)?;
-    let end = put_words(buffer, number, piece)?;
-    put_text(buffer, end, help)
 }
 
 fn put_words(buffer: &mut [u8], at: usize, piece: &str) -> Option<usize> {
@@ -115,21 +111,66 @@ fn put_words(buffer: &mut [u8], at: usize, piece: &str) -> Option<usize> {
 }
 
 fn put_overflow(buffer: &mut [u8], text: &str) -> Option<usize> {
+    let end = put_overflow_problem(buffer, text)?;
+    put_help(buffer, end, overflow_help(text.as_bytes()))
+}
+
+fn put_overflow_problem(buffer: &mut [u8], text: &str) -> Option<usize> {
     if text.as_bytes().contains(&b'*') {
-        put_text_line(buffer, "step of over 584 years", text, "")
-    } else if is_number(text.as_bytes()) {
-        let help = " (write the number's unit, such as ns)";
-        put_text_line(buffer, "duration of over 584 years", text, help)
+        put_text_problem(buffer, "step of over 584 years", text)
     } else {
-        put_text_line(buffer, "duration of over 584 years", text, "")
+        put_text_problem(buffer, "duration of over 584 years", text)
     }
 }
 
-fn put_text_line(buffer: &mut [u8], problem: &str, text: &str, help: &str) -> Option<usize> {
+fn put_text_problem(buffer: &mut [u8], problem: &str, text: &str) -> Option<usize> {
     let start = put_text(buffer, 0, problem)?;
     let before = put(buffer, start, b" in ")?;
-    let end = put_quoted(buffer, before, text)?;
-    put_text(buffer, end, help)
+    put_quoted(buffer, before, text)
+}
+
+fn put_help(buffer: &mut [u8], at: usize, help: Option<Help>) -> Option<usize> {
+    match help {
+        Some(help) => put_text(buffer, at, help_words(help)),
+        None => Some(at),
+    }
+}
+
+fn help_words(help: Help) -> &'static str {
+    match help {
+        Help::DidYouMean(unit) => near_words(unit),
+        Help::Units => " (write y, q, mon, w, d, h, min, s, ms, us or ns)",
+        Help::Fraction => " (numbers have digits only: write 1500ms for 1.5s)",
+        Help::DigitsOnly => " (numbers have digits only)",
+        Help::ClockTime => " (clock times are not read: write 1h 30m or 1m 30s)",
+        Help::Negative => " (negative durations are not read)",
+        Help::LeadingPlus => r#" (a leading "+" is not read)"#,
+        Help::Iso8601 => " (ISO 8601 is not read: write 1mon 30m for P1MT30M)",
+        Help::OneDuration => r#" (one duration is read, without "," or "and")"#,
+        Help::NoPoint => " (units have no point)",
+        Help::Brackets => " (brackets are not read)",
+        Help::Division => " (division is not read)",
+        Help::QuotationMarks => " (quotation marks are not read)",
+        Help::MissingUnit => " (write the number's unit: y, q, mon, w, d, h, min, s, ms, us or ns)",
+        Help::Zero => " (write 0s)",
+        Help::LargeNumber => " (write the number's unit, such as ns)",
+    }
+}
+
+fn near_words(unit: TimeUnit) -> &'static str {
+    match unit {
+        TimeUnit::Year => r#" (did you mean "y"?)"#,
+        TimeUnit::Quarter => r#" (did you mean "q"?)"#,
+        TimeUnit::Month => r#" (did you mean "mon"?)"#,
+        TimeUnit::Week => r#" (did you mean "w"?)"#,
+        TimeUnit::Day => r#" (did you mean "d"?)"#,
+        TimeUnit::Hour => r#" (did you mean "h"?)"#,
+        TimeUnit::Minute => r#" (did you mean "min"?)"#,
+        TimeUnit::Second => r#" (did you mean "s"?)"#,
+        TimeUnit::MilliSecond => r#" (did you mean "ms"?)"#,
+        TimeUnit::MicroSecond => r#" (did you mean "us"?)"#,
+        TimeUnit::NanoSecond => r#" (did you mean "ns"?)"#,
+    }
 }
 
 fn put_column(buffer: &mut [u8], at: usize, column: usize) -> Option<usize> {
@@ -196,50 +237,12 @@ fn put_escaped(buffer: &mut [u8], at: usize, c: char) -> Option<usize> {
     Some(end)
 }
 
-fn first_piece(text: &str) -> &str {
-    let mut chars = text.chars();
-    let Some(first) = chars.next() else {
-        return text;
-    };
-    let mut rest = chars.as_str();
-    let mut left = MOST_SHOWN;
-    while let Some(c) = chars.next() {
-        if left == 0 || !is_like(first, c) {
-            break;
-        }
-        rest = chars.as_str();
-        left -= 1;
-    }
-    &text[..text.len() - rest.len()]
-}
-
-fn is_like(first: char, c: char) -> bool {
-    c.is_ascii_digit() && first.is_ascii_digit() || is_letter(c) && is_letter(first)
-}
-
-fn begins_with_letter(text: &str) -> bool {
-    match text.chars().next() {
-        Some(c) => is_letter(c),
-        None => false,
-    }
-}
-
-#[inline(never)]
-fn is_letter(c: char) -> bool {
-    if c.is_ascii() {
-        return c.is_ascii_alphabetic();
-    }
-    let is_sign = matches!(c, '\u{a1}'..='\u{b4}' | '\u{b6}'..='\u{bf}' | '×' | '÷')
-        || matches!(c, '\u{2010}'..='\u{2bff}' | '\u{3001}'..='\u{303f}' | '\u{ff00}'..='\u{ff20}');
-    is_plain(c) && !is_sign
-}
-
 pub(crate) fn is_clear(c: char) -> bool {
     is_plain(c) && c != '"' && c != '\\'
 }
 
 #[inline(always)]
-fn is_plain(c: char) -> bool {
+pub(crate) fn is_plain(c: char) -> bool {
     c >= ' ' && (c <= '~' || !is_hidden(c))
 }
 
@@ -272,145 +275,4 @@ fn expected_words(expected: Expected) -> &'static str {
     } else {
         "expected a number"
     }
-}
-
-fn put_unit_help(buffer: &mut [u8], at: usize, word: &str, help: &str) -> Option<usize> {
-    match near_unit(word) {
-        Some(unit) => put_name_help(buffer, at, help_name(unit)),
-        None => put_text(buffer, at, help_or_units(help)),
-    }
-}
-
-fn help_or_units(help: &str) -> &str {
-    if help.is_empty() {
-        " (write y, q, mon, w, d, h, min, s, ms, us or ns)"
-    } else {
-        help
-    }
-}
-
-fn put_name_help(buffer: &mut [u8], at: usize, name: &[u8]) -> Option<usize> {
-    let start = put(buffer, at, b" (did you mean \"")?;
-    let end = put(buffer, start, name)?;
-    put(buffer, end, b"\"?)")
-}
-
-/// Returns the unit for which people write a word that the library's own table lacks.
-fn near_unit(word: &str) -> Option<TimeUnit> {
-    if word == "mo" || word == "mos" {
-        return Some(TimeUnit::Month);
-    }
-    let (packed, greek) = packed_word(word, Options::off(), true)?;
-    if greek {
-        more_names::unit_of_packed(packed)
-    } else {
-        added_unit(packed)
-    }
-}
-
-/// The name of each unit that a help names, the longest unit first, filled up with spaces.
-static HELP_NAMES: [[u8; 3]; 11] = [
-    *b"y  ", *b"q  ", *b"mon", *b"w  ", *b"d  ", *b"h  ", *b"min", *b"s  ", *b"ms ", *b"us ",
-    *b"ns ",
-];
-
-fn help_name(unit: TimeUnit) -> &'static [u8] {
-    HELP_NAMES[unit.rank()].trim_ascii_end()
-}
-
-fn is_word(word: &str, name: &str) -> bool {
-    word.eq_ignore_ascii_case(name)
-}
-
-/// Returns the help for the piece at the place. The place is after a unit exactly if both a number
-/// and the end could stand there.
-fn help_at(expected: Expected, text: &[u8], place: usize, piece: &str) -> &'static str {
-    let before = &text[..place];
-    let last = last_byte(before);
-    let next = byte_at(text, place + piece.len());
-    let is_after_unit = expected.number && expected.text_end;
-    if is_after_unit && (piece == "," || piece == "&" || is_word(piece, "and")) {
-        r#" (one duration is read, without "," or "and")"#
-    } else if piece == "." && (last.is_ascii_alphabetic() || last >= 0x80) {
-        " (units have no point)"
-    } else if piece == "." && next.is_ascii_digit() {
-        " (numbers have digits only: write 1500ms for 1.5s)"
-    } else if are_blank(before) {
-        first_help(piece, next)
-    } else if last.is_ascii_digit() {
-        digit_help(piece, next)
-    } else {
-        sign_help(piece)
-    }
-}
-
-fn first_help(piece: &str, next: u8) -> &'static str {
-    let is_signed = next.is_ascii_digit() || next == b'.';
-    if is_signed && piece == "-" {
-        " (negative durations are not read)"
-    } else if is_signed && piece == "+" {
-        r#" (a leading "+" is not read)"#
-    } else if next.is_ascii_digit() && (is_word(piece, "p") || is_word(piece, "pt")) {
-        " (ISO 8601 is not read: write 1mon 30m for P1MT30M)"
-    } else if piece == "\"" || piece == "'" {
-        " (quotation marks are not read)"
-    } else {
-        sign_help(piece)
-    }
-}
-
-fn digit_help(piece: &str, next: u8) -> &'static str {
-    let is_between = next.is_ascii_digit();
-    let is_exponent = (is_between || next == b'+' || next == b'-') && is_word(piece, "e");
-    if is_exponent || is_between && (piece == "," || piece == "_" || piece == "'") {
-        " (numbers have digits only)"
-    } else if is_between && piece == ":" {
-        " (clock times are not read: write 1h 30m or 1m 30s)"
-    } else {
-        sign_help(piece)
-    }
-}
-
-/// Returns the help for a sign, wherever it is.
-fn sign_help(piece: &str) -> &'static str {
-    if piece == "(" || piece == ")" {
-        " (brackets are not read)"
-    } else if piece == "/" {
-        " (division is not read)"
-    } else {
-        ""
-    }
-}
-
-fn missing_unit_help(expected: Expected, text: &[u8], help: &'static str) -> &'static str {
-    let lacks_unit = expected.unit_word && !expected.operator && !expected.text_end;
-    if !lacks_unit || !help.is_empty() {
-        help
-    } else if is_zero(text) {
-        " (write 0s)"
-    } else {
-        " (write the number's unit: y, q, mon, w, d, h, min, s, ms, us or ns)"
-    }
-}
-
-fn are_blank(bytes: &[u8]) -> bool {
-    bytes.iter().all(|b| is_blank(char::from(*b)))
-}
-
-fn is_number(bytes: &[u8]) -> bool {
-    bytes
-        .iter()
-        .all(|b| b.is_ascii_digit() || is_blank(char::from(*b)))
-}
-
-fn is_zero(bytes: &[u8]) -> bool {
-    bytes.iter().all(|b| *b == b'0' || is_blank(char::from(*b)))
-}
-
-fn last_byte(bytes: &[u8]) -> u8 {
-    bytes.last().copied().unwrap_or(0)
-}
-
-fn byte_at(bytes: &[u8], index: usize) -> u8 {
-    bytes.get(index).copied().unwrap_or(0)
 }

@@ -1,12 +1,18 @@
 -- Lemmas about words that are near a unit.
-use Rattle.duration_str.proofs.Common.{ap, arith, bytes_eq, bytes_eq-Decides, cases_Bool, codes, encode_utf8_all, encodes-chars, false, find, get_or, inl, inr, is_named, IsUtf8, length, List, list_any, map, None, off, Option, packed_word, rank_of, refl, Some, sym, take, TimeUnit, to_ascii_lowercase, true, units, unit_of_word, with_micro, Bool, Month, [], ℕ, ◌∙◌, ◌∷◌, ◌≡◌, ◌-◌, ◌==◌, more_names, rules}
+use Rattle.duration_str.proofs.Common.{bytes_eq, bytes_eq-Decides, cases_Bool, codes, encode_utf8_all, encodes-chars, false, find, inl, inr, is_named, IsUtf8, List, list_any, map, None, off, Option, packed_word, refl, Some, sym, TimeUnit, to_ascii_lowercase, true, units, unit_of_word, with_micro, Bool, if◌then◌else◌, Month, [], ℕ, ◌∙◌, ◌∷◌, ◌≡◌, ◌==◌, more_names}
 use Rattle.duration_str.proofs.Characters.PackedLemmas.{added_rules, added_word_none, more_off, more_word_none}
-use Rattle.duration_str.proofs.Characters.UnitLemmas.{bytes_eq-encodes, each_unit}
-use Rattle.duration_str.specs.declared.one_line.TheConstants.{HELP_NAMES}
-use Rattle.std.specs.Char.{is_ascii_whitespace}
-use Rattle.std.specs.List.{suffix_len}
+use Rattle.duration_str.proofs.Characters.UnitLemmas.{bytes_eq-encodes}
 use Rattle.std.specs.Str.{chars}
-use Rattle.duration_str.specs.OneLine.{help_name, near_unit, small_words, with_micro_sign}
+use Rattle.duration_str.specs.OneLine.{near_unit, small_words}
+
+pub near_if_some : (b : Bool) (near : Option TimeUnit) (u : TimeUnit) → Some u ≡ (if b then near else None)
+    → (b ≡ true) × (near ≡ Some u)
+near_if_some true near u e = (refl, sym e)
+near_if_some false near u e = absurd cc
+
+pub near_if_none : (b : Bool) (near : Option TimeUnit) → b ≡ true → None ≡ (if b then near else None) → near ≡ None
+near_if_none true near is e = sym e
+near_if_none false near is e = absurd cc
 
 added_found : (word : List ℕ) (us : List TimeUnit)
     → find (λ u. list_any (bytes_eq (map to_ascii_lowercase word)) (more_names u)) us ≡ find (is_named added_rules word) us
@@ -53,10 +59,3 @@ module _ (bytes : List ℕ) (utf8 : IsUtf8 bytes) (mo : bytes_eq bytes (codes "m
     | inl greek ↦ more_word_none (with_micro true (chars bytes)) none ∙ sym (near_greek greek)
     | inr latin ↦ added_word_none (with_micro true (chars bytes)) none ∙ sym (near_added latin)
   ]
-
-abbrev trimmed : List ℕ → List ℕ
-trimmed bytes = take (length bytes - suffix_len is_ascii_whitespace bytes) bytes
-
-pub help_name_at : (u : TimeUnit) → trimmed (get_or HELP_NAMES (rank_of u) []) ≡ encode_utf8_all (help_name u)
-unfolding lib.Utf8.encode
-help_name_at = each_unit (λ u. trimmed (get_or HELP_NAMES (rank_of u) []) ≡ encode_utf8_all (help_name u)) assumption

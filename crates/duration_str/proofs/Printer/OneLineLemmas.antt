@@ -1,13 +1,14 @@
-use Rattle.duration_str.proofs.Common.{ahead, and_parts, ap, append-nil, append_assoc, arith, Bool, cases_Bool, Cause, chars, chars-encodes, chars-nil, chars_from_encodes, chars_past_char, codes, common_steps, cond, decimal, decimal_by_steps, drop, Empty, encode_ascii, encode_utf8, encode_utf8_all, encodes-append, encodes-chars, eqb-true, Expected, false, find, ForSome, if◌then◌else◌, inl, inr, is_blank, IsCharBoundary, IsCharBoundary-at_seam, IsTrue, IsUtf8, IsUtf8-drop, IsUtf8-take, leb-true, len_utf8_bounds, length, length-append, length-decimal-le, length-encode, length-le-encodes, List, list_all, list_all-append, lit<, ltb-true, map, Mixed, nat_le, nat_tests, None, NotText, NumberTooLarge, Option, OutOfRange, Overflow, place_of, refl, row_of, rules, scalar, scalars, scalars-chars, slice_range, Some, suc, Syntax, take, take-nil, take_while, take_while-cons, TimeUnit, to_ascii_lowercase, true, units, zero, [], ℕ, ◌%◌, ◌&&◌, ◌*◌, ◌++◌, ◌+◌, ◌-◌, ◌<◌, ◌==◌, ◌^◌, ◌||◌, ◌∙◌, ◌∷◌, ◌≡◌, ◌≢◌, ◌≤◌}
+use Rattle.duration_str.proofs.Common.{ahead, and_parts, ap, append-nil, append_assoc, arith, Bool, cases_Bool, Cause, chars, chars-encodes, chars-nil, chars_from_encodes, chars_past_char, codes, common_steps, cond, decimal, decimal_by_steps, drop, Empty, encode_ascii, encode_utf8, encode_utf8_all, encodes-append, encodes-chars, eqb-true, Expected, false, ForSome, if◌then◌else◌, inl, inr, is_blank, is_digit, IsCharBoundary, IsCharBoundary-at_seam, IsTrue, IsUtf8, IsUtf8-drop, IsUtf8-take, leb-true, len_utf8_bounds, length, length-append, length-decimal-le, length-encode, length-le-encodes, List, list_all, list_all-append, lit<, ltb-true, Mixed, nat_le, nat_tests, None, NotText, NumberTooLarge, Option, OutOfRange, Overflow, place_of, refl, rules, scalar, scalars, scalars-chars, slice_range, Some, suc, Syntax, take, take-nil, take_while, take_while-cons, TimeUnit, true, zero, [], ℕ, ◌%◌, ◌&&◌, ◌*◌, ◌++◌, ◌+◌, ◌-◌, ◌<◌, ◌==◌, ◌^◌, ◌||◌, ◌∙◌, ◌∷◌, ◌≡◌, ◌≢◌, ◌≤◌}
 use Rattle.std.proofs.Common.{lit≤, nat_lt}
 use Rattle.std.proofs.lemmas.Bool.{le-leb, lt-leb}
 use Rattle.std.proofs.lemmas.List.{length-take, nil_from_length}
 use Rattle.duration_str.specs.Messages.{chars_before}
-use Rattle.duration_str.specs.OneLine.{at_column, begins_with_letter, expected_words, first_piece, found_line, found_words, help_at, is_clear, is_like, is_plain, listed_names, missing_unit_help, help_name, near_name, near_unit, one_line_of, overflow_line, quoted, quoted_end, shown, syntax_line, text_line, unit_help}
+use Rattle.duration_str.specs.declared.help.Help.{Help}
+use Rattle.duration_str.specs.declared.help.Help.TheVariants.{DidYouMean, MissingUnit, Zero}
+use Rattle.duration_str.specs.OneLine.{at_column, expected_words, first_piece, found_words, help_at, help_end, is_clear, is_like, is_plain, is_unknown_unit, missing_unit_help, help_name, near_unit, one_line_of, overflow_help, overflow_words, problem_at, quoted, quoted_end, shown, syntax_help, text_problem, unit_help}
 use Rattle.std.specs.Char.Escape.{escape_default, escape_unicode, hex_digit_at, short_escape}
 use Rattle.std.specs.Prelude.{not}
 use Rattle.std.specs.Int.{is_in_range}
-use Rattle.std.specs.Option.{option_map}
 use Rattle.std.proofs.Math.Utf8.{low_scalar}
 
 pub chars_of_none : (text : List ℕ) → length text ≡ 0 → chars text ≡ []
@@ -179,93 +180,110 @@ found_short (c ∷ piece) is = joined (literal 8 (codes ", found ") refl) is
 expected_short : (expected : Expected) → IsShort 38 (expected_words expected)
 expected_short expected = search (chosen, literal) depth 20
 
-help_short : (expected : Expected) (text : List ℕ) (place : ℕ) (piece : List ℕ)
-    → IsShort 52 (help_at expected text place piece)
-help_short expected text place piece = search (chosen, literal) depth 40
+-- whether the words of a help have at most 52 bytes. Only those of `MissingUnit` have more
+abbrev Fits : Option Help → Type 0
+Fits help = IsShort 52 (help_end help)
+
+fits_chosen : (b : Bool) (first second : Option Help) → Fits first → Fits second → Fits (if b then first else second)
+fits_chosen b first second one other = search rules
+
+at_fits : (expected : Expected) (text : List ℕ) (place : ℕ) (piece : List ℕ) → Fits (help_at expected text place piece)
+at_fits expected text place piece = search (fits_chosen, literal) depth 40
 
 name_short : (u : TimeUnit) → IsShort 3 (encode_utf8_all (help_name u))
 unfolding lib.Utf8.encode
 name_short u = search rules
 
-near_short : (name help : List ℕ) → IsShort 3 (encode_utf8_all name) → IsShort 52 (unit_help (Some name) help)
-near_short name help is =
-    less (lit≤ tt) (joined (literal 16 (codes " (did you mean \"") refl) (joined is (literal 3 (codes "\"?)") refl)))
+near_fits : (u : TimeUnit) → Fits (Some (DidYouMean u))
+near_fits u =
+    less (lit≤ tt) (joined (literal 16 (codes " (did you mean \"") refl) (joined (name_short u) (literal 3 (codes "\"?)") refl)))
 
-unit_help_short : (word help : List ℕ) → IsShort 52 help → IsShort 52 (unit_help (near_name word) help)
-unit_help_short word help short = by_unit (near_unit word)
-  where
-    by_unit : (unit : Option TimeUnit) → IsShort 52 (unit_help (option_map help_name unit) help)
-    by_unit None =
-        chosen (length help == 0) (literal 52 (codes " (write y, q, mon, w, d, h, min, s, ms, us or ns)") refl) short
-    by_unit (Some u) = near_short (help_name u) help (name_short u)
+unit_help_fits : (near : Option TimeUnit) (help : Option Help) → Fits help → Fits (Some (unit_help near help))
+unit_help_fits (Some u) help fits = near_fits u
+unit_help_fits None (Some help) fits = fits
+unit_help_fits None None fits = literal 52 _ refl
 
 -- ---- The line
 
-missing_short : (text : List ℕ)
-    → IsShort 68 (if list_all (λ b. b == 48 || is_blank b) text then codes " (write 0s)"
-    else codes " (write the number's unit: " ++ listed_names)
-missing_short text = search (chosen, literal)
+unknown_short : (column piece help : List ℕ) → IsShort 31 column → IsShort 165 piece → IsShort 52 help
+    → IsShort 294 ((codes "unknown unit " ++ (piece ++ column)) ++ help)
+unknown_short column piece help at is short =
+    less (lit≤ tt) (joined (joined (literal 13 (codes "unknown unit ") refl) (joined is at)) short)
+
+found_line_short : {words column found help : List ℕ} {most more : ℕ} → IsShort most words → IsShort 31 column
+    → IsShort 173 found → IsShort more help → most + more ≤ 90
+    → IsShort 294 ((words ++ (column ++ found)) ++ help)
+found_line_short words column found help fits = less (omega (arith, fits)) (joined (joined words (joined column found)) help)
 
 unit_alone : (expected : Expected) → (expected.unit_word && not (expected.operator || expected.text_end)) ≡ true
     → expected_words expected ≡ codes "expected a unit"
 unit_alone expected only = grind (arith, common_steps)
 
--- The help for a number without its unit can be longer than any other help. It stands only after
--- the shortest of the words that say what was expected, so the line is no longer than with the
--- longest words and other help.
-words_short : (expected : Expected) (text help : List ℕ) {column found : List ℕ} → IsShort 31 column → IsShort 173 found
-    → IsShort 52 help
-    → IsShort 294 (expected_words expected ++ (column ++ (found ++ missing_unit_help expected text help)))
-words_short expected text help column found short =
-    let only = expected.unit_word && not (expected.operator || expected.text_end) in
-    elim (cases_Bool (only && length help == 0)) [
+missing_short : (text : List ℕ)
+    → IsShort 68 (help_end (if list_all (λ b. b == 48 || is_blank b) text then Some Zero else Some MissingUnit))
+missing_short text = elim (cases_Bool (list_all (λ b. b == 48 || is_blank b) text)) [
+  | inl zeros ↦ rw zeros (literal 68 _ refl)
+  | inr some ↦ rw some (literal 68 _ refl)
+]
+
+-- The words of `MissingUnit` stand only after the shortest of the words that say what was expected,
+-- so the line is no longer than with the longest of those words and another help.
+words_short : (expected : Expected) (text : List ℕ) (help : Option Help) {column found : List ℕ} → IsShort 31 column
+    → IsShort 173 found → Fits help
+    → IsShort 294 ((expected_words expected ++ (column ++ found)) ++ help_end (missing_unit_help expected text help))
+words_short expected text (Some help) column found fits =
+    found_line_short (expected_short expected) column found fits (lit≤ tt)
+words_short expected text None column found fits =
+    elim (cases_Bool (expected.unit_word && not (expected.operator || expected.text_end))) [
       | inl missing ↦
-          let words = unit_alone expected (and_parts only (length help == 0) missing).0 in
-          rw (missing, words)
-          (less (lit≤ tt) (joined (literal 15 (codes "expected a unit") refl) (joined column (joined found (missing_short text)))))
-      | inr other ↦
-          rw other (less (lit≤ tt) (joined (expected_short expected) (joined column (joined found short))))
+          rw (missing, unit_alone expected missing)
+          (found_line_short (literal 15 (codes "expected a unit") refl) column found (missing_short text) (lit≤ tt))
+      | inr other ↦ rw other (found_line_short (expected_short expected) column found fits (lit≤ tt))
     ]
 
 syntax_short : (text : List ℕ) (place : ℕ) (expected : Expected) → IsPlaced text place
-    → IsShort 294 (syntax_line text place expected (first_piece (ahead text place)))
+    → IsShort 294 (problem_at (chars_before text place + 1) expected (first_piece (ahead text place))
+    ++ help_end (syntax_help text place expected (first_piece (ahead text place))))
 syntax_short text place expected is =
-    let rest = ahead text place in
-    let piece =
-    quoted_short (first_piece rest)
-    (first_scalars rest (scalars-chars (drop place text) (IsUtf8-drop text place is.utf8 is.boundary))) in
+    let piece = first_piece (ahead text place) in
+    let shown =
+    quoted_short piece
+    (first_scalars (ahead text place) (scalars-chars (drop place text) (IsUtf8-drop text place is.utf8 is.boundary))) in
     let column = column_short text place is in
-    let help = help_short expected text place (encode_utf8_all (first_piece rest)) in
-    chosen _ (less (lit≤ tt) (joined (literal 13 (codes "unknown unit ") refl) (joined piece (joined column (unit_help_short (first_piece rest) _ help)))))
-    (words_short expected text _ column (found_short _ piece) help)
+    let fits = at_fits expected text place (encode_utf8_all piece) in
+    elim (cases_Bool (is_unknown_unit expected piece)) [
+      | inl unknown ↦ rw unknown (unknown_short _ _ _ column shown (unit_help_fits (near_unit piece) _ fits))
+      | inr other ↦ rw other (words_short expected text _ column (found_short _ shown) fits)
+    ]
 
 text_short : (problem text help : List ℕ) → IsUtf8 text → IsShort 26 problem → IsShort 41 help
-    → IsShort 294 (text_line problem text help)
+    → IsShort 294 (text_problem problem text ++ help)
 text_short problem text help utf8 first last =
     less (lit≤ tt)
-    (joined first (joined (literal 4 (codes " in ") refl) (joined (quoted_short (chars text) (scalars-chars text utf8)) last)))
+    (joined (joined first (joined (literal 4 (codes " in ") refl) (quoted_short (chars text) (scalars-chars text utf8)))) last)
 
-overflow_short : (text : List ℕ) → IsUtf8 text → IsShort 294 (overflow_line text)
-overflow_short text utf8 = search (rules, chosen, literal, text_short)
+overflow_words_short : (text : List ℕ) → IsShort 26 (overflow_words text)
+overflow_words_short text = search (chosen, literal)
+
+large_short : (text : List ℕ) → IsShort 41 (help_end (overflow_help text))
+large_short text = elim (cases_Bool (list_all (λ b. is_digit b || is_blank b) text)) [
+  | inl number ↦ rw number (literal 41 _ refl)
+  | inr other ↦ rw other (literal 41 _ refl)
+]
 
 pub one_line_short : (text : List ℕ) (cause : Cause) → IsUtf8 text → length text < 2 ^ 63
     → ForSome (place_of cause) (IsCharBoundary text) → IsShort 294 (one_line_of text cause)
 unfolding lib.Utf8.encode
 one_line_short text Empty utf8 small placed = literal 294 _ refl
 one_line_short text (Syntax place expected) utf8 small placed = search (rules, syntax_short)
-one_line_short text (NumberTooLarge place) utf8 small placed = search (rules, literal, text_short)
-one_line_short text (Overflow place) utf8 small placed = overflow_short text utf8
-one_line_short text (Mixed first later) utf8 small placed = search (rules, text_short, literal)
+one_line_short text (NumberTooLarge place) utf8 small placed =
+    text_short (codes "number of 2^64 or more") text [] utf8 (literal 26 _ refl) (literal 41 [] refl)
+one_line_short text (Overflow place) utf8 small placed = text_short _ text _ utf8 (overflow_words_short text) (large_short text)
+one_line_short text (Mixed first later) utf8 small placed =
+    text_short (codes "sum and product mixed") text [] utf8 (literal 26 _ refl) (literal 41 [] refl)
 one_line_short text OutOfRange utf8 small placed = literal 294 _ refl
 one_line_short text (NotText true) utf8 small placed = literal 294 _ refl
 one_line_short text (NotText false) utf8 small placed = literal 294 _ refl
-
-pub no_unit_word : (text : List ℕ) (place : ℕ) (expected : Expected) (piece : List ℕ)
-    → (expected.unit_word && begins_with_letter piece) ≡ false
-    → found_line (expected_words expected) (chars_before text place + 1) piece
-    (missing_unit_help expected text (help_at expected text place (encode_utf8_all piece)))
-    ≡ syntax_line text place expected piece
-no_unit_word text place expected piece no_word = rw no_word refl
 
 -- ---- A quote
 

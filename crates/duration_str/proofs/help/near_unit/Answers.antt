@@ -1,8 +1,8 @@
 use Rattle.duration_str.proofs.Common.{chars, sym, true, with_micro, ◌∙◌}
 use Rattle.duration_str.proofs.Characters.PackedLemmas.{added_word_some, more_word_some, packed_empty, packed_parts}
 use Rattle.duration_str.proofs.Printer.NearLemmas.{near_added, near_greek, near_mo, near_mos, near_none}
-use Rattle.duration_str.proofs.one_line.near_unit.Goals.{then-eq-via-then-eq, then-eq-via-else-eq+then-eq-2}
-use Rattle.duration_str.proofs.one_line.near_unit.Goals as goal
+use Rattle.duration_str.proofs.help.near_unit.Goals.{then-eq-via-then-eq, then-eq-via-else-eq+then-eq-2}
+use Rattle.duration_str.proofs.help.near_unit.Goals as goal
 
 pub returns-then-eq : goal.returns-then-eq
 returns-then-eq c = elim c.then-eq.branch [

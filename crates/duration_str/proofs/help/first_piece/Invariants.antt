@@ -2,7 +2,7 @@ use Rattle.duration_str.proofs.Common.{chars_rest, IsUtf8, ◌≡◌}
 use denote.Text.{Utf8}
 use denote.Shadow.{shadow}
 use Rattle.duration_str.proofs.Printer.OneLineLemmas.{Taken}
-use Rattle.duration_str.proofs.one_line.first_piece.Given as goal
+use Rattle.duration_str.proofs.help.first_piece.Given as goal
 
 abbrev pub invariant-loop-c : goal.invariant-loop-c
 invariant-loop-c l = record {

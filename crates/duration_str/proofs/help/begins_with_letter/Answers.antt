@@ -1,5 +1,5 @@
 use Rattle.duration_str.proofs.Common.{chars_past_char, sym, ◌∙◌}
-use Rattle.duration_str.proofs.one_line.begins_with_letter.Goals as goal
+use Rattle.duration_str.proofs.help.begins_with_letter.Goals as goal
 
 pub returns-in-Some : goal.returns-in-Some
 returns-in-Some c =

@@ -1,7 +1,7 @@
 use Rattle.duration_str.proofs.Common.{refl, rules, sym, ◌∙◌, take-nil}
 use Rattle.duration_str.proofs.Printer.OneLineLemmas.{taken_all, taken_boundary, taken_first, taken_more, taken_other, chars_of_none}
-use Rattle.duration_str.proofs.one_line.first_piece.Goals as goal
-use Rattle.duration_str.proofs.one_line.first_piece.Goals.{in-Some-next+then-left-eq0, in_default-next, then-left-eq0-via-else-left-eq0+then-not-is_like, then-left-eq0-via-then-left-eq0}
+use Rattle.duration_str.proofs.help.first_piece.Goals as goal
+use Rattle.duration_str.proofs.help.first_piece.Goals.{in-Some-next+then-left-eq0, in_default-next, then-left-eq0-via-else-left-eq0+then-not-is_like, then-left-eq0-via-then-left-eq0}
 
 pub loop-c-init : goal.loop-c-init
 loop-c-init c = search (rules, taken_first)
@@ -19,13 +19,13 @@ loop-c-preserved c =
           (sym c.is_like.ensures ∙ c.if-not-is_like.false) held.taken;
     }
 
-pub range-requires-clause-end_boundary : goal.range-requires-clause-end_boundary
-range-requires-clause-end_boundary c = search (rules, taken_boundary)
+pub range_to-requires : goal.range_to-requires
+range_to-requires c = search (rules, taken_boundary)
 
 pub returns-clause-piece : goal.returns-clause-piece
 returns-clause-piece c =
     let held = c.loop-c.invariant in
-    taken_all c.in-Some.first c.args.text.now _ c.loop-c.left held.taken _ c.range.utf8 c.range.ensures.value (elim c.match-next-2.branch [
+    taken_all c.in-Some.first c.args.text.now _ c.loop-c.left held.taken _ c.range_to.utf8 c.range_to.ensures.value (elim c.match-next-2.branch [
       | in-Some-next+then-left-eq0 w ↦ elim w.then-left-eq0.branch [
         | then-left-eq0-via-then-left-eq0 v ↦ rw v.if-left-eq0.true refl
         | then-left-eq0-via-else-left-eq0+then-not-is_like v ↦

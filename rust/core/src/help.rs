@@ -1,0 +1,352 @@
+// Made by tools/erase of crates/duration_str/src/help.rt.
+//! The help for a refusal: what a user may have meant, or should write instead.
+
+use crate::cause::{Cause, Expected};
+use crate::fault::Fault;
+use crate::more_names;
+use crate::more_names::added_unit;
+use crate::one_line::{MOST_SHOWN, is_plain};
+use crate::options::Options;
+use crate::packed::packed_word;
+use crate::slice::{range_from, range_to};
+use crate::token::is_blank;
+use crate::unit::TimeUnit;
+
+/// No name of `Help::suggestion` has more bytes than this.
+pub const MAX_SUGGESTION_LEN: usize = 3;
+
+/// What a user may have meant by a refused text, or should write instead. The fault's line ends
+/// with it in words.
+///
+/// ```
+/// use duration_str::{Help, Options, TimeUnit, parse_with};
+///
+/// let help = |text| parse_with(text, Options::off()).unwrap_err().help();
+/// assert_eq!(help("5 mins"), Some(Help::DidYouMean(TimeUnit::Minute)));
+/// assert_eq!(help("-5m"), Some(Help::Negative));
+/// assert_eq!(help("1m+"), None);
+/// ```
+#[derive(Clone, Copy, Debug, PartialEq, Eq, Hash)]
+#[non_exhaustive]
+pub enum Help {
+    /// The word at the place is no unit, but is near one, such as `mins` is near `min`.
+    DidYouMean(TimeUnit),
+    /// The word at the place is no unit, and is near none.
+    Units,
+    /// A number has a fraction, such as in `1.5s`.
+    Fraction,
+    /// A number has other characters than digits, such as in `1,000s` and `1e3s`.
+    DigitsOnly,
+    /// A number is followed by a colon and another number, as in a clock time.
+    ClockTime,
+    /// The text begins with a minus sign, as a negative number does.
+    Negative,
+    /// The text begins with a plus sign.
+    LeadingPlus,
+    /// The text begins as a duration of ISO 8601 does, such as `PT5M`.
+    Iso8601,
+    /// After a unit comes a comma, `&` or `and`, such as in `1h, 30m`.
+    OneDuration,
+    /// After a unit comes a point, such as in `5 min.`.
+    NoPoint,
+    /// A bracket is at the place, such as in `(1h + 30m) * 2`.
+    Brackets,
+    /// A slash is at the place, such as in `1h / 2`.
+    Division,
+    /// The text begins with a quotation mark.
+    QuotationMarks,
+    /// A number lacks its unit, which is required.
+    MissingUnit,
+    /// A zero lacks its unit, which is required.
+    Zero,
+    /// A number without a unit is too large in the default unit.
+    LargeNumber,
+}
+
+impl Help {
+    /// Returns the name to write instead of the word at the fault's place, if the help names one.
+    /// It is the name that the unit is printed with, but `us` for the microsecond.
+    ///
+    /// ```
+    /// use duration_str::{Help, TimeUnit};
+    ///
+    /// assert_eq!(Help::DidYouMean(TimeUnit::Minute).suggestion(), Some("min"));
+    /// assert_eq!(Help::Negative.suggestion(), None);
+    /// ```
+    #[must_use]
+    pub const fn suggestion(self) -> Option<&'static str> {
+        match self {
+            Help::DidYouMean(unit) => Some(help_name(unit)),
+            _ => None,
+        }
+    }
+
+    /// Returns the help's number, by which programs in other languages know it. The numbers are 1
+    /// for `DidYouMean`, 2 for `Units` and so on, in the order of the enum.
+    ///
+    /// ```
+    /// use duration_str::Help;
+    ///
+    /// assert_eq!(Help::Units.number(), 2);
+    /// ```
+    #[must_use]
+    pub const fn number(self) -> u32 {
+        match self {
+            Help::DidYouMean(_) => 1,
+            Help::Units => 2,
+            Help::Fraction => 3,
+            Help::DigitsOnly => 4,
+            Help::ClockTime => 5,
+            Help::Negative => 6,
+            Help::LeadingPlus => 7,
+            Help::Iso8601 => 8,
+            Help::OneDuration => 9,
+            Help::NoPoint => 10,
+            Help::Brackets => 11,
+            Help::Division => 12,
+            Help::QuotationMarks => 13,
+            Help::MissingUnit => 14,
+            Help::Zero => 15,
+            Help::LargeNumber => 16,
+        }
+    }
+}
+
+impl Fault<'_> {
+    /// Returns the help for the fault, if any. The line of `write_one_line` ends with its words.
+    ///
+    /// ```
+    /// use duration_str::{Options, parse_with};
+    ///
+    /// let fault = parse_with("2h 5 mins", Options::off()).unwrap_err();
+    /// assert_eq!(fault.help().and_then(|help| help.suggestion()), Some("min"));
+    /// ```
+    #[must_use]
+    pub fn help(&self) -> Option<Help> {
+        match self.cause {
+            Cause::Syntax { place, expected } => found_at(self.text, place, expected).help,
+            Cause::Overflow { .. } => overflow_help(self.text.as_bytes()),
+            _ => None,
+        }
+    }
+}
+
+/// What stands at the place of a syntax fault.
+#[derive(Clone, Copy)]
+pub(crate) struct Found<'a> {
+    pub(crate) piece: &'a str,
+    /// Whether the piece is taken for a word that should name a unit.
+    pub(crate) is_unknown_unit: bool,
+    pub(crate) help: Option<Help>,
+}
+
+/// Returns what stands at the place. One copy serves the line and `Fault::help`.
+pub(crate) fn found_at(text: &str, place: usize, expected: Expected) -> Found<'_> {
+    let piece = first_piece(range_from(text, place));
+    let is_unknown_unit = is_unknown_unit(expected, piece);
+    if let Some(unit) = near_unit_if(is_unknown_unit, piece) {
+        return Found {
+            piece,
+            is_unknown_unit: true,
+            help: Some(Help::DidYouMean(unit)),
+        };
+    }
+    let text = text.as_bytes();
+    let help = help_at(expected, text, place, piece);
+    Found {
+        piece,
+        is_unknown_unit,
+        help: far_help(is_unknown_unit, expected, text, help),
+    }
+}
+
+/// Returns whether a piece is taken for a word that should name a unit.
+#[inline(always)]
+fn is_unknown_unit(expected: Expected, piece: &str) -> bool {
+    expected.unit_word && begins_with_letter(piece)
+}
+
+fn near_unit_if(is_unknown_unit: bool, piece: &str) -> Option<TimeUnit> {
+    if is_unknown_unit {
+        near_unit(piece)
+    } else {
+        None
+    }
+}
+
+/// Returns the help if the piece is near no unit, given the help for its place.
+fn far_help(
+    is_unknown_unit: bool,
+    expected: Expected,
+    text: &[u8],
+    help: Option<Help>,
+) -> Option<Help> {
+    if is_unknown_unit {
+        Some(help.unwrap_or(Help::Units))
+    } else {
+        missing_unit_help(expected, text, help)
+    }
+}
+
+pub(crate) fn overflow_help(text: &[u8]) -> Option<Help> {
+    if is_number(text) {
+        Some(Help::LargeNumber)
+    } else {
+        None
+    }
+}
+
+fn first_piece(text: &str) -> &str {
+    let mut chars = text.chars();
+    let Some(first) = chars.next() else {
+        return text;
+    };
+    let mut rest = chars.as_str();
+    let mut left = MOST_SHOWN;
+    while let Some(c) = chars.next() {
+        if left == 0 || !is_like(first, c) {
+            break;
+        }
+        rest = chars.as_str();
+        left -= 1;
+    }
+    range_to(text, text.len() - rest.len())
+}
+
+fn is_like(first: char, c: char) -> bool {
+    c.is_ascii_digit() && first.is_ascii_digit() || is_letter(c) && is_letter(first)
+}
+
+fn begins_with_letter(text: &str) -> bool {
+    match text.chars().next() {
+        Some(c) => is_letter(c),
+        None => false,
+    }
+}
+
+#[inline(never)]
+fn is_letter(c: char) -> bool {
+    if c.is_ascii() {
+        return c.is_ascii_alphabetic();
+    }
+    let is_sign = matches!(c, '\u{a1}'..='\u{b4}' | '\u{b6}'..='\u{bf}' | '×' | '÷')
+        || matches!(c, '\u{2010}'..='\u{2bff}' | '\u{3001}'..='\u{303f}' | '\u{ff00}'..='\u{ff20}');
+    is_plain(c) && !is_sign
+}
+
+/// Returns the unit for which people write a word that the library's own table lacks.
+fn near_unit(word: &str) -> Option<TimeUnit> {
+    if word == "mo" || word == "mos" {
+        return Some(TimeUnit::Month);
+    }
+    let (packed, greek) = packed_word(word, Options::off(), true)?;
+    if greek {
+        more_names::unit_of_packed(packed)
+    } else {
+        added_unit(packed)
+    }
+}
+
+const fn help_name(unit: TimeUnit) -> &'static str {
+    match unit {
+        TimeUnit::MicroSecond => "us",
+        other => other.name(),
+    }
+}
+
+/// Returns the help for the piece at the place. The place is after a unit exactly if both a number
+/// and the end could stand there.
+fn help_at(expected: Expected, text: &[u8], place: usize, piece: &str) -> Option<Help> {
+    let before = &text[..place];
+    let last = last_byte(before);
+    let next = byte_at(text, place + piece.len());
+    let is_after_unit = expected.number && expected.text_end;
+    if is_after_unit && (piece == "," || piece == "&" || is_word(piece, "and")) {
+        Some(Help::OneDuration)
+    } else if piece == "." && (last.is_ascii_alphabetic() || last >= 0x80) {
+        Some(Help::NoPoint)
+    } else if piece == "." && next.is_ascii_digit() {
+        Some(Help::Fraction)
+    } else if are_blank(before) {
+        first_help(piece, next)
+    } else if last.is_ascii_digit() {
+        digit_help(piece, next)
+    } else {
+        sign_help(piece)
+    }
+}
+
+fn first_help(piece: &str, next: u8) -> Option<Help> {
+    let is_signed = next.is_ascii_digit() || next == b'.';
+    if is_signed && piece == "-" {
+        Some(Help::Negative)
+    } else if is_signed && piece == "+" {
+        Some(Help::LeadingPlus)
+    } else if next.is_ascii_digit() && (is_word(piece, "p") || is_word(piece, "pt")) {
+        Some(Help::Iso8601)
+    } else if piece == "\"" || piece == "'" {
+        Some(Help::QuotationMarks)
+    } else {
+        sign_help(piece)
+    }
+}
+
+fn digit_help(piece: &str, next: u8) -> Option<Help> {
+    let is_between = next.is_ascii_digit();
+    let is_exponent = (is_between || next == b'+' || next == b'-') && is_word(piece, "e");
+    if is_exponent || is_between && (piece == "," || piece == "_" || piece == "'") {
+        Some(Help::DigitsOnly)
+    } else if is_between && piece == ":" {
+        Some(Help::ClockTime)
+    } else {
+        sign_help(piece)
+    }
+}
+
+/// Returns the help for a sign, wherever it is.
+fn sign_help(piece: &str) -> Option<Help> {
+    if piece == "(" || piece == ")" {
+        Some(Help::Brackets)
+    } else if piece == "/" {
+        Some(Help::Division)
+    } else {
+        None
+    }
+}
+
+fn missing_unit_help(expected: Expected, text: &[u8], help: Option<Help>) -> Option<Help> {
+    let lacks_unit = expected.unit_word && !expected.operator && !expected.text_end;
+    if help.is_some() || !lacks_unit {
+        help
+    } else if is_zero(text) {
+        Some(Help::Zero)
+    } else {
+        Some(Help::MissingUnit)
+    }
+}
+
+fn is_word(word: &str, name: &str) -> bool {
+    word.eq_ignore_ascii_case(name)
+}
+
+fn are_blank(bytes: &[u8]) -> bool {
+    bytes.iter().all(|b| is_blank(char::from(*b)))
+}
+
+fn is_number(bytes: &[u8]) -> bool {
+    bytes
+        .iter()
+        .all(|b| b.is_ascii_digit() || is_blank(char::from(*b)))
+}
+
+fn is_zero(bytes: &[u8]) -> bool {
+    bytes.iter().all(|b| *b == b'0' || is_blank(char::from(*b)))
+}
+
+fn last_byte(bytes: &[u8]) -> u8 {
+    bytes.last().copied().unwrap_or(0)
+}
+
+fn byte_at(bytes: &[u8], index: usize) -> u8 {
+    bytes.get(index).copied().unwrap_or(0)
+}
