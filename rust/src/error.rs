@@ -1,7 +1,7 @@
 use crate::fault::Fault;
 use alloc::string::{String, ToString};
 use core::fmt;
-use duration_str_core::{Cause, Expected, Options};
+use duration_str_core::{Cause, Expected, Help, Options};
 
 /// A [`Fault`] that owns its text. Calls such as [`parse_duration`](crate::parse_duration) return
 /// this error.
@@ -99,6 +99,18 @@ impl DurationError {
     #[must_use]
     pub fn found(&self) -> Option<&str> {
         self.as_fault().found()
+    }
+
+    /// Returns the help for the fault, as [`Fault::help`] does.
+    ///
+    /// ```
+    /// use duration_str::{Help, parse_duration};
+    ///
+    /// assert_eq!(parse_duration("-5m").unwrap_err().help(), Some(Help::Negative));
+    /// ```
+    #[must_use]
+    pub fn help(&self) -> Option<Help> {
+        self.as_fault().help()
     }
 
     /// Returns the report for a terminal, as [`Fault::report`] does.

@@ -2,7 +2,7 @@ use crate::derror::DError;
 use crate::error::DurationError;
 use alloc::string::{String, ToString};
 use core::fmt;
-use duration_str_core::{self as proved, Cause, Expected, ONE_LINE_BUFFER_SIZE, Options};
+use duration_str_core::{self as proved, Cause, Expected, Help, ONE_LINE_BUFFER_SIZE, Options};
 
 /// Why a text is refused, and often where.
 ///
@@ -105,6 +105,21 @@ impl<'a> Fault<'a> {
     #[must_use]
     pub fn found(&self) -> Option<&'a str> {
         self.fault.found(self.options)
+    }
+
+    /// Returns the help for the fault: what a user may have meant, or should write instead. It is
+    /// `None` if no help applies. The line ends with the help in words.
+    ///
+    /// ```
+    /// use duration_str::{Help, Options, TimeUnit, parse_with};
+    ///
+    /// let help = parse_with("5 mins", Options::off()).unwrap_err().help();
+    /// assert_eq!(help, Some(Help::DidYouMean(TimeUnit::Minute)));
+    /// assert_eq!(help.and_then(Help::suggestion), Some("min"));
+    /// ```
+    #[must_use]
+    pub fn help(&self) -> Option<Help> {
+        self.fault.help()
     }
 
     /// Writes the line to the start of a buffer, and returns it. The call allocates nothing.
