@@ -5,6 +5,7 @@ import json
 import pathlib
 import re
 import sys
+import textwrap
 
 TOP = pathlib.Path(__file__).resolve().parent.parent
 sys.path.append(str(TOP / "tools"))
@@ -65,6 +66,19 @@ def in_javascript():
     yield name, "const UNIT_PATTERNS = [\n", "\n];", rows(UNIT_PATTERNS)
 
 
+def in_c():
+    rows = ["    /* no help applies */", "    DURATION_STR_HELP_NONE = 0,"]
+    for number, (name, comment) in enumerate(HELPS.items(), 1):
+        # The words ` */` stay on the comment's last line.
+        lines = textwrap.wrap(comment, 70)
+        rows += (
+            "    /* " + "\n     * ".join(lines) + " */",
+            f"    DURATION_STR_HELP_{name} = {number},",
+        )
+    name = "c/include/duration_str.h"
+    yield name, "enum duration_str_help_kind {\n", "\n};", "\n".join(rows).rstrip(",")
+
+
 def on_the_page():
     pairs = zip(UNITS, units.more())
     lists = [(unit.names, more.names, unit.chinese) for unit, more in pairs]
@@ -120,6 +134,7 @@ def in_the_schema():
 
 def places():
     yield from in_javascript()
+    yield from in_c()
     yield from on_the_page()
     yield from in_python()
     yield from in_c_for_python()

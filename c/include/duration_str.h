@@ -74,6 +74,9 @@
 /* The size of the buffer that duration_str_one_line writes into. */
 #define DURATION_STR_ONE_LINE_BUFFER_SIZE 384
 
+/* The size of the buffer that duration_str_help writes into. */
+#define DURATION_STR_SUGGESTION_BUFFER_SIZE 4
+
 /* The size of the buffer that duration_str_report writes into. */
 #define DURATION_STR_REPORT_BUFFER_SIZE 867
 
@@ -185,6 +188,48 @@ enum duration_str_expected {
     DURATION_STR_EXPECTED_UNIT = 2,     /* a unit */
     DURATION_STR_EXPECTED_OPERATOR = 4, /* `+` or `*` */
     DURATION_STR_EXPECTED_END = 8       /* the end of the text */
+};
+
+/* What a user may have meant by a refused text, or should write instead. */
+/* The enumeration is made by tests/repository --write. */
+enum duration_str_help_kind {
+    /* no help applies */
+    DURATION_STR_HELP_NONE = 0,
+    /* The word at the place is no unit, but is near one, such as `mins` is
+     * near `min`. */
+    DURATION_STR_HELP_DID_YOU_MEAN = 1,
+    /* The word at the place is no unit, and is near none. */
+    DURATION_STR_HELP_UNITS = 2,
+    /* A number has a fraction, such as in `1.5s`. */
+    DURATION_STR_HELP_FRACTION = 3,
+    /* A number has other characters than digits, such as in `1,000s` and
+     * `1e3s`. */
+    DURATION_STR_HELP_DIGITS_ONLY = 4,
+    /* A number is followed by a colon and another number, as in a clock
+     * time. */
+    DURATION_STR_HELP_CLOCK_TIME = 5,
+    /* The text begins with a minus sign, as a negative number does. */
+    DURATION_STR_HELP_NEGATIVE = 6,
+    /* The text begins with a plus sign. */
+    DURATION_STR_HELP_LEADING_PLUS = 7,
+    /* The text begins as a duration of ISO 8601 does, such as `PT5M`. */
+    DURATION_STR_HELP_ISO_8601 = 8,
+    /* After a unit comes a comma, `&` or `and`, such as in `1h, 30m`. */
+    DURATION_STR_HELP_ONE_DURATION = 9,
+    /* After a unit comes a point, such as in `5 min.`. */
+    DURATION_STR_HELP_NO_POINT = 10,
+    /* A bracket is at the place, such as in `(1h + 30m) * 2`. */
+    DURATION_STR_HELP_BRACKETS = 11,
+    /* A slash is at the place, such as in `1h / 2`. */
+    DURATION_STR_HELP_DIVISION = 12,
+    /* The text begins with a quotation mark. */
+    DURATION_STR_HELP_QUOTATION_MARKS = 13,
+    /* A number lacks its unit, which is required. */
+    DURATION_STR_HELP_MISSING_UNIT = 14,
+    /* A zero lacks its unit, which is required. */
+    DURATION_STR_HELP_ZERO = 15,
+    /* A number without a unit is too large in the default unit. */
+    DURATION_STR_HELP_LARGE_NUMBER = 16
 };
 
 /* The units, the longest first. */
@@ -410,6 +455,21 @@ size_t duration_str_report(
     const char *text, size_t length, uint32_t options,
     struct duration_str_answer *answer,
     char buffer[DURATION_STR_AT_LEAST DURATION_STR_REPORT_BUFFER_SIZE]);
+
+/* Reads a text as duration_str_parse_with does, and returns the help for it:
+ * what the user may have meant, or should write instead. The help is one of
+ * `enum duration_str_help_kind`. The line of duration_str_one_line ends with
+ * the same help in words. If the line has no help, or if the text is read,
+ * returns DURATION_STR_HELP_NONE, which is 0.
+ *
+ * For DURATION_STR_HELP_DID_YOU_MEAN, writes the name of a unit to the start of
+ * `suggestion`, such as `min` for `5 mins`. The user should write this name in
+ * place of the word at the place of the fault. Otherwise writes the empty text.
+ * `suggestion` has DURATION_STR_SUGGESTION_BUFFER_SIZE bytes. It may be null if
+ * you want only the help. */
+uint32_t duration_str_help(
+    const char *text, size_t length, uint32_t options,
+    char suggestion[DURATION_STR_SUGGESTION_BUFFER_SIZE]);
 
 /* Finds a unit by its name, such as `h`, `ms` or `minutes`. Returns the unit's
  * number in `enum duration_str_time_unit`, or -1 if no unit has this name or if

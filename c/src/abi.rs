@@ -1,7 +1,7 @@
 //! Makes slices of C's pointers, and calls the proved functions of the same names. A pointer to
 //! write to is an `Option` if the header lets it be null.
 #![deny(clippy::no_mangle_with_rust_abi)]
-use crate::{answer::Answer, breakdown, format, message, unit};
+use crate::{answer::Answer, breakdown, format, help, message, unit};
 use core::mem::{MaybeUninit, offset_of, zeroed};
 use core::slice::from_raw_parts;
 
@@ -131,6 +131,21 @@ unsafe extern "C" fn duration_str_report(
     written(out, |buffer| {
         message::duration_str_report(text, bits, answer, buffer)
     })
+}
+
+#[unsafe(no_mangle)]
+unsafe extern "C" fn duration_str_help(
+    text: *const u8,
+    len: usize,
+    bits: u32,
+    out: Option<&mut MaybeUninit<[u8; 4]>>,
+) -> u32 {
+    let (text, mut number) = (unsafe { bytes(text, len) }, 0);
+    written(out.unwrap_or(&mut MaybeUninit::uninit()), |buffer| {
+        number = help::duration_str_help(text, bits, buffer);
+        buffer.iter().take_while(|byte| **byte != 0).count()
+    });
+    number
 }
 
 #[unsafe(no_mangle)]

@@ -14,6 +14,8 @@ pub mod breakdown;
 #[forbid(unsafe_code)]
 pub mod format;
 #[forbid(unsafe_code)]
+pub mod help;
+#[forbid(unsafe_code)]
 pub mod message;
 #[forbid(unsafe_code)]
 pub mod rounding;

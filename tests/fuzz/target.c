@@ -307,6 +307,27 @@ static void check_report(struct text text, uint32_t options, struct duration_str
     HOLDS(is_untouched(buffer - CANARIES, buffer) && is_untouched(buffer + length + 1, output_end));
 }
 
+/* The suggestion is a name of a unit, with which the line ends. */
+static void check_help(struct text text, uint32_t options) {
+    char line[DURATION_STR_ONE_LINE_BUFFER_SIZE], end[sizeof "(did you mean \"min\"?)"];
+    const char *bytes = (const char *)text.bytes;
+    char *suggestion = (char *)buffer_at(output_end, DURATION_STR_SUGGESTION_BUFFER_SIZE);
+    uint8_t *start = (uint8_t *)suggestion;
+    const uint32_t help = duration_str_help(bytes, text.length, options, suggestion);
+    const size_t length = strlen(suggestion);
+    HOLDS(is_untouched(start - CANARIES, start) && is_untouched(start + length + 1, output_end));
+    HOLDS(help <= DURATION_STR_HELP_LARGE_NUMBER);
+    HOLDS(duration_str_help(bytes, text.length, options, NULL) == help);
+    const size_t of_line = duration_str_one_line(bytes, text.length, options, NULL, line);
+    HOLDS((help != DURATION_STR_HELP_NONE) == (of_line > 0 && line[of_line - 1] == ')'));
+    HOLDS((help == DURATION_STR_HELP_DID_YOU_MEAN) == (length > 0));
+    if (length == 0)
+        return;
+    HOLDS(duration_str_unit(suggestion, length) >= 0);
+    const int of_end = snprintf(end, sizeof end, "(did you mean \"%s\"?)", suggestion);
+    HOLDS(of_end > 0 && strcmp(line + of_line - (size_t)of_end, end) == 0);
+}
+
 static void check_value(uint64_t nanos) {
     check_printed(nanos);
     check_parts(nanos);
@@ -385,6 +406,7 @@ static void check(struct text text) {
         if (options > 0 && are_equal(answer, answers[0]))
             continue;
         check_report(text, options, answer);
+        check_help(text, options);
     }
     check_rounding(text);
     check_plain(text, answers[0]);

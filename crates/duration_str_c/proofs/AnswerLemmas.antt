@@ -9,6 +9,7 @@ use Rattle.duration_str.specs.declared.cause.Cause.{Cause}
 use Rattle.duration_str.specs.Reading.{IsRead, IsRefused}
 use Rattle.duration_str_c.specs.declared.answer.Answer.{Answer}
 use Rattle.duration_str_c.specs.Answers.{AreOptions, IsAnswerTo, options_of_bits, rules_of_bits, TellsFault, value_answer}
+use Rattle.duration_str_c.specs.Help.{IsHelpShown, ShowsHelp}
 use Rattle.duration_str_c.specs.Messages.{IsSaidOf, IsShown, ShowsRefusal}
 
 pub value_answers : (bits nanos : ℕ) (bytes same : List ℕ) (answer : Answer) → AreOptions bits → IsUtf8 same
@@ -42,6 +43,14 @@ said_short bits (inl (unknown, is)) h = omega (arith, rw is at h.0)
 said_short bits (inr (inl (known, no_text, is))) h = omega (arith, rw is at h.0)
 said_short bits (inr (inr (inl (known, utf8, nanos, read, is)))) h = omega (arith, rw is at h.0)
 said_short bits (inr (inr (inr (known, utf8, cause, refused, none)))) h = absurd none
+
+pub said_helped : (bits number : ℕ) (bytes line old new : List ℕ) → IsSaidOf bits bytes line
+    → IsHelpShown None old number new → ShowsHelp bits bytes old number new
+said_helped bits number bytes line old new (inl (unknown, is)) h = inl (unknown, h)
+said_helped bits number bytes line old new (inr (inl (known, no_text, is))) h = inr (inl (known, no_text, h))
+said_helped bits number bytes line old new (inr (inr (inl (known, utf8, nanos, read, is)))) h =
+    inr (inr (inl (known, utf8, nanos, read, h)))
+said_helped bits number bytes line old new (inr (inr (inr (known, utf8, cause, refused, none)))) h = absurd none
 
 none_at : (us : List TimeUnit) (i : ℕ) → length us ≤ i → None ≡ slice_get us i
 none_at [] i beyond = refl

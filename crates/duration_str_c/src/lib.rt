@@ -18,6 +18,7 @@ ghost use Rattle.duration_str_c.specs.Answers.{are_options, default_unit_of_bits
 pub mod answer;
 pub mod breakdown;
 pub mod format;
+pub mod help;
 pub mod message;
 pub mod rounding;
 pub mod unit;

@@ -1,0 +1,46 @@
+// Made by tools/erase of crates/duration_str_c/src/help.rt.
+//! The help for a refused text.
+
+use crate::answer::Answer;
+use crate::message::refusal_of;
+use crate::put;
+use duration_str_core::{Help, MAX_SUGGESTION_LEN};
+
+/// The size of the buffer that `duration_str_help` writes a name into.
+pub const SUGGESTION_BUFFER_SIZE: usize = MAX_SUGGESTION_LEN + 1;
+
+/// Reads a text under the options whose bits are set, as `duration_str_parse_with` does, and
+/// returns the number of the help for its refusal, as `Help::number` gives it. The number is 0 if
+/// there is no help, or if the text is read. Writes to the start of the buffer the name that the
+/// help says to write, with a zero byte after it. If the help names none, the name is empty. The
+/// rest of the buffer is unchanged.
+pub fn duration_str_help(
+    text: &[u8],
+    options: u32,
+    suggestion: &mut [u8; SUGGESTION_BUFFER_SIZE],
+) -> u32 {
+    let mut answer = Answer::value(0);
+    match refusal_of(text, options, &mut answer) {
+        Ok(fault) => show_help(fault.help(), suggestion),
+        Err(_) => show_help(None, suggestion),
+    }
+}
+
+fn show_help(help: Option<Help>, suggestion: &mut [u8; SUGGESTION_BUFFER_SIZE]) -> u32 {
+    let _ = put(name_of(help), suggestion);
+    number_of(help)
+}
+
+fn name_of(help: Option<Help>) -> &'static str {
+    match help {
+        Some(help) => help.suggestion().unwrap_or(""),
+        None => "",
+    }
+}
+
+fn number_of(help: Option<Help>) -> u32 {
+    match help {
+        Some(help) => help.number(),
+        None => 0,
+    }
+}
