@@ -171,11 +171,55 @@ export interface Expected {
     readonly end: boolean;
 }
 
+/** What a user may have meant by a refused text, or should write instead. Later versions may have
+ * more of these codes. */
+// Made by tests/repository --write.
+export type Help =
+    // The word at the place is no unit, but is near one, such as `mins` is near `min`.
+    | "DID_YOU_MEAN"
+    // The word at the place is no unit, and is near none.
+    | "UNITS"
+    // A number has a fraction, such as in `1.5s`.
+    | "FRACTION"
+    // A number has other characters than digits, such as in `1,000s` and `1e3s`.
+    | "DIGITS_ONLY"
+    // A number is followed by a colon and another number, as in a clock time.
+    | "CLOCK_TIME"
+    // The text begins with a minus sign, as a negative number does.
+    | "NEGATIVE"
+    // The text begins with a plus sign.
+    | "LEADING_PLUS"
+    // The text begins as a duration of ISO 8601 does, such as `PT5M`.
+    | "ISO_8601"
+    // After a unit comes a comma, `&` or `and`, such as in `1h, 30m`.
+    | "ONE_DURATION"
+    // After a unit comes a point, such as in `5 min.`.
+    | "NO_POINT"
+    // A bracket is at the place, such as in `(1h + 30m) * 2`.
+    | "BRACKETS"
+    // A slash is at the place, such as in `1h / 2`.
+    | "DIVISION"
+    // The text begins with a quotation mark.
+    | "QUOTATION_MARKS"
+    // A number lacks its unit, which is required.
+    | "MISSING_UNIT"
+    // A zero lacks its unit, which is required.
+    | "ZERO"
+    // A number without a unit is too large in the default unit.
+    | "LARGE_NUMBER";
+
+/** The name of a unit that a help suggests. */
+export type Suggestion = Exclude<PrintedUnit, "µs"> | "us";
+
 interface Refused {
     /** The whole text. */
     readonly text: string;
     /** For a fault that is not a syntax fault, all fields are false. */
     readonly expected: Expected;
+    /** What the user may have meant, or should write instead. It is null if no help applies. */
+    readonly help: Help | null;
+    /** The unit, such as `min` for `5 mins`, if the help is `DID_YOU_MEAN`. Otherwise it is null. */
+    readonly suggestion: Suggestion | null;
 }
 
 /** The token at the place can't follow the text before it, or the text ends too early. */

@@ -62,8 +62,15 @@ def in_javascript():
     yield name, "const ROUNDINGS = [", "];", quoted(ROUNDINGS)
     # JavaScript sets no bit of an unknown option, so it lacks the last cause.
     yield name, "const CODES = [", "];", quoted(CAUSES[:-1])
+    yield name, "const HELPS = [\n", "\n];", "\n".join(f"    {each}" for each in divided_helps())
     yield name, "const SENTENCES = [\n", "\n];", rows(SENTENCES)
     yield name, "const UNIT_PATTERNS = [\n", "\n];", rows(UNIT_PATTERNS)
+    described = (f'    // {comment}\n    | "{help_code}"' for help_code, comment in HELPS.items())
+    yield "js/index.d.ts", "type Help =\n", ";", "\n".join(described)
+
+
+def divided_helps():
+    return textwrap.wrap(quoted([*HELPS]) + ",", 92, break_on_hyphens=False)
 
 
 def in_c():

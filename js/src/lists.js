@@ -22,6 +22,12 @@ export const STYLES = ["short", "compact", "long"];
 export const ROUNDINGS = ["down", "nearest", "up"];
 /** The codes of answers, at the places of their numbers. */
 export const CODES = ["READ", "EMPTY", "SYNTAX", "NUMBER_TOO_LARGE", "OVERFLOW", "MIXED", "OUT_OF_RANGE", "NOT_TEXT"];
+/** The codes of helps, at the places of their numbers less 1. */
+export const HELPS = [
+    "DID_YOU_MEAN", "UNITS", "FRACTION", "DIGITS_ONLY", "CLOCK_TIME", "NEGATIVE",
+    "LEADING_PLUS", "ISO_8601", "ONE_DURATION", "NO_POINT", "BRACKETS", "DIVISION",
+    "QUOTATION_MARKS", "MISSING_UNIT", "ZERO", "LARGE_NUMBER",
+];
 /** Patterns of sentences: without options, with `noCalc`, with `requireUnit`, and with both. U
  * stands for a unit. */
 export const SENTENCES = [

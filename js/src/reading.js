@@ -10,7 +10,7 @@ const LONE_SURROGATE = /[\ud800-\udfff]/u;
 
 // After the module's own memory come a `struct Answer` and the text to read. These are the offsets
 // of the struct's other fields: the nanoseconds are at 0.
-const PLACE = 8, FOUND_LENGTH = 12, CAUSE = 16, EXPECTED = 20, REPORT = 24;
+const PLACE = 8, FOUND_LENGTH = 12, CAUSE = 16, EXPECTED = 20, HELP = 24, UNIT = 28, REPORT = 32;
 /** The longest report fits. */
 const REPORT_SIZE = 867;
 /** The offset of the text. The struct's size is a multiple of 8. */
@@ -67,15 +67,21 @@ function faultOf(text, reportLength) {
     // Spreading the bytes would take eight times as long as `apply`.
     const report = decodeURIComponent(escape(String.fromCharCode.apply(null, bytes)));
     const code = CODES[number(CAUSE)];
-    if (number(PLACE) < 0) return new Fault(text, report, code);
+    const fault = new Fault(text, report, code, number(EXPECTED), number(HELP), number(UNIT));
     const place = number(PLACE);
-    const index = indexAt(text, place);
-    const found = text.slice(index, indexAt(text, place + number(FOUND_LENGTH))) || null;
-    return new Fault(text, report, code, index, place, found, number(EXPECTED));
+    if (place >= 0) {
+        fault.place = place;
+        fault.index = indexAt(text, place);
+        const end = indexAt(text, place + number(FOUND_LENGTH));
+        fault.found = text.slice(fault.index, end) || null;
+    }
+    return fault;
 }
 
 function surrogateAt(text, index) {
-    return new Fault(text, `not UTF-8: a lone surrogate at index ${index}`, "NOT_TEXT", index);
+    const fault = new Fault(text, `not UTF-8: a lone surrogate at index ${index}`, "NOT_TEXT");
+    fault.index = index;
+    return fault;
 }
 
 const notText = (value, help = "") =>

@@ -1,22 +1,27 @@
+import { HELPS, UNITS } from "./lists.js";
+
 const SHOWN_LENGTH = 80;
 
 /** The report's last line is the message. */
 export class Fault {
     #report;
 
-    /** The bits of `expected` are those of `enum duration_str_expected`. */
-    constructor(text, report, code, index = null, place = null, found = null, expected = 0) {
+    /** The bits of `expected` are those of `enum duration_str_expected`. `help` and `unit` are the
+     * numbers of a help and of a unit, from 1, or 0. */
+    constructor(text, report, code, expected = 0, help = 0, unit = 0) {
         this.code = code;
         this.text = text;
-        this.index = index;
-        this.place = place;
-        this.found = found;
+        this.index = null;
+        this.place = null;
+        this.found = null;
         this.expected = {
             number: (expected & 1) !== 0,
             unit: (expected & 2) !== 0,
             operator: (expected & 4) !== 0,
             end: (expected & 8) !== 0,
         };
+        this.help = HELPS[help - 1] ?? null;
+        this.suggestion = UNITS[unit - 1]?.replace("µ", "u") ?? null;
         this.message = report.slice(report.lastIndexOf("\n") + 1);
         this.#report = report;
     }
@@ -80,6 +85,14 @@ export class DurationError extends Error {
 
     get expected() {
         return this.cause.expected;
+    }
+
+    get help() {
+        return this.cause.help;
+    }
+
+    get suggestion() {
+        return this.cause.suggestion;
     }
 
     toJSON() {

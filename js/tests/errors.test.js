@@ -74,6 +74,7 @@ test("refuses lone surrogates, wherever they stand", () => {
             const error = errorOf(text, options);
             assert.deepEqual([error.code, error.text], ["NOT_TEXT", text]);
             assert.deepEqual([error.index, error.place, error.found], [index, null, null]);
+            assert.deepEqual([error.help, error.suggestion], [null, null]);
             const line = `not UTF-8: a lone surrogate at index ${index}`;
             assert.deepEqual([error.message, error.report], [line, line]);
         }
@@ -162,9 +163,10 @@ test("is shown without a long text where nobody catches it", () => {
 });
 
 test("survives a structured clone and JSON, with all that is wrong", () => {
-    const error = errorOf("1m 3-5");
-    const { fault } = tryParseNs("1m 3-5");
+    const error = errorOf("5 mins");
+    const { fault } = tryParseNs("5 mins");
     const { message, ...cause } = fault;
+    assert.deepEqual([cause.help, cause.suggestion], ["DID_YOU_MEAN", "min"]);
     const clone = structuredClone(error);
     assert.deepEqual(
         [clone.message, clone.cause, structuredClone(fault)],
@@ -179,12 +181,17 @@ test("survives a structured clone and JSON, with all that is wrong", () => {
 
 test("is told without an error by tryParse", () => {
     assert.deepEqual(tryParseNs("1h 30m"), { ok: true, value: 5_400_000_000_000n });
-    for (const text of ["", "1m 3-5", "600y", "\ud800"]) {
+    for (const text of ["", "1m 3-5", "5 mins", "600y", "\ud800"]) {
         const { ok, fault } = tryParseNs(text);
-        const { code, index, place, found, expected, message, report } = errorOf(text);
+        const error = errorOf(text);
+        const { code, index, place, found, expected, help, suggestion, message, report } = error;
         assert.deepEqual(
             [ok, { ...fault }, fault.report],
-            [false, { code, text, index, place, found, expected, message }, report],
+            [
+                false,
+                { code, text, index, place, found, expected, help, suggestion, message },
+                report,
+            ],
         );
         assert.deepEqual(tryParse(text), { ok, fault });
     }

@@ -1,8 +1,9 @@
 // Tests the types of the package by the compiler alone.
 import {
     type Breakdown, breakdown, DurationError, type Expected, type Fault, formatNs, format,
-    type Format, type Options, parseNs, parse, type Part, type PartFormat, type Parts, parts,
-    pattern, type PrintedUnit, type Refusal, tryParseNs, tryParse, type Unit, version,
+    type Format, type Help, type Options, parseNs, parse, type Part, type PartFormat, type Parts, parts,
+    pattern, type PrintedUnit, type Refusal, type Suggestion, tryParseNs, tryParse, type Unit,
+    version,
 } from "duration-str";
 
 const options: Options = { noCalc: true, lowercase: false, cnUnit: undefined, requireUnit: true };
@@ -69,13 +70,23 @@ try {
     const texts: (string | null)[] = [
         error.found, error.report, error.text, error.message, cause.text,
     ];
+    const help: Help | null = error.help;
+    const suggestion: Suggestion | null = cause.suggestion;
+    // A suggestion is a name that is read.
+    if (suggestion) parse("1", { defaultUnit: suggestion });
+    // @ts-expect-error: it is null if no help applies
+    const always: Help = error.help;
+    // @ts-expect-error: there is no such help
+    if (error.help === "HOURS") throw error;
+    // @ts-expect-error: a suggestion is written in ASCII
+    if (suggestion === "µs") throw error;
     // @ts-expect-error: without a place it is null
     const index: number = error.index;
     // @ts-expect-error: there is no such code
     if (error.code === "READ") throw error;
     // @ts-expect-error: the field is read-only
     error.report = "";
-    void [places, any, texts, index];
+    void [places, any, texts, help, always, index];
 }
 
 // @ts-expect-error: a number is read only with a default unit

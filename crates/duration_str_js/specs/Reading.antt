@@ -5,17 +5,20 @@ use Rattle.std.specs.Str.{chars}
 use Rattle.duration_str.specs.declared.cause.Cause.{Cause}
 use Rattle.duration_str.specs.declared.cause.Cause.TheVariants.{Empty, Syntax, NumberTooLarge, Overflow, Mixed, OutOfRange, NotText}
 use Rattle.duration_str.specs.declared.cause.Expected.{Expected}
+use Rattle.duration_str.specs.declared.help.Help.{Help}
+use Rattle.duration_str.specs.declared.help.Help.TheVariants.{DidYouMean}
 use Rattle.duration_str.specs.declared.options.Options.{Options}
 use Rattle.duration_str.specs.declared.unit.TimeUnit.{TimeUnit}
 use Rattle.duration_str.specs.declared.unit.TimeUnit.TheVariants.{Second}
 use Rattle.duration_str.specs.Faults.{found_token, place_of}
 use Rattle.duration_str.specs.MoreNames.{more_rules}
+use Rattle.duration_str.specs.OneLine.{help_number, help_of}
 use Rattle.duration_str.specs.Reading.{IsRefused}
 use Rattle.duration_str.specs.Report.{report_of}
 use Rattle.duration_str.specs.Rules.{Rules, rules_with}
 use Rattle.duration_str.specs.Text.{byte_len}
 use Rattle.duration_str.specs.Tokens.{Token}
-use Rattle.duration_str.specs.Units.{units}
+use Rattle.duration_str.specs.Units.{rank_of, units}
 use Rattle.duration_str_js.specs.declared.reading.Refusal.{Refusal}
 
 abbrev pub has_flag : ℕ → ℕ → Bool
@@ -67,6 +70,16 @@ abbrev pub token_length : Option Token → ℕ
 token_length None = 0
 token_length (Some token) = byte_len token.characters
 
+-- the number of a help, or 0 if there is none
+abbrev pub number_of : Option Help → ℕ
+number_of (Some help) = help_number help
+number_of None = 0
+
+-- the index, plus 1, of the unit that a help says to write, or 0 if it names none
+abbrev pub unit_number : Option Help → ℕ
+unit_number (Some (DidYouMean unit)) = rank_of unit + 1
+unit_number help = 0
+
 -- what is said of these bytes if they are refused for this cause
 abbrev pub refusal_of : Options → List ℕ → Cause → Refusal
 refusal_of o bytes cause = record {
@@ -74,6 +87,8 @@ refusal_of o bytes cause = record {
   found_length = token_length (found_token o (chars bytes) cause);
   cause = cause_number cause;
   expected = expected_bits cause;
+  help = number_of (help_of bytes cause);
+  unit = unit_number (help_of bytes cause);
 }
 
 -- The bytes are refused, and these are what is said of the cause, and the report.

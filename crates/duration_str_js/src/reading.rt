@@ -4,10 +4,10 @@ ghost use Rattle.std.specs.Str.{chars};
 ghost use Rattle.duration_str.specs.Faults.{found_token, place_of};
 ghost use Rattle.duration_str.specs.Meaning.{meaning_of};
 ghost use Rattle.duration_str.specs.Reading.{IsRead};
-ghost use Rattle.duration_str_js.specs.Reading.{IsReported, bits_of, cause_number, default_unit_of_bits, expected_bits, options_of_bits, place_number, refusal_of, rules_of_bits, token_length};
+ghost use Rattle.duration_str_js.specs.Reading.{IsReported, bits_of, cause_number, default_unit_of_bits, expected_bits, number_of, options_of_bits, place_number, refusal_of, rules_of_bits, token_length, unit_number};
 
 use duration_str::{
-    Cause, Expected, Fault, Options, REPORT_BUFFER_SIZE, Rules, TimeUnit, UNITS,
+    Cause, Expected, Fault, Help, Options, REPORT_BUFFER_SIZE, Rules, TimeUnit, UNITS,
     parse_nanos_specialized,
 };
 
@@ -52,6 +52,10 @@ pub struct Refusal {
     /// What could stand at the place of a syntax fault, as bits: 1 is a number, 2 a unit, 4 an
     /// operator, and 8 the end. For other faults it is 0.
     pub expected: u32,
+    /// The number of the help, as `Help::number` gives it, or 0 if there is none.
+    pub help: u32,
+    /// The index in `UNITS` of the unit that the help names, plus 1, or 0 if it names none.
+    pub unit: u32,
 }
 
 /// Reads a text by the rules that the bits stand for, and returns its value in nanoseconds.
@@ -117,11 +121,14 @@ fn refusal_of(fault: &Fault<'_>, options: Options) -> Refusal
     ensures { result ≡ refusal_of options fault.now.text.now fault.now.cause }
 {
     let cause = fault.cause();
+    let help = fault.help();
     Refusal {
         place: place_number(fault),
         found_length: found_length(fault, options),
         cause: cause_number(cause),
         expected: expected_bits(cause),
+        help: number_of(help),
+        unit: unit_number(help),
     }
 }
 
@@ -176,4 +183,22 @@ fn bits_of(expected: Expected) -> u32
         | u32::from(expected.unit_word) << 1
         | u32::from(expected.operator) << 2
         | u32::from(expected.text_end) << 3
+}
+
+fn number_of(help: Option<Help>) -> u32
+    ensures { result ≡ number_of help }
+{
+    match help {
+        Some(help) => help.number(),
+        None => 0,
+    }
+}
+
+fn unit_number(help: Option<Help>) -> u32
+    ensures { result ≡ unit_number help }
+{
+    match help {
+        Some(Help::DidYouMean(unit)) => unit as u32 + 1,
+        Some(_) | None => 0,
+    }
 }

@@ -2,7 +2,7 @@
 //! The call that reads a text.
 
 use duration_str_core::{
-    Cause, Expected, Fault, Options, REPORT_BUFFER_SIZE, Rules, TimeUnit, UNITS,
+    Cause, Expected, Fault, Help, Options, REPORT_BUFFER_SIZE, Rules, TimeUnit, UNITS,
     parse_nanos_specialized,
 };
 
@@ -47,6 +47,10 @@ pub struct Refusal {
     /// What could stand at the place of a syntax fault, as bits: 1 is a number, 2 a unit, 4 an
     /// operator, and 8 the end. For other faults it is 0.
     pub expected: u32,
+    /// The number of the help, as `Help::number` gives it, or 0 if there is none.
+    pub help: u32,
+    /// The index in `UNITS` of the unit that the help names, plus 1, or 0 if it names none.
+    pub unit: u32,
 }
 
 /// Reads a text by the rules that the bits stand for, and returns its value in nanoseconds.
@@ -99,11 +103,14 @@ fn default_unit_of_bits(bits: u32) -> Option<TimeUnit> {
 
 fn refusal_of(fault: &Fault<'_>, options: Options) -> Refusal {
     let cause = fault.cause();
+    let help = fault.help();
     Refusal {
         place: place_number(fault),
         found_length: found_length(fault, options),
         cause: cause_number(cause),
         expected: expected_bits(cause),
+        help: number_of(help),
+        unit: unit_number(help),
     }
 }
 
@@ -147,4 +154,18 @@ fn bits_of(expected: Expected) -> u32 {
         | u32::from(expected.unit_word) << 1
         | u32::from(expected.operator) << 2
         | u32::from(expected.text_end) << 3
+}
+
+fn number_of(help: Option<Help>) -> u32 {
+    match help {
+        Some(help) => help.number(),
+        None => 0,
+    }
+}
+
+fn unit_number(help: Option<Help>) -> u32 {
+    match help {
+        Some(Help::DidYouMean(unit)) => unit as u32 + 1,
+        Some(_) | None => 0,
+    }
 }
