@@ -101,6 +101,9 @@ def in_python():
     yield name, "\nPrintedUnit = Literal[", "]", quoted(PRINTED)
     yield name, "\nStyle = Literal[", "]", quoted(STYLES)
     yield name, "\nRounding = Literal[", "]", quoted(ROUNDINGS)
+    lines = [f'    {each} = {at}\n    """{HELPS[each]}"""' for at, each in enumerate(HELPS, 1)]
+    before = '"""What a user may have meant by a refused text, or should write instead."""\n\n'
+    yield "python/src/duration_str/_help.py", before, "\n\n\n", "\n".join(lines)
     yield name, "\nSENTENCES = [\n", "\n]", rows(SENTENCES)
     yield name, "\nUNIT_PATTERNS = [\n", "\n]", rows(UNIT_PATTERNS)
 

@@ -37,10 +37,14 @@ class Documentation(unittest.TestCase):
             )
 
     def test_names_no_module_of_its_own_in_pickles(self):
-        program = "import duration_str, pickle; print(pickle.dumps(duration_str.Duration))"
-        run = subprocess.run([sys.executable, "-c", program], capture_output=True, text=True)
-        self.assertIn("duration_str", run.stdout)
-        self.assertNotIn("duration_str._", run.stdout)
+        for value in [
+            "duration_str.Duration",
+            "duration_str.DurationError('', '', 2, help=1).help",
+        ]:
+            program = f"import duration_str, pickle; print(pickle.dumps({value}))"
+            run = subprocess.run([sys.executable, "-c", program], capture_output=True, text=True)
+            self.assertIn("duration_str", run.stdout)
+            self.assertNotIn("duration_str._", run.stdout)
 
     def test_imports_what_takes_long_when_it_is_used(self):
         def printed(program):
@@ -50,7 +54,7 @@ class Documentation(unittest.TestCase):
         late = ["typing", "duration_str._arrays", "duration_str._lists", "duration_str._models"]
         loaded = "print(*{*sys.modules} - before)"
         modules = printed(f"import duration_str as d; d.format(d.parse('1h')); {loaded}")
-        self.assertEqual(set(), {*late} & {*modules})
+        self.assertEqual(set(), {*late, "duration_str._help"} & {*modules})
         modules = printed(f"import duration_str; duration_str.Duration; {loaded}")
         self.assertLessEqual({*late[1:]}, {*modules})
         public = {"format", *duration_str.__all__}

@@ -58,6 +58,7 @@ class Errors(unittest.TestCase):
                     )
                     line = f"not UTF-8: a lone surrogate at index {place}"
                     self.assertEqual((str(error), error.report), (line, line))
+                    self.assertEqual((error.help, error.suggestion), (None, None))
 
     def test_tells_of_a_long_text_in_a_short_line(self):
         line = "expected a number, '+', '*' or the end at column 100003, found \"x\""
@@ -79,7 +80,7 @@ class Errors(unittest.TestCase):
         self.assertEqual(called, ["__init__"])
 
     def test_can_be_copied_and_pickled(self):
-        for text in ["", "1µs …", "600y", "1\ud800"]:
+        for text in ["", "1µs …", "600y", "1\ud800", "5 mins", "1.5h"]:
             error = error_of(text, no_calc=True)
             error.__class__ = JobError
             error.job = "backup"
@@ -88,4 +89,4 @@ class Errors(unittest.TestCase):
                 self.assertEqual(
                     (type(other), str(other), vars(other)), (JobError, str(error), vars(error))
                 )
-                self.assertEqual(other.report, error.report)
+                self.assertEqual((other.report, other.help), (error.report, error.help))

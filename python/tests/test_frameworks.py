@@ -364,15 +364,14 @@ class Models(unittest.TestCase):
             self.assertEqual(
                 (error["type"], error["loc"], error["msg"]), ("duration", ("timeout",), LINE)
             )
-            self.assertEqual(
-                error["ctx"], {"cause": "SYNTAX", "place": 2, "pos": 2, "found": "mins"}
-            )
+            place = {"cause": "SYNTAX", "place": 2, "pos": 2, "found": "mins"}
+            self.assertEqual(error["ctx"], place | {"help": "DID_YOU_MEAN", "suggestion": "min"})
             self.assertEqual(raised.exception.json().count("did you mean"), 1)
         with self.assertRaises(self.pydantic.ValidationError) as raised:
             self.model(timeout="1µs …")
+        place = {"cause": "SYNTAX", "place": 5, "pos": 4, "found": "…"}
         self.assertEqual(
-            raised.exception.errors()[0]["ctx"],
-            {"cause": "SYNTAX", "place": 5, "pos": 4, "found": "…"},
+            raised.exception.errors()[0]["ctx"], place | {"help": None, "suggestion": None}
         )
         with self.assertRaises(self.pydantic.ValidationError) as raised:
             self.model(timeout="600y {cause}")

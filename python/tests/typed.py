@@ -87,3 +87,7 @@ except duration_str.DurationError as error:
     assert_type(str(error) + error.report, str)
     assert_type(error.cause, duration_str.Cause)
     assert_type(error.pos, "int | None")
+    assert_type(error.help, "duration_str.Help | None")
+    assert_type(error.suggestion, "str | None")
+    assert_type(error.help == duration_str.Help.DID_YOU_MEAN, bool)
+    error.help = None  # type: ignore[misc]

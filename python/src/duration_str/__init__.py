@@ -53,6 +53,11 @@ To read a text:
   parse_ns       as an int of nanoseconds
   parse_seconds  as a float of seconds, for time.sleep and asyncio.wait_for
 
+If a text is refused, they raise a `DurationError`. As a string it is a line
+for people. To say in another language what is wrong, take the error's fields:
+the `cause`, the place, what was `found` there and what was `expected`, the
+`help`, and the `suggestion`.
+
 To print an int of nanoseconds or a timedelta:
 
 format(value, /, *, parts=11, units=None, largest="y", smallest="ns",
@@ -99,6 +104,7 @@ if TYPE_CHECKING:
 
     from ._arrays import format_many, to_timedelta
     from ._columns import parse_many
+    from ._help import Help
     from ._lists import PrintedUnit, Rounding, Style, Unit
     from ._models import Duration, DurationField, DurationRequireUnit
     from ._parts import Breakdown, Part
@@ -113,6 +119,7 @@ __all__ = [
     "DurationTypeError",
     "DurationRequireUnit",
     "Expected",
+    "Help",
     "Part",
     "PrintedUnit",
     "Rounding",
@@ -142,9 +149,9 @@ _own(globals())
 format.__module__ = __name__
 
 if not TYPE_CHECKING:
-    # The items of these modules need the module typing, which takes longer to import than this
+    # All of these modules but `_help` need the module typing, which takes longer to import than this
     # package. So the modules are imported when one of their items is used.
-    _LATER = ("_lists", "_parts", "_pattern", "_columns", "_arrays", "_models")
+    _LATER = ("_help", "_lists", "_parts", "_pattern", "_columns", "_arrays", "_models")
 
     def __getattr__(name):
         for module in _LATER if name in __all__ else ():

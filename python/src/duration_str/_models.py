@@ -32,6 +32,8 @@ def _read(value: Any, options: dict[str, Any]) -> Any:
             "place": error.place,
             "pos": error.pos,
             "found": error.found,
+            "help": error.help.name if error.help else None,
+            "suggestion": error.suggestion,
         }
         # pydantic replaces `{NAME}` in the message by the context's value of that name. So a
         # message that contains one of its names in braces gets no context.

@@ -107,6 +107,13 @@ struct text {
     size_t length;
 };
 
+/* The help for a refused text: a number of `enum duration_str_help_kind`, and the name of the unit
+ * that it suggests, if it does. */
+struct help {
+    uint32_t number;
+    char suggestion[DURATION_STR_SUGGESTION_BUFFER_SIZE];
+};
+
 static PyObject *size_or_none(bool is_there, size_t size) {
     return is_there ? PyLong_FromSize_t(size) : Py_NewRef(Py_None);
 }
@@ -114,11 +121,13 @@ static PyObject *size_or_none(bool is_there, size_t size) {
 /* Raises a DurationError. Takes over the references to the report and the text. The index -1 stands
  * for none. */
 static void raise_error(struct state *state, PyObject *report, PyObject *text,
-    const struct duration_str_answer *answer, const char *bytes, Py_ssize_t index) {
+    const struct duration_str_answer *answer, const char *bytes, Py_ssize_t index,
+    struct help help) {
     const char *found = answer->found_length ? bytes + answer->place : NULL;
-    PyObject *error = PyObject_CallFunction(state->kept[ERROR], "NNINIz#N", report, text,
+    PyObject *error = PyObject_CallFunction(state->kept[ERROR], "NNINIz#NIs", report, text,
         answer->cause, size_or_none(answer->has_place, answer->place), answer->expected, found,
-        (Py_ssize_t)answer->found_length, size_or_none(index >= 0, (size_t)index));
+        (Py_ssize_t)answer->found_length, size_or_none(index >= 0, (size_t)index), help.number,
+        help.suggestion);
     if (error)
         PyErr_SetObject(state->kept[ERROR], error);
     Py_XDECREF(error);
@@ -171,7 +180,9 @@ static int read_str(struct state *state, PyObject *given, uint32_t options, uint
     if (is_read || !raises)
         return is_read;
     PyObject *report = report_of(text, options, &answer);
-    raise_error(state, report, PyUnicode_FromObject(given), &answer, text.bytes, index);
+    struct help help;
+    help.number = duration_str_help(text.bytes, text.length, options, help.suggestion);
+    raise_error(state, report, PyUnicode_FromObject(given), &answer, text.bytes, index, help);
     return -1;
 }
 
@@ -810,9 +821,10 @@ static int keep(struct state *state, const struct list *list, Py_ssize_t at, PyO
 
 static void raise_beyond(struct state *state, PyObject *given, Py_ssize_t index) {
     const struct duration_str_answer answer = {.cause = DURATION_STR_CAUSE_OVERFLOW};
+    const struct help none = {.number = DURATION_STR_HELP_NONE};
     PyObject *line = PyUnicode_FromString(
         "duration of 2^63 nanoseconds or more, which timedelta64 doesn't have");
-    raise_error(state, line, PyUnicode_FromObject(given), &answer, NULL, index);
+    raise_error(state, line, PyUnicode_FromObject(given), &answer, NULL, index, none);
 }
 
 /* Returns what read_str does. If there is a function, a value that timedelta64 can't hold is

@@ -11,6 +11,8 @@ TYPE_CHECKING = False
 if TYPE_CHECKING:
     from typing import Any
 
+    from ._help import Help
+
 
 class _Unnamed(str):
     pass
@@ -81,10 +83,12 @@ class DurationError(ValueError):
     ... except duration_str.DurationError as error:
     ...     print(error.report)
     ...     print(error.cause.name, error.pos, error.found)
+    ...     print(error.help.name, error.suggestion)
     3h 2 mins
          ^
     unknown unit "mins" at column 6 (did you mean "min"?)
     SYNTAX 5 mins
+    DID_YOU_MEAN min
     """
 
     text: str
@@ -101,6 +105,9 @@ class DurationError(ValueError):
     found: str | None
     """The token at the place of a syntax fault. It is None at the end of the text, and for other
     faults."""
+    suggestion: str | None
+    """The name of a unit, such as `min` for `5 mins`, if the help is `Help.DID_YOU_MEAN`. Otherwise
+    it is None."""
     index: int | None
     """The position of the text in its column, or None if it is in no column."""
     report: str
@@ -110,7 +117,7 @@ class DurationError(ValueError):
 
     def __init__(
         self, report: str, text: str, cause: int, place: int | None = None, expected: int = 0,
-        found: str | None = None, index: int | None = None,
+        found: str | None = None, index: int | None = None, help: int = 0, suggestion: str = "",
     ) -> None:  # fmt: skip
         above, feed, line = report.rpartition("\n")
         line = line if index is None else f"at index {index}: {line}"
@@ -122,9 +129,19 @@ class DurationError(ValueError):
         self.expected = _EXPECTED[expected]
         self.found = found
         self.index = index
+        self.suggestion = suggestion or None
+        self._help = help
         self.pos = place
         if place is not None and not text.isascii():
             self.pos = len(text.encode()[:place].decode())
+
+    @property
+    def help(self) -> "Help | None":
+        """What the user may have meant, or should write instead. It is None if no help applies."""
+        # The import of the package takes less time without the many items of this enumeration.
+        from ._help import Help
+
+        return Help(self._help) if self._help else None
 
     def __reduce__(self) -> tuple[object, ...]:
         return type(self), (str(self), self.text, self.cause), self.__dict__
