@@ -53,9 +53,12 @@ WRONG_WORDS = """--to= --to=mins --to=年 --from=secs --largest=mo --round=half 
 NUMBERS = ("12.5", ".5", "1e-05", "2.5E+3", "0.5e0", "\t3.0 ", "1e-99999999999999999999")
 WORDS = """--to=ms --from=Hour --largest=µs --smallest=mon --units=y,d --style=long
 --round=up""".split()
-Refused = collections.namedtuple("Refused", "message column found", defaults=(None, None))
+Refused = collections.namedtuple(
+    "Refused", "cause column expected found help suggestion message", defaults=[None] * 7
+)
 Said = collections.namedtuple("Said", "output errors status")
 quoted = json.JSONEncoder(ensure_ascii=False).encode
+compact = json.JSONEncoder(ensure_ascii=False, separators=(",", ":")).encode
 
 
 def number_in(nanos, unit, decimals=None, way="down"):
@@ -114,7 +117,12 @@ def read_number(text, options):
     way = "up" if options.get("round") == "up" else "down"
     nanos = reference.bare_number(text, LENGTHS[options["from"]], way)
     line = f"duration of over 584 years in {reference.quote(text)}"
-    return Refused(line) if nanos is None else nanos
+    return refused("OVERFLOW", line) if nanos is None else nanos
+
+
+def refused(cause, message):
+    """A refusal that is no syntax error"""
+    return Refused(cause=cause, expected=[], message=message)
 
 
 def choice_of(options):
@@ -128,7 +136,7 @@ def read(data, options):
     try:
         text = data.decode()
     except UnicodeDecodeError:
-        return Refused("not UTF-8")
+        return refused("NOT_TEXT", "not UTF-8")
     if "from" in options and reference.FRACTION_OR_EXPONENT.fullmatch(text):
         return read_number(text.strip(BLANKS), options)
     # The reference parser takes long for many blanks.
@@ -136,8 +144,16 @@ def read(data, options):
     answer = choice_of(options).answer(text)
     if answer.cause == "read":
         return answer.value
-    column = answer.place + 1 if answer.cause == "syntax" else None
-    return Refused(reference.one_line(text, answer), column, answer.found or None)
+    found = reference.help_of(text, answer)
+    return Refused(
+        cause=answer.cause.replace(" ", "_").upper(),
+        column=answer.place + 1 if answer.cause == "syntax" else None,
+        expected=[kind for kind in vectors.KINDS if kind in answer.expected],
+        found=answer.found or None,
+        help=found.code() if found else None,
+        suggestion=found.suggestion if found else None,
+        message=reference.one_line(text, answer),
+    )
 
 
 def field_in(line, options):
@@ -154,8 +170,8 @@ def field_in(line, options):
 
 def json_object(text, answer, options, where):
     if isinstance(answer, Refused):
-        (kind, number), (message, column, found) = where.split(), map(quoted, answer)
-        return f'{{"text":{quoted(text)},"{kind}":{number},"column":{column},"found":{found},"message":{message}}}'
+        kind, number = where.split()
+        return compact({"text": text, kind: int(number), **answer._asdict()})
     shown = printed(answer, options) if "to" in options else quoted(printed(answer, options))
     parts, rest = parts_of(answer, options)
     listed = ",".join(f'{{"count":{count},"unit":"{name}"}}' for count, name in parts)
@@ -181,8 +197,10 @@ def said_of(line, options, where, before=None):
     elif where.startswith("line"):
         ending = b"" if "zero-terminated" in options else b"\r"
         line = b"" if too_long else line.removesuffix(ending)
-    answer = Refused("no such field") if begin is None else read(line[begin:end], options)
-    answer = Refused("line of over 1,048,576 bytes") if too_long else answer
+    answer = (
+        refused("NO_FIELD", "no such field") if begin is None else read(line[begin:end], options)
+    )
+    answer = refused("LINE_TOO_LONG", "line of over 1,048,576 bytes") if too_long else answer
     if "json" in options:
         output = json_object(line.decode(errors="replace"), answer, options, where).encode()
         return Said(output + b"\n", b"", int(isinstance(answer, Refused)))

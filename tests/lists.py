@@ -86,6 +86,15 @@ def in_c():
     yield name, "enum duration_str_help_kind {\n", "\n};", "\n".join(rows).rstrip(",")
 
 
+def in_the_manual():
+    rows = [
+        f".TP\n.B {name}\n{textwrap.fill(comment.replace('`', chr(34)), 79)}"
+        for name, comment in HELPS.items()
+    ]
+    before = ".PP\nThese are the values of\n.BR help :\n"
+    yield "shell/duration.h2m", before, "\n\n[ROUNDING]", "\n".join(rows)
+
+
 def on_the_page():
     pairs = zip(UNITS, units.more())
     lists = [(unit.names, more.names, unit.chinese) for unit, more in pairs]
@@ -126,6 +135,8 @@ def in_rust():
     for constant, items in ("UNITS", ascii_names), ("STYLES", STYLES):
         before = f"const {constant}: [&str; "
         yield name, before, "];", f"{len(items)}] = [{quoted(items)}"
+    helps = "\n".join(f'    "{each}",' for each in HELPS)
+    yield name, "const HELPS: [&str; ", "\n];", f"{len(HELPS)}] = [\n{helps}"
     yield name, "const SENTENCES: [&str; 4] = [\n", "\n];", rows(SENTENCES)
     yield name, "const UNIT_PATTERNS: [&str; 8] = [\n", "\n];", rows(UNIT_PATTERNS)
 
@@ -149,4 +160,5 @@ def places():
     yield from in_python()
     yield from in_c_for_python()
     yield from in_rust()
+    yield from in_the_manual()
     yield from in_the_schema()

@@ -3,6 +3,25 @@
 /// A short name of each unit, in ASCII.
 pub const UNITS: [&str; 11] = ["y", "q", "mon", "w", "d", "h", "min", "s", "ms", "us", "ns"];
 pub const STYLES: [&str; 3] = ["short", "compact", "long"];
+/// The helps, in the order of their numbers.
+pub const HELPS: [&str; 16] = [
+    "DID_YOU_MEAN",
+    "UNITS",
+    "FRACTION",
+    "DIGITS_ONLY",
+    "CLOCK_TIME",
+    "NEGATIVE",
+    "LEADING_PLUS",
+    "ISO_8601",
+    "ONE_DURATION",
+    "NO_POINT",
+    "BRACKETS",
+    "DIVISION",
+    "QUOTATION_MARKS",
+    "MISSING_UNIT",
+    "ZERO",
+    "LARGE_NUMBER",
+];
 /// Patterns of sentences: without options, without operators, with units required, and with both. U
 /// stands for a unit.
 pub const SENTENCES: [&str; 4] = [

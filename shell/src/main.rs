@@ -141,7 +141,11 @@ impl Run<'_> {
             let is_header = number <= self.choices.header.unwrap_or(0);
             if text.len() > LONGEST {
                 if !is_header {
-                    self.tell(Refusal::new("line of over 1,048,576 bytes"), b"", number)?;
+                    self.tell(
+                        Refusal::new("LINE_TOO_LONG", "line of over 1,048,576 bytes"),
+                        b"",
+                        number,
+                    )?;
                 }
                 self.pass(
                     &mut input,
@@ -192,7 +196,11 @@ impl Run<'_> {
 
     fn line(&mut self, line: &[u8], number: u64) -> io::Result<()> {
         let Some([before, text, after]) = self.cut(line) else {
-            return self.refuse(Refusal::new("no such field"), [b"", line, b""], number);
+            return self.refuse(
+                Refusal::new("NO_FIELD", "no such field"),
+                [b"", line, b""],
+                number,
+            );
         };
         match reading::read(text, self.choices) {
             Err(refusal) => self.refuse(refusal, [before, text, after], number),

@@ -5,8 +5,8 @@ use clap::error::ErrorKind;
 use clap::{Command, CommandFactory, Parser, ValueEnum};
 use clap_complete::Shell;
 use duration_str::{
-    Breakdown, FORMAT_BUFFER_SIZE, Format, Options, Rounding, Style, TimeUnit, Units, UnknownUnit,
-    parse_duration, write_rounded,
+    Breakdown, FORMAT_BUFFER_SIZE, Format, Help, Options, Rounding, Style, TimeUnit, Units,
+    UnknownUnit, parse_duration, write_rounded,
 };
 use std::borrow::Cow;
 use std::ffi::{OsStr, OsString};
@@ -263,16 +263,16 @@ fn one_byte(text: &str) -> Result<u8, &'static str> {
     }
 }
 
-/// The error of a word such as `mins` has the help that the library gives for `1mins`.
+/// The error of a word such as `mins` suggests the name that the library suggests for `1mins`.
 fn unit(word: &str) -> Result<TimeUnit, String> {
     word.parse().map_err(|unknown: UnknownUnit| {
-        let line = parse_duration(&format!("1{word}"))
+        let help = parse_duration(&format!("1{word}"))
             .err()
-            .map_or(String::new(), |error| error.to_string());
-        let help = line
-            .split_once(" (did")
-            .map(|(_, help)| format!("did{}", help.trim_end_matches(')')));
-        help.unwrap_or(unknown.to_string())
+            .and_then(|error| error.help());
+        help.and_then(Help::suggestion)
+            .map_or(unknown.to_string(), |name| {
+                format!("did you mean \"{name}\"?")
+            })
     })
 }
 

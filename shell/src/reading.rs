@@ -1,21 +1,26 @@
 //! Reads a text, and says why it is refused.
+use crate::lists::HELPS;
 use crate::options::{Choices, Round};
-use duration_str::{Fault, Rules, TimeUnit, parse_by};
+use duration_str::{Cause, Expected, Fault, Help, Rules, TimeUnit, parse_by};
 use serde_json::json;
 
-/// `place` and `found` are those of a syntax fault.
+/// `place`, `expected` and `found` are those of a syntax fault.
 #[derive(Default)]
 pub struct Refusal {
     pub message: String,
     pub report: String,
+    cause: &'static str,
     place: Option<usize>,
+    expected: Option<Expected>,
     found: Option<String>,
+    help: Option<Help>,
 }
 
 impl Refusal {
-    pub fn new(message: &str) -> Refusal {
+    pub fn new(cause: &'static str, message: &str) -> Refusal {
         Refusal {
             message: message.to_string(),
+            cause,
             ..Refusal::default()
         }
     }
@@ -28,40 +33,70 @@ impl Refusal {
 
     pub fn json(&self, text: &[u8], what: &str, number: u64) -> String {
         let text = String::from_utf8_lossy(text);
-        let column = json!(self.place.map(|place| text[..place].chars().count() + 1));
-        let (text, found, message) = (json!(text), json!(self.found), json!(self.message));
-        format!(
-            r#"{{"text":{text},"{what}":{number},"column":{column},"found":{found},"message":{message}}}"#
-        )
+        let column = self.place.map(|place| text[..place].chars().count() + 1);
+        let help = self.help.map(|help| HELPS[help.number() as usize - 1]);
+        let fields = [
+            ("text", json!(text)),
+            (what, json!(number)),
+            ("cause", json!(self.cause)),
+            ("column", json!(column)),
+            ("expected", json!(self.expected.map_or(vec![], kinds_of))),
+            ("found", json!(self.found)),
+            ("help", json!(help)),
+            ("suggestion", json!(self.help.and_then(Help::suggestion))),
+            ("message", json!(self.message)),
+        ];
+        let fields = fields.map(|(name, value)| format!("{name:?}:{value}"));
+        format!("{{{}}}", fields.join(","))
     }
 }
 
 impl From<Fault<'_>> for Refusal {
     fn from(fault: Fault<'_>) -> Refusal {
-        let (place, found) = (
-            fault.expected().and(fault.place()),
-            fault.found().map(str::to_string),
-        );
         Refusal {
             message: fault.to_string(),
             report: fault.report(),
-            place,
-            found,
+            cause: name_of(fault.cause()),
+            place: fault.expected().and(fault.place()),
+            expected: fault.expected(),
+            found: fault.found().map(str::to_string),
+            help: fault.help(),
         }
     }
 }
 
+fn name_of(cause: Cause) -> &'static str {
+    match cause {
+        Cause::Empty => "EMPTY",
+        Cause::Syntax { .. } => "SYNTAX",
+        Cause::NumberTooLarge { .. } => "NUMBER_TOO_LARGE",
+        Cause::Overflow { .. } => "OVERFLOW",
+        Cause::Mixed { .. } => "MIXED",
+        _ => unreachable!("the other causes are those of dates"),
+    }
+}
+
+fn kinds_of(expected: Expected) -> Vec<&'static str> {
+    let kinds = [
+        (expected.number, "number"),
+        (expected.unit_word, "unit"),
+        (expected.operator, "operator"),
+        (expected.text_end, "end"),
+    ];
+    let could_stand = kinds.into_iter().filter(|(could, _)| *could);
+    could_stand.map(|(_, name)| name).collect()
+}
+
 pub fn read<'a>(bytes: &'a [u8], choices: &Choices) -> Result<(&'a str, u64), Refusal> {
-    let text = std::str::from_utf8(bytes).map_err(|_| Refusal::new("not UTF-8"))?;
+    let text = std::str::from_utf8(bytes).map_err(|_| Refusal::new("NOT_TEXT", "not UTF-8"))?;
     if let Some((number, nanos)) = choices
         .from
         .and_then(|unit| bare_number(text, unit, choices.round()))
     {
         let dots = if number.len() > 40 { "..." } else { "" };
         let too_large = |_| {
-            Refusal::new(&format!(
-                "duration of over 584 years in \"{number:.40}\"{dots}"
-            ))
+            let message = format!("duration of over 584 years in \"{number:.40}\"{dots}");
+            Refusal::new("OVERFLOW", &message)
         };
         return Ok((text, u64::try_from(nanos).map_err(too_large)?));
     }

@@ -60,19 +60,65 @@ fn takes_a_minus_for_a_text() {
     let errors = format!("duration: argument 1: {}\n", line(" -5m"));
     assert_eq!(run(&[" -5m"], b""), (1, "".into(), errors));
     let json = run(&["--json", "-.5"], b"").1;
-    assert!(
-        json.starts_with("{\"text\":\"-.5\",\"argument\":1,\"column\":1,\"found\":\"-\","),
-        "{json}"
-    );
+    assert!(json.starts_with(&begin_of_json("-.5")), "{json}");
+}
+
+/// The beginning of the object for a text that is refused at its first character, a minus sign.
+fn begin_of_json(text: &str) -> String {
+    let fields = [
+        r#""argument":1"#,
+        r#""cause":"SYNTAX""#,
+        r#""column":1"#,
+        r#""expected":["number"]"#,
+        r#""found":"-""#,
+    ];
+    format!(r#"{{"text":"{text}",{},"#, fields.join(","))
+}
+
+#[test]
+fn gives_programs_all_that_a_message_says() {
+    let json = run(&["--json", "5 mins", "2h*3m+1"], b"").1;
+    let wanted = [
+        concat!(
+            r#"{"text":"5 mins","argument":1,"cause":"SYNTAX","column":3,"#,
+            r#""expected":["unit","operator","end"],"found":"mins","#,
+            r#""help":"DID_YOU_MEAN","suggestion":"min","#,
+            r#""message":"unknown unit \"mins\" at column 3 (did you mean \"min\"?)"}"#,
+        ),
+        concat!(
+            r#"{"text":"2h*3m+1","argument":2,"cause":"MIXED","column":null,"#,
+            r#""expected":[],"found":null,"help":null,"suggestion":null,"#,
+            r#""message":"sum and product mixed in \"2h*3m+1\""}"#,
+        ),
+    ];
+    assert_eq!(json.lines().collect::<Vec<_>>(), wanted);
+}
+
+#[test]
+fn names_the_cause_of_what_is_no_text() {
+    let lines = [&b"1\xff\n"[..], &[b'9'; (1 << 20) + 1]].concat();
+    let json = run(&["--json"], &lines).1;
+    let fields = r#""column":null,"expected":[],"found":null,"help":null,"suggestion":null,"#;
+    let not_text = [
+        r#"{"text":"1�","line":1,"cause":"NOT_TEXT","#,
+        fields,
+        r#""message":"not UTF-8"}"#,
+    ];
+    let too_long = [
+        r#"{"text":"","line":2,"cause":"LINE_TOO_LONG","#,
+        fields,
+        r#""message":"line of over 1,048,576 bytes"}"#,
+    ];
+    let wanted = [not_text.concat(), too_long.concat()];
+    assert_eq!(json.lines().collect::<Vec<_>>(), wanted);
 }
 
 #[test]
 fn takes_all_that_follows_two_minuses_for_texts() {
     for text in ["-d=", "-zd=", "-5m", "--", "--to"] {
-        let start = format!("{{\"text\":\"{text}\",\"argument\":1,\"column\":1,\"found\":\"-\",");
         let (status, json, errors) = run(&["--json", "--", text], b"");
         assert_eq!((status, &*errors), (1, ""), "{text}");
-        assert!(json.starts_with(&start), "{json}");
+        assert!(json.starts_with(&begin_of_json(text)), "{json}");
     }
 }
 
