@@ -56,14 +56,16 @@ def refusals():
     """The rows of refusals, each with what the reference parser has for it, and with its line."""
     rows = tables()
     for row in rows["refused"]:
-        text, names, *_, line, spaces = row
+        text, names, *_, line, spaces, code, suggestion = row
         answer = Choice.named(names).answer(text)
         place = None if answer.place is None else len(text[: answer.place].encode())
         kinds = [kind for kind in KINDS if kind in answer.expected]
         cause = answer.cause.replace(" ", "_").upper()
         wanted = [text, names, cause, place, answer.found or None, kinds]
         if cause != "READ":
+            found = reference_parser.help_of(text, answer)
             wanted += [reference_parser.one_line(text, answer), spaces_of(text, answer)]
+            wanted += [found.code(), found.suggestion] if found else [None, None]
         yield row, wanted, line
     for row in rows["refused_numbers"]:
         unit, number, line = row

@@ -374,12 +374,13 @@ for (const { DurationError, formatNs, tryParseNs } of [compiled, plain]) {
         }
     }
     for (const [text, names, ...row] of VECTORS.refused) {
-        const [code, place, found, , line] = row;
+        const [code, place, found, , line, , help, suggestion] = row;
         const error = new DurationError(tryParseNs(text, optionsOf(names)).fault);
         const copy = structuredClone(error.toJSON());
-        const got = [copy.code, copy.place, copy.found, copy.message];
+        const got = [copy.code, copy.place, copy.found, copy.help, copy.suggestion, copy.message];
         got.push(structuredClone(error).message);
-        if (got.join() !== [code, place, found, line, line].join()) wrong.push(text);
+        const wanted = [code, place, found, help, suggestion, line, line];
+        if (got.join() !== wanted.join()) wrong.push(text);
     }
     for (const [text, limits, short] of VECTORS.printed) {
         const { ok, value } = tryParseNs(text);

@@ -1,13 +1,14 @@
 // `node durstr.js [OPTION..]` answers each line of the standard input. It writes the nanoseconds
-// and the printed duration, or why the line is refused. Options are named as in vectors.json, such
-// as `no_calc` or `default_unit=ms`. The status is 0 if all lines are read, and otherwise 1.
+// and the printed duration, or why the line is refused, and after a tab the help's number and the
+// suggestion. Options are named as in vectors.json, such as `no_calc` or `default_unit=ms`. The
+// status is 0 if all lines are read, and otherwise 1.
 //
 // `node durstr.js rounded` prints durations that are rounded down, to the nearest and up. Each line
 // has the nanoseconds, the number of a set of units, and the greatest number of parts.
 import { readFileSync, writeFileSync } from "node:fs";
 
 import { formatNs, tryParseNs } from "duration-str";
-import { ROUNDINGS, UNITS } from "../src/lists.js";
+import { HELPS, ROUNDINGS, UNITS } from "../src/lists.js";
 import { optionsOf } from "./vectors.js";
 
 const isRounded = process.argv[2] === "rounded";
@@ -22,7 +23,12 @@ function answer(line) {
         return ["not UTF-8", false];
     }
     const { ok, value, fault } = tryParseNs(text, options);
-    return ok ? [`${value} ${formatNs(value)}`, true] : [String(fault), false];
+    return ok ? [`${value} ${formatNs(value)}`, true] : [lineAndHelp(fault), false];
+}
+
+function lineAndHelp({ message, help, suggestion }) {
+    if (help === null) return message;
+    return `${message}\t${HELPS.indexOf(help) + 1} ${suggestion ?? ""}`.trimEnd();
 }
 
 function rounded(line) {

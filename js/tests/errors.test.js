@@ -5,6 +5,7 @@ import { fileURLToPath } from "node:url";
 import { inspect } from "node:util";
 
 import { DurationError, parseNs, tryParseNs, tryParse } from "duration-str";
+import { HELPS } from "../src/lists.js";
 import { CHOICES, optionsOf, VECTORS } from "./vectors.js";
 
 const HERE = fileURLToPath(new URL(".", import.meta.url));
@@ -21,7 +22,8 @@ function errorOf(text, options) {
 }
 
 test("tells all of a refusal", () => {
-    for (const [text, names, code, place, found, kinds, line, spaces] of VECTORS.refused) {
+    for (const [text, names, ...row] of VECTORS.refused) {
+        const [code, place, found, kinds, line, spaces, help, suggestion] = row;
         const options = optionsOf(names);
         const error = errorOf(text, options);
         const before = Buffer.from(text).subarray(0, place ?? 0).toString();
@@ -38,9 +40,16 @@ test("tells all of a refusal", () => {
         );
         const { fault } = tryParseNs(text, options);
         assert.deepEqual([error.message, fault.message, String(fault)], [line, line, line]);
+        assert.deepEqual([error.help, error.suggestion], [help, suggestion], text);
+        assert.deepEqual([fault.help, fault.suggestion], [help, suggestion], text);
         const report = spaces === null ? line : `${text}\n${" ".repeat(spaces)}^\n${line}`;
         assert.deepEqual([error.report, fault.report], [report, report]);
     }
+});
+
+test("gives each help", () => {
+    const given = new Set(VECTORS.refused.map((row) => row.at(-2)));
+    assert.deepEqual(given, new Set([null, ...HELPS]));
 });
 
 test("lets nothing unsafe into the message, and keeps it short", () => {

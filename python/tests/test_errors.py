@@ -5,7 +5,7 @@ import functools
 import operator
 import unittest
 
-from duration_str import Cause, DurationError, Expected, parse_ns
+from duration_str import Cause, DurationError, Expected, Help, parse_ns
 from tests import vectors
 from tests.vectors import CHOICES, VECTORS, words_of
 
@@ -19,7 +19,8 @@ class JobError(DurationError):
 
 class Errors(unittest.TestCase):
     def test_tells_what_is_wrong(self):
-        for text, names, cause, place, found, expected, line, spaces in VECTORS["refused"]:
+        for row in VECTORS["refused"]:
+            text, names, cause, place, found, expected, line, spaces, code, suggestion = row
             with self.subTest(text=text):
                 error = error_of(text, **words_of(names))
                 self.assertIsInstance(error, ValueError)
@@ -32,6 +33,12 @@ class Errors(unittest.TestCase):
                 self.assertEqual(error.expected, functools.reduce(operator.or_, kinds, Expected(0)))
                 above = "" if spaces is None else f"{text}\n{' ' * spaces}^\n"
                 self.assertEqual((str(error), error.report), (line, above + line))
+                self.assertIs(error.help, code and Help[code])
+                self.assertEqual(error.suggestion, suggestion)
+
+    def test_has_each_help(self):
+        codes = {code for *_, code, _ in VECTORS["refused"]}
+        self.assertEqual({None, *(each.name for each in Help)}, codes)
 
     def test_reports_nothing_unsafe(self):
         unsafe = "[\0-\t\v-\x1f\x7f-\xa0\xad\u061c\u1680\u2000-\u200f\u2028-\u202f\u2060-\u206f\u3000\ufeff\U000e0001-\U000e007f]"

@@ -1,5 +1,5 @@
 //! For tests/compare: prints the value and the duration of each line of the input, or the line of
-//! the refusal. The words are those of the program durstr, `more_names`, `require_unit`, and a
+//! the refusal, and after a tab the help's number and what it suggests. The words are those of the program durstr, `more_names`, `require_unit`, and a
 //! default unit, such as `default_unit=ms`. The status is 0 if all lines are read, and 1 if some
 //! are refused.
 //!
@@ -7,7 +7,7 @@
 //! line has the nanoseconds, the number of a set of units, and the greatest number of parts.
 #![forbid(unsafe_code)]
 
-use duration_str::{Options, Rounding, Rules, TimeUnit, format_duration, parse_by};
+use duration_str::{Fault, Options, Rounding, Rules, TimeUnit, format_duration, parse_by};
 use std::io::Read;
 use std::process::ExitCode;
 use std::time::Duration;
@@ -27,6 +27,16 @@ fn print_rounded(line: &str) {
     let rounded = |rounding| printed.rounding(rounding).to_string();
     let [down, nearest, up] = [Rounding::Down, Rounding::Nearest, Rounding::Up].map(rounded);
     println!("{down}, {nearest}, {up}");
+}
+
+fn line_and_help(fault: Fault<'_>) -> String {
+    let Some(help) = fault.help() else {
+        return fault.to_string();
+    };
+    match help.suggestion() {
+        Some(name) => format!("{fault}\t{} {name}", help.number()),
+        None => format!("{fault}\t{}", help.number()),
+    }
 }
 
 fn main() -> ExitCode {
@@ -60,7 +70,7 @@ fn main() -> ExitCode {
     for line in input.split_inclusive(|byte| *byte == b'\n') {
         let line = line.strip_suffix(b"\n").unwrap_or(line);
         let answer = match std::str::from_utf8(line) {
-            Ok(text) => parse_by(text, rules).map_err(|fault| fault.to_string()),
+            Ok(text) => parse_by(text, rules).map_err(line_and_help),
             Err(_) => Err(String::from("not UTF-8")),
         };
         match answer {

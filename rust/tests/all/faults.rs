@@ -1,6 +1,7 @@
 use crate::{FEATURES, Refused, by_usual_calls, options_of, rules_of, vectors};
 use duration_str::{
-    Cause, DError, Expected, Fault, Options, Rules, parse, parse_by, parse_require_unit, parse_with,
+    Cause, DError, Expected, Fault, Help, Options, Rules, parse, parse_by, parse_require_unit,
+    parse_with,
 };
 use duration_str_core as proved;
 use std::error::Error;
@@ -50,7 +51,7 @@ fn checks_message(text: &str, options: Options, place: Option<usize>, line: &str
 #[test]
 fn tells_all_of_a_refusal() {
     for row in &vectors().refused {
-        let Refused(text, names, cause, place, found, kinds, line, spaces) = row;
+        let Refused(text, names, cause, place, found, kinds, line, spaces, help, suggestion) = row;
         let options = options_of(names);
         let rules = rules_of(options, names);
         let fault = parse_by(text, rules).expect_err(text);
@@ -58,10 +59,14 @@ fn tells_all_of_a_refusal() {
         assert_eq!(got, (*place, found.as_deref()), "{text}");
         assert_eq!(name_of(fault.cause()), cause, "{text}");
         assert_eq!(fault.expected().map_or(vec![], kinds_of), *kinds, "{text}");
+        assert_eq!(fault.help().map(code_of), help.as_deref(), "{text}");
+        let suggested = fault.help().and_then(Help::suggestion);
+        assert_eq!(suggested, suggestion.as_deref(), "{text}");
         let error = fault.into_owned();
         for same in by_usual_calls(text, rules) {
             assert_eq!(same.as_ref(), Err(&error), "{text}");
         }
+        assert_eq!(error.help(), fault.help(), "{text}");
         assert_eq!([fault.to_string(), error.to_string()], [&line[..]; 2]);
         let above = spaces.map_or(String::new(), |spaces| {
             format!("{text}\n{}^\n", " ".repeat(spaces))
@@ -72,6 +77,30 @@ fn tells_all_of_a_refusal() {
             checks_message(text, options, *place, last_line(cause, kinds));
         }
     }
+}
+
+/// The names of the helps, in the order of their numbers.
+const HELPS: [&str; 16] = [
+    "DID_YOU_MEAN",
+    "UNITS",
+    "FRACTION",
+    "DIGITS_ONLY",
+    "CLOCK_TIME",
+    "NEGATIVE",
+    "LEADING_PLUS",
+    "ISO_8601",
+    "ONE_DURATION",
+    "NO_POINT",
+    "BRACKETS",
+    "DIVISION",
+    "QUOTATION_MARKS",
+    "MISSING_UNIT",
+    "ZERO",
+    "LARGE_NUMBER",
+];
+
+fn code_of(help: Help) -> &'static str {
+    HELPS[help.number() as usize - 1]
 }
 
 fn name_of(cause: Cause) -> &'static str {

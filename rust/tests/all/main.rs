@@ -128,7 +128,8 @@ struct Group {
 }
 
 /// A refused text, its options, the cause, the place, the token that was found there, the kinds that
-/// could stand there, the line, and the spaces before the caret, if the report has a caret.
+/// could stand there, the line, the spaces before the caret, if the report has a caret, the help's
+/// name in capitals, and what the help suggests.
 #[derive(Deserialize)]
 struct Refused(
     String,
@@ -139,6 +140,8 @@ struct Refused(
     Vec<String>,
     String,
     Option<usize>,
+    Option<String>,
+    Option<String>,
 );
 
 /// A duration's text, or its seconds and nanoseconds as in `1 s 1 ns`, how it is printed, the
