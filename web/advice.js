@@ -17,10 +17,20 @@ function complete(text) {
     return text.replace(END, `${unit}${between || " "}${number}${name}`);
 }
 
+/** Writes what the library suggests, in place of each word for which it suggests a unit. */
+function mend(text, options) {
+    const { fault } = tryParseNs(text, options);
+    if (fault?.help === "ZERO") return "0s";
+    if (!fault?.suggestion) return text;
+    // Letters that no unit has are not in `found`, such as those after a Greek mu.
+    const mended = text.slice(fault.index).replace(/^\p{L}+/u, fault.suggestion);
+    return mend(text.slice(0, fault.index) + mended, options);
+}
+
 /** The options, and then those with changes by which more texts are read. Of two that both read a
  * text, the one with fewer changes comes first. */
 function optionsToTry(options) {
-    const changes = { moreNames: true, lowercase: false, cnUnit: true };
+    const changes = { lowercase: false, cnUnit: true };
     // With another default unit, the library takes no `noCalc: false`.
     if (["s", undefined].includes(options.defaultUnit)) changes.noCalc = false;
     const tried = [options];
@@ -33,11 +43,11 @@ function optionsToTry(options) {
 /** Returns a text with its options and its value, or undefined. `value` is that of the text that
  * was typed, if it is read. */
 export function offerFor(text, options, value) {
-    const completed = complete(text);
     const tried = value === undefined ? optionsToTry(options) : [options];
-    const read = tried.map((each) => (
-        { text: completed, options: each, ...tryParseNs(completed, each) }
-    ));
+    const read = tried.map((each) => {
+        const mended = complete(mend(text, each));
+        return { text: mended, options: each, ...tryParseNs(mended, each) };
+    });
     return read.find((each) => each.ok && each.value !== value);
 }
 

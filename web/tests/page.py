@@ -77,12 +77,20 @@ NOTES = [
 AT_END = ["\u00a0"]
 REFUSED = [
     ("   ", "", AT_END, []),
-    ("5 mins", "", ["mins"], ["5 mins", "with more names, 5 minutes"]),
-    ("5 mins 30", "", ["mins"], ["5 mins 30s", "with more names, 5 minutes 30 seconds"]),
-    ("5 MINS", "lowercase", ["MINS"], ["5 MINS", "in capitals too, with more names, 5 minutes"]),
+    ("5 mins", "", ["mins"], ["5 min", "5 minutes"]),
+    ("2hrs30", "", ["hrs"], ["2h 30m", "2 hours 30 minutes"]),
+    ("2 hrs 5 mins 30", "", ["hrs"], ["2 h 5 min 30s", "2 hours 5 minutes 30 seconds"]),
+    ("5 MINS", "lowercase", ["MINS"], ["5 min", "5 minutes"]),
+    ("5 Mins + 1H", "lowercase", ["Mins"], ["5 min + 1H", "in capitals too, 1 hour 5 minutes"]),
+    ("2 mins + 1 hrs", "no_calc", ["mins"], ["2 min + 1 h", "with + and *, 1 hour 2 minutes"]),
+    ("5 mins", "default_unit=ms", ["mins"], ["5 min", "5 minutes"]),
+    ("2 mos", "more_names", ["mos"], ["2 mon", "2 months"]),
+    ("600 yrs", "", ["yrs"], []),
+    ("5 mins, 1h", "", ["mins"], []),
     ("1h 30", "default_unit=refused", AT_END, ["1h 30m", "1 hour 30 minutes"]),
     ("1m 59", "default_unit=refused", AT_END, ["1m 59s", "1 minute 59 seconds"]),
     ("90", "default_unit=refused", AT_END, []),
+    (" 00 ", "default_unit=refused", AT_END, ["0s", "0 seconds"]),
     ("2 * 5m", "default_unit=refused", ["*"], []),
     ("90s*2", "default_unit=ms", ["*"], []),
     ("1m+2", "no_calc", ["+"], ["1m+2s", "with + and *, 1 minute 2 seconds"]),
@@ -90,7 +98,8 @@ REFUSED = [
     ("1分", "", ["分"], ["1分", "with Chinese units, 1 minute"]),
     ("1分s", "no_calc cn_unit", ["分s"], []),
     ("5小时", "", ["小时"], []),
-    ("5μs", "", ["μs"], []),
+    ("5μs", "", ["μs"], ["5us", "5 microseconds"]),
+    ("5 μseconds", "more_names", ["μseconds"], ["5 us", "5 microseconds"]),
     ("13mxyz", "", ["mxyz"], []),
     ("1h, 30m", "", [","], []),
     ("1.5h", "", ["."], []),
@@ -246,7 +255,8 @@ def try_refused(page):
 def try_offers(page):
     page.open()
     for text, options, becomes, remain in (
-        ("5 mins 30", "", "5 mins 30s", "more_names s"),
+        ("5 mins 30", "", "5 min 30s", "s"),
+        ("2hrs30", "no_calc", "2h 30m", "no_calc s"),
         ("1分", "default_unit=ms", "1分", "cn_unit ms"),
         ("1H+2m", "no_calc lowercase", "1H+2m", "s"),
         ("1h 30", "default_unit=refused", "1h 30m", "refused"),
@@ -424,7 +434,7 @@ def try_readers(page):
     page.wait()
     page.same("told", ["1h 30min."], page.ask("told"))
     note = "30 has no unit: seconds."
-    names = "Try instead 5 mins: with more names, 5 minutes."
+    names = "Try instead 5 min: 5 minutes."
     described = "['aria-invalid', 'aria-describedby'].map((name) => text.getAttribute(name))"
     for text, told, invalid in (
         ("1h 30", f"1h 30s. {note} Try instead 1h 30m: 1 hour 30 minutes.", "false"),
