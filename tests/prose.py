@@ -372,9 +372,8 @@ def misspelt():
         print("repository: spelling skipped, codespell is missing (make setup)")
         return []
     files = tracked_files("*.md", "program/*.in", "c/*.in", "c/include/*.h")
-    # Codespell takes a word of Rust and two macros of manual pages for mistakes. That of Debian 13
-    # also does so with a German word.
-    words = ["codespell", "--ignore-words-list", "crate,nd,fo,vor", *files]
+    # Codespell takes a word of Rust, two macros of manual pages and German words for mistakes.
+    words = ["codespell", "--ignore-words-list", "als,crate,fo,nd,oder,vor", *files]
     return subprocess.run(words, cwd=ROOT, capture_output=True, text=True).stdout.splitlines()
 
 

@@ -1,0 +1,54 @@
+"""Says in German why a text is refused. It goes by the fields of a DurationError, and uses no words
+of its line.
+"""
+
+from duration_str import Cause, Expected, Help
+
+UNITS = "y, q, mon, w, d, h, min, s, ms, us, ns"
+EXPECTED = {
+    Expected.NUMBER: "einer Zahl",
+    Expected.UNIT: "einer Einheit",
+    Expected.OPERATOR: "+ oder *",
+    Expected.END: "des Endes",
+}
+CAUSES = {
+    Cause.EMPTY: "leere Eingabe",
+    Cause.NUMBER_TOO_LARGE: "zu große Zahl",
+    Cause.OVERFLOW: "mehr als 584 Jahre",
+    Cause.MIXED: "Summe und Produkt gemischt",
+    Cause.NOT_TEXT: "kein UTF-8",
+}
+HELPS = {
+    Help.DID_YOU_MEAN: "besser „SUGGESTION“",
+    Help.UNITS: f"Einheiten: {UNITS}",
+    Help.FRACTION: "Zahlen haben nur Ziffern: 1500ms statt 1.5s",
+    Help.DIGITS_ONLY: "Zahlen haben nur Ziffern",
+    Help.CLOCK_TIME: "keine Uhrzeiten: 1h 30m oder 1m 30s",
+    Help.NEGATIVE: "keine negativen Dauern",
+    Help.LEADING_PLUS: "kein Plus am Anfang",
+    Help.ISO_8601: "kein ISO 8601: 1mon 30m statt P1MT30M",
+    Help.ONE_DURATION: "nur eine Dauer, ohne Komma oder Bindewort",
+    Help.NO_POINT: "Einheiten haben keinen Punkt",
+    Help.BRACKETS: "keine Klammern",
+    Help.DIVISION: "Teilen geht nicht",
+    Help.QUOTATION_MARKS: "ohne Anführungszeichen",
+    Help.MISSING_UNIT: f"mit Einheit: {UNITS}",
+    Help.ZERO: "besser 0s",
+    Help.LARGE_NUMBER: "mit Einheit, etwa ns",
+}
+
+
+def problem(error):
+    if error.cause != Cause.SYNTAX:
+        return CAUSES[error.cause]
+    shown = "das Ende" if error.found is None else f"„{error.found}“"
+    wanted = " oder ".join(EXPECTED[kind] for kind in EXPECTED if kind in error.expected)
+    return f"Spalte {error.pos + 1}: {shown} statt {wanted}"
+
+
+def in_german(error):
+    # Later versions may have more helps.
+    words = HELPS.get(error.help)
+    if words is None:
+        return problem(error)
+    return f"{problem(error)} ({words.replace('SUGGESTION', error.suggestion or '')})"
