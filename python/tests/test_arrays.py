@@ -156,12 +156,27 @@ class Reading(unittest.TestCase):
                 self.assertEqual(numbers(result), read)
                 self.assertEqual((result.name, [*result.index]), ("wait", [7, 8]))
                 self.assertEqual(parse_many(column, default_unit="ms").tolist(), read)
-                coerced = to_timedelta(column, errors="coerce")
-                self.assertEqual(numbers(coerced), [None, None])
-                with self.assertRaisesRegex(TypeError, "^at index 0: .*default_unit='ms'$"):
+                line = "^at index 0: .*default_unit='ms'$"
+                with self.assertRaisesRegex(TypeError, line):
                     to_timedelta(column)
+                if kind == "object":
+                    coerced = to_timedelta(column, errors="coerce")
+                    self.assertEqual(numbers(coerced), [None, None])
+                    continue
+                for call in (to_timedelta, parse_many):
+                    hint = "default_unit='ms', or read the column as texts, in pandas by dtype=str$"
+                    with self.assertRaisesRegex(DurationTypeError, f"^at index 0: .*{hint}"):
+                        call(column, errors="coerce")
         gaps = pandas.Series([1500, None, 2])
         self.assertEqual(gaps.dtype, numpy.float64)
+        with self.assertRaisesRegex(DurationTypeError, "^at index 0: "):
+            to_timedelta(gaps, errors="coerce")
+        with self.assertRaisesRegex(DurationTypeError, "^at index 1: "):
+            to_timedelta(gaps[1:], errors="coerce")
+        nothing = pandas.Series([None, None], dtype="float64")
+        self.assertEqual(numbers(to_timedelta(nothing, errors="coerce")), [None, None])
+        empty = pandas.Series([], dtype="int64")
+        self.assertEqual(numbers(to_timedelta(empty, errors="coerce")), [])
         self.assertEqual(numbers(to_timedelta(gaps, default_unit="ms")), [read[0], None, read[1]])
         self.assertEqual(numbers(to_timedelta(numpy.array([[1500, 2]]), default_unit="ms")), read)
         masked = numpy.ma.array([1500, 2], mask=[True, False])

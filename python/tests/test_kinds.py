@@ -6,7 +6,7 @@ import ctypes
 import re
 import unittest
 
-from duration_str import format_many, parse_many, to_timedelta
+from duration_str import DurationTypeError, format_many, parse_many, to_timedelta
 
 try:
     import numpy
@@ -161,11 +161,10 @@ class Kinds(unittest.TestCase):
             line = f"^at index 0: a duration.* must be a str.* not {re.escape(name)}$"
             with self.assertRaisesRegex(TypeError, line):
                 call(column, **words)
-        answer = call(column, default_unit="ms", errors="coerce")
+            with self.assertRaisesRegex(DurationTypeError, line):
+                call(column, errors="coerce", **words)
         if call is parse_many:
-            self.assertEqual(answer, (array.array("Q", [0]), array.array("Q", [0])))
             return
-        self.assertEqual(numpy.isnat(numpy.asarray(answer)).tolist(), [True])
         if hasattr(column, "__array__") or isinstance(column, memoryview):
             with self.assertRaisesRegex(TypeError, f"^at index 0: .* not {re.escape(name)}$"):
                 format_many(column)

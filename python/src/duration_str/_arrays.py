@@ -10,7 +10,16 @@ from functools import partial
 from typing import TYPE_CHECKING, Any, overload
 
 from . import _native
-from ._columns import Errors, raises_errors, stand_in, type_name, values_of, zeros
+from ._columns import (
+    Errors,
+    check_type,
+    is_missing,
+    raises_errors,
+    stand_in,
+    type_name,
+    values_of,
+    zeros,
+)
 from ._lists import Rounding, Style, Unit
 from ._texts import UNNAMED, UNSAID, nanos_a_step, nanos_of, type_error_of
 
@@ -22,17 +31,6 @@ if TYPE_CHECKING:
 _LENGTHS = ("timedelta64", "duration")
 #: NaT as a number
 _NAT = -(2**63)
-
-
-def _is_missing(value: Any) -> bool:
-    """Returns whether a value is None, NaT, a float that is NaN, or, if pandas is imported, another
-    value that pandas takes for missing."""
-    numpy: Any = sys.modules.get("numpy")
-    pandas: Any = sys.modules.get("pandas")
-    if pandas is not None:
-        return value is None or pandas.isna(value) is True
-    kinds: Any = (float, numpy.floating, numpy.datetime64, numpy.timedelta64) if numpy else float
-    return value is None or (isinstance(value, kinds) and bool(value != value))
 
 
 def _missing_in(values: Any) -> Any:
@@ -91,7 +89,7 @@ def _nanos_of_value(value: Any, index: int, raises: bool, takes_numbers: bool) -
     raises TypeError even then, unless it is NaT."""
     import numpy
 
-    if _is_missing(value):
+    if is_missing(value):
         return _NAT
     is_kept = isinstance(value, (datetime.timedelta, numpy.timedelta64))
     if is_kept and abs(nanos := nanos_of(value)) < 2**63:
@@ -206,7 +204,9 @@ def to_timedelta(
     nanoseconds or more, in either direction, raises OverflowError. Both errors
     are raised even if a text before the value is refused. With
     `errors="coerce"` all these values become NaT. But a timedelta64 of a wrong
-    unit, such as 5 years, raises TypeError even then.
+    unit, such as 5 years, raises TypeError even then. A column whose type is
+    never read, such as one of integers without a default unit, also raises
+    DurationTypeError even then, unless all its values are missing.
     """
     raises = raises_errors(errors)
     reading = _native.reading(
@@ -231,6 +231,8 @@ def to_timedelta(
     if name.partition("[")[0] in _LENGTHS:
         return _nanos_of_lengths(values, _lengths(values), raises)
     texts = [values] if is_one else _flat(values, name)
+    if not raises:
+        check_type(texts, name, reading[1])
     nanos = zeros(len(texts))
     other = partial(_nanos_of_value, raises=raises, takes_numbers=reading[1])
     _native.read_list(texts, nanos, reading, raises, -1 if is_one else 0, other)
@@ -286,7 +288,7 @@ def format_many(
     texts: list[str | None] = []
     try:
         _native.format_list(
-            given, lambda value: None if _is_missing(value) else nanos_of(value), texts, limits
+            given, lambda value: None if is_missing(value) else nanos_of(value), texts, limits
         )
     except (OverflowError, TypeError, ValueError) as error:
         raise type(error)(f"at index {len(texts)}: {error}") from None

@@ -11,18 +11,17 @@ from typing import Any, Literal, SupportsIndex, overload
 
 from . import _native
 from ._lists import Unit
-from ._texts import UNNAMED, UNSAID
+from ._texts import UNNAMED, UNSAID, DurationTypeError, type_error_of
 
 #: What to do with a refused value
 Errors = Literal["raise", "coerce"]
 
 
 #: The types whose values are read, as NumPy, pandas, Arrow and the formats of buffers name them,
-#: except `object`, in which each value has a type of its own
-_READ = (
-    "double|large_string|string_view|format '(@?[nN]|[@=<>!]?[bBhHiIlLqQduwOZ])'"
-    "|(?i:u?int(8|16|32|64)|float64|str(ing(dtype)?)?[0-9]*)"
-)
+#: except `object`, in which each value has a type of its own. Numbers are read only in a unit.
+_TEXTS = "large_string|string_view|format '[@=<>!]?[uwOZ]'|(?i:str(ing(dtype)?)?[0-9]*)"
+INTEGERS = "format '(@?[nN]|[@=<>!]?[bBhHiIlLqQ])'|(?i:u?int(8|16|32|64))"
+_NUMBERS = f"{INTEGERS}|double|format '[@=<>!]?d'|(?i:float64)"
 
 
 def _type_of_values(dtype: Any) -> Any:
@@ -72,8 +71,34 @@ def stand_in(name: str) -> Any | None:
     takes the place of each value. The object's type has this name, so errors say it."""
     import re
 
-    is_read = name == "object" or re.fullmatch(_READ, name)
+    is_read = name == "object" or re.fullmatch(f"{_TEXTS}|{_NUMBERS}", name)
     return None if is_read else type(name, (), {})()
+
+
+def is_missing(value: Any) -> bool:
+    """Returns whether a value is None, NaT, a float that is NaN, or, if pandas is imported, another
+    value that pandas takes for missing."""
+    numpy: Any = sys.modules.get("numpy")
+    pandas: Any = sys.modules.get("pandas")
+    if pandas is not None:
+        return value is None or pandas.isna(value) is True
+    kinds: Any = (float, numpy.floating, numpy.datetime64, numpy.timedelta64) if numpy else float
+    return value is None or (isinstance(value, kinds) and bool(value != value))
+
+
+def check_type(values: list[Any], name: str, takes_numbers: bool) -> None:
+    """`name` is the name of the items' type. Raises DurationTypeError if no value of this type is
+    read, and there is a value. Otherwise a whole column would be lost without a word."""
+    import re
+
+    is_number = re.fullmatch(_NUMBERS, name)
+    if name == "object" or re.fullmatch(_TEXTS, name) or (is_number and takes_numbers):
+        return
+    index = next((at for at, value in enumerate(values) if not is_missing(value)), None)
+    if index is not None:
+        error = type_error_of(values[index], takes_numbers, index)
+        hint = ", or read the column as texts, in pandas by dtype=str" if is_number else ""
+        raise DurationTypeError(f"{error}{hint}")
 
 
 def values_of(texts: Any, name: str) -> list[Any]:
@@ -175,7 +200,9 @@ def parse_many(
 
     With `errors="coerce"` it returns two arrays. The first has the values, and
     0 for each text or number that is refused and for any other value. The
-    second has the positions of these zeros.
+    second has the positions of these zeros. But a column whose type is never
+    read, such as an array of integers without a default unit, raises
+    DurationTypeError even then.
 
     >>> duration_str.parse_many(["1s", "2m"])
     array('Q', [1000000000, 120000000000])
@@ -193,7 +220,10 @@ def parse_many(
         more_names=more_names,
         default_unit=default_unit,
     )
-    given = values_of(texts, type_name(texts))
+    name = type_name(texts)
+    given = values_of(texts, name)
+    if not raises:
+        check_type(given, name, reading[1])
     nanos = zeros(len(given))
     refused = _native.read_list(given, nanos, reading, raises, 0, None)
     return nanos if raises else (nanos, array("Q", refused))
