@@ -508,3 +508,17 @@ class Printing(unittest.TestCase):
                 format_many(column)
         with self.assertRaisesRegex(ValueError, "^at index 0: "):
             format_many(pandas.Series([pandas.Timedelta(-1)]))
+
+    def test_prints_what_it_can_if_errors_are_coerced(self):
+        column = pandas.Series([pandas.Timedelta(90, "s"), pandas.Timedelta(-1), pandas.NaT])
+        printed = format_many(column, errors="coerce")
+        pandas.testing.assert_series_equal(printed, pandas.Series(["1min 30s", None, None]))
+        values = [-1, "1s", 5, None]
+        self.assertEqual(format_many(values, errors="coerce"), [None, None, "5ns", None])
+        many = [-1, 5] * 2_000
+        self.assertEqual(format_many(many, errors="coerce"), [None, "5ns"] * 2_000)
+        for values in [[1.0], [float("nan"), 1.0]]:
+            with self.assertRaisesRegex(TypeError, f"^at index {len(values) - 1}: .* not float: "):
+                format_many(numpy.array(values), errors="coerce")
+        with self.assertRaisesRegex(ValueError, "^errors must be 'raise' or 'coerce', not "):
+            format_many([1], errors="ignore")

@@ -11,6 +11,7 @@ from typing import TYPE_CHECKING, Any, overload
 
 from . import _native
 from ._columns import (
+    INTEGERS,
     Errors,
     check_type,
     is_missing,
@@ -252,9 +253,11 @@ def format_many(
     smallest: Unit = "ns",
     rounding: Rounding | None = None,
     style: Style = "short",
+    errors: Errors = "raise",
 ) -> Any:
     """Prints a column of durations, each as `format` does. A duration is an
-    int of nanoseconds or a timedelta. The options are those of `format`.
+    int of nanoseconds or a timedelta. Except for `errors`, the options are
+    those of `format`.
 
     For a list or a generator it returns a list of str. For a Series, an Index
     or a NumPy array it returns the same kind of column, with the same shape,
@@ -263,14 +266,18 @@ def format_many(
     weeks to nanoseconds. Missing values, such as None, NaN and NaT, become
     None.
 
-    It raises the errors of `format`. The error of a value says the value's
-    position.
+    With `errors="raise"` it raises the errors of `format`. The error of a
+    value says the value's position. With `errors="coerce"` a value that
+    `format` refuses, such as a negative duration, becomes None. But a column
+    whose type is never printed, such as one of floats, raises TypeError even
+    then.
 
     >>> duration_str.format_many([90 * 10**9, None])
     ['1min 30s', None]
     >>> duration_str.format_many([90 * 10**9, None], largest="s")
     ['90s', None]
     """
+    raises = raises_errors(errors)
     limits = _native.limits(
         parts=parts,
         units=units,
@@ -286,12 +293,15 @@ def format_many(
     else:
         given = _durations(values) if hasattr(values, "__array__") else list(values)
     texts: list[str | None] = []
-    try:
-        _native.format_list(
-            given, lambda value: None if is_missing(value) else nanos_of(value), texts, limits
-        )
-    except (OverflowError, TypeError, ValueError) as error:
-        raise type(error)(f"at index {len(texts)}: {error}") from None
+    raises = raises or not _has_printed_type(values)
+    while len(texts) < len(given):
+        try:
+            # The list goes on after the texts that it has.
+            _native.format_list(given, _nanos_or_none, texts, limits)
+        except (OverflowError, TypeError, ValueError) as error:
+            if raises:
+                raise type(error)(f"at index {len(texts)}: {error}") from None
+            texts.append(None)
     if not hasattr(values, "__array__"):
         return texts
     import numpy
@@ -299,6 +309,20 @@ def format_many(
     result = numpy.empty(len(texts), dtype=object)
     result[:] = texts
     return _like(values, result)
+
+
+def _nanos_or_none(value: Any) -> int | None:
+    return None if is_missing(value) else nanos_of(value)
+
+
+def _has_printed_type(values: Any) -> bool:
+    """Returns whether some values of the column's type are printed."""
+    import re
+
+    name = type_name(values)
+    return (
+        name == "object" or name.partition("[")[0] in _LENGTHS or bool(re.fullmatch(INTEGERS, name))
+    )
 
 
 def _durations(values: Any) -> list[Any]:

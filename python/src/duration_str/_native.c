@@ -744,15 +744,16 @@ static int end_turn(void) {
 }
 
 /* format_list(values, function, texts, limits): appends the text of each value, or None if the
- * value is missing, to `texts`. After an error of a value, the length of `texts` is the value's
- * position. */
+ * value is missing, to `texts`. If `texts` isn't empty, it begins with the value at the position
+ * that is their number. After an error of a value, the length of `texts` is the value's position.
+ */
 static PyObject *format_list(PyObject *self, PyObject *arguments) {
     PyObject *values, *function, *texts;
     struct limits limits;
     if (!PyArg_ParseTuple(arguments, "O!OO!(IIII)", &PyList_Type, &values, &function, &PyList_Type,
             &texts, &limits.units, &limits.parts, &limits.rounding, &limits.style))
         return NULL;
-    for (Py_ssize_t at = 0; at < PyList_Size(values); at++) {
+    for (Py_ssize_t at = PyList_Size(texts); at < PyList_Size(values); at++) {
         PyObject *value = Py_NewRef(PyList_GetItem(values, at));
         PyObject *text = text_of_value(PyModule_GetState(self), value, function, &limits);
         const int failed = !text || PyList_Append(texts, text);
