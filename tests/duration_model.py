@@ -360,13 +360,43 @@ class Commands(Texts):
         edges = [self.choice((b"", b"", b"", b" ", b'"', b'" ', b"\r")) for _ in range(2)]
         return edges[0] + divider.join(fields) + edges[1]
 
+    def column(self, options):
+        """Lines whose durations are read, and whose sum is often near the limit. In their other
+        fields, a delimiter can stand within quotation marks."""
+        most = self.choice((reference.LIMIT, reference.LIMIT, self.random.randrange(1, 2**64)))
+        total = max(0, most + self.random.randint(-2, 2))
+        cuts = sorted(self.random.randint(0, total) for _ in range(self.choice((0, 1, 4, 19))))
+        lines = [b"name,keep"] * options.get("header", 0)
+        for begin, end in zip([0, *cuts], [*cuts, total]):
+            text = self.choice((f"{end - begin}ns", reference.print_whole(end - begin)))
+            lines.append(self.row(text, options).encode() if "field" in options else text.encode())
+        return lines
+
+    def row(self, text, options):
+        """A line with the text as the chosen field. Only within quotation marks, a field can contain
+        the delimiter."""
+        delimiter = options.get("delimiter")
+        others = ["x"] if delimiter is None else ["", "x", f'"{delimiter}"', f'"{delimiter}5m"']
+        if delimiter in (" ", "\t"):
+            text = f'"{text.replace(" ", delimiter)}"'
+        elif delimiter is None:
+            text = text.replace(" ", "")
+        elif self.chance(50):
+            text = f'"{text}"'
+        fields = self.random.choices(others, k=options["field"] - 1)
+        fields += [text, *self.random.choices(others, k=self.choice((0, 0, 2)))]
+        return (delimiter or self.choice(" \t")).join(fields)
+
     def marked(self, field, divider):
         """A field in quotation marks, as CSV has it, or nearly so."""
         inside = (field, b"x" + divider + field, b'""' + divider + field + b'""', field + b'"x')
         return b'"' + self.choice(inside) + self.choice((b'"', b'"', b'"', b'" ', b""))
 
     def data(self, options):
-        lines = [self.line(options) for _ in range(self.choice((0, 1, 2, 5, 20, 40)))]
+        if "sum" in options and options.get("delimiter") not in ('"', "5") and self.chance(70):
+            lines = self.column(options)
+        else:
+            lines = [self.line(options) for _ in range(self.choice((0, 1, 2, 5, 20, 40)))]
         if self.chance(5 if {"field", "header"} & set(options) else 0.5):
             lines.insert(
                 self.choice((0, 1, 99)),
@@ -383,7 +413,7 @@ class Commands(Texts):
             "decimals": 40,
             "quiet": 4,
             "json": 12,
-            "sum": 5,
+            "sum": 10,
         }
         likely["pattern"] = 2
         options = {
@@ -391,6 +421,8 @@ class Commands(Texts):
             for name in (*VALUES, "units")
             if self.chance(likely.get(name, 20))
         }
+        if "sum" in options and self.chance(50):
+            options |= {name: self.value(name) for name in ("field", "delimiter")}
         if "pattern" in options and self.chance(80):
             options = {name: value for name, value in options.items() if name in WITH_PATTERN}
         data = self.data(options)
@@ -415,7 +447,10 @@ def run(words, options, data, cuts):
     clock.start()
     output = b""
     for begin, end in zip(cuts, cuts[1:]):
-        process.stdin.write(data[begin:end])
+        try:
+            process.stdin.write(data[begin:end])
+        except BrokenPipeError:  # It was killed, since it answered too little.
+            break
         answers = wanted(options, [], data[: data.rfind(end_of(options), 0, end) + 1]).output
         while len(output) < len(answers) and (
             part := process.stdout.read(len(answers) - len(output))
