@@ -227,8 +227,8 @@ pub use duration_str_core::{
     ONE_LINE_BUFFER_SIZE, Options, Rounding, Rules, Style, TimeUnit, Units, UnknownStyle,
     UnknownUnit, write_format, write_human, write_rounded,
 };
-// `MAX_LONG_LEN`, `MAX_PRINTED_LEN`, `UNITS` and `round_to`, below, are hidden, since only the
-// core's documentation names them.
+// `MAX_LONG_LEN`, `MAX_PRINTED_LEN`, `UNITS` and `round_to`, below, are hidden, since programs that
+// use this crate don't need them. Examples in the core's documentation take some of them from here.
 #[cfg(feature = "serde")]
 #[allow(deprecated)]
 pub use self::serde::original::{
