@@ -38,7 +38,9 @@ pub struct Choices {
     #[arg(long, value_name = "N", requires = "to", conflicts_with_all = SHAPES,
         value_parser = up_to_nine)]
     decimals: Option<u8>,
-    /// Round durations that can't be printed exactly: down, to the nearest, or up
+    /// Round durations that can't be printed exactly: down, to the nearest, or up. Without it, what
+    /// doesn't fit is left out. What the parts leave out stays the rest_ns of --json, and down
+    /// makes it 0
     #[arg(long, value_name = "WAY")]
     round: Option<Round>,
     /// Read a number without a unit in this unit; a text that is only a number may be 12.5 or
