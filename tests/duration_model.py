@@ -197,9 +197,7 @@ def said_of(line, options, where, before=None):
     elif where.startswith("line"):
         ending = b"" if "zero-terminated" in options else b"\r"
         line = b"" if too_long else line.removesuffix(ending)
-    answer = (
-        refused("NO_FIELD", "no such field") if begin is None else read(line[begin:end], options)
-    )
+    answer = refused("", "no such field") if begin is None else read(line[begin:end], options)
     answer = refused("LINE_TOO_LONG", "line of over 1,048,576 bytes") if too_long else answer
     if "json" in options:
         output = json_object(line.decode(errors="replace"), answer, options, where).encode()

@@ -197,7 +197,8 @@ impl Run<'_> {
     fn line(&mut self, line: &[u8], number: u64) -> io::Result<()> {
         let Some([before, text, after]) = self.cut(line) else {
             return self.refuse(
-                Refusal::new("NO_FIELD", "no such field"),
+                // Only `--json` shows the cause, and `--field` can't be given with it.
+                Refusal::new("", "no such field"),
                 [b"", line, b""],
                 number,
             );
