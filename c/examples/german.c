@@ -50,10 +50,23 @@ static size_t column_of(const char *text, size_t place) {
     return column;
 }
 
-static void say_quoted(const char *token, size_t length) {
-    printf("„");
-    fwrite(token, 1, length, stdout);
-    printf("“");
+/* On a terminal, other characters can hide the line or change its order. */
+static bool is_printable_ascii(const char *token, size_t length) {
+    for (size_t at = 0; at < length; at++)
+        if (token[at] < ' ' || token[at] > '~')
+            return false;
+    return true;
+}
+
+static void say_found(const char *token, size_t length) {
+    if (length == 0)
+        printf("das Ende");
+    else if (is_printable_ascii(token, length)) {
+        printf("„");
+        fwrite(token, 1, length, stdout);
+        printf("“");
+    } else
+        printf("etwas anderes");
 }
 
 static void say_problem(const char *text, struct duration_str_answer answer) {
@@ -72,10 +85,7 @@ static void say_problem(const char *text, struct duration_str_answer answer) {
         break;
     case DURATION_STR_CAUSE_SYNTAX:
         printf("Spalte %zu: ", column_of(text, answer.place));
-        if (answer.found_length == 0)
-            printf("das Ende");
-        else
-            say_quoted(text + answer.place, answer.found_length);
+        say_found(text + answer.place, answer.found_length);
         say_expected(answer.expected);
         break;
     default:

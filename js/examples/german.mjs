@@ -31,13 +31,18 @@ const HELPS = {
     LARGE_NUMBER: "mit Einheit, etwa ns",
 };
 
+function shown(token) {
+    if (token === null) return "das Ende";
+    // On a terminal, these characters can hide the line or change its order.
+    return /[\p{C}\p{Z}]/u.test(token) ? "etwas anderes" : `„${token}“`;
+}
+
 function problem({ code, text, index, found, expected }) {
     if (code !== "SYNTAX") return CAUSES[code];
     const column = Array.from(text.slice(0, index)).length + 1;
-    const shown = found === null ? "das Ende" : `„${found}“`;
     const kinds = Object.keys(EXPECTED).filter((kind) => expected[kind]);
     const wanted = kinds.map((kind) => EXPECTED[kind]).join(" oder ");
-    return `Spalte ${column}: ${shown} statt ${wanted}`;
+    return `Spalte ${column}: ${shown(found)} statt ${wanted}`;
 }
 
 export function inGerman(fault) {

@@ -38,12 +38,18 @@ HELPS = {
 }
 
 
+def shown(token):
+    if token is None:
+        return "das Ende"
+    # On a terminal, other characters can hide the line or change its order.
+    return f"„{token}“" if token.isprintable() else "etwas anderes"
+
+
 def problem(error):
     if error.cause != Cause.SYNTAX:
         return CAUSES[error.cause]
-    shown = "das Ende" if error.found is None else f"„{error.found}“"
     wanted = " oder ".join(EXPECTED[kind] for kind in EXPECTED if kind in error.expected)
-    return f"Spalte {error.pos + 1}: {shown} statt {wanted}"
+    return f"Spalte {error.pos + 1}: {shown(error.found)} statt {wanted}"
 
 
 def in_german(error):
