@@ -83,6 +83,9 @@ static void say_problem(const char *text, struct duration_str_answer answer) {
     case DURATION_STR_CAUSE_MIXED:
         printf("Summe und Produkt gemischt");
         break;
+    case DURATION_STR_CAUSE_NOT_TEXT:
+        printf("kein UTF-8");
+        break;
     case DURATION_STR_CAUSE_SYNTAX:
         printf("Spalte %zu: ", column_of(text, answer.place));
         say_found(text + answer.place, answer.found_length);
@@ -97,8 +100,10 @@ static void say_problem(const char *text, struct duration_str_answer answer) {
 static void say(const char *text, size_t length, uint32_t options) {
     struct duration_str_answer answer;
     char suggestion[DURATION_STR_SUGGESTION_BUFFER_SIZE];
+    char printed[DURATION_STR_FORMAT_BUFFER_SIZE];
     if (duration_str_parse_with(text, length, options, &answer)) {
-        printf("%g s\n", answer.nanos / 1e9);
+        duration_str_format(answer.nanos, printed);
+        puts(printed);
         return;
     }
     say_problem(text, answer);
