@@ -141,7 +141,7 @@ unsafe extern "C" fn duration_str_help(
     out: Option<&mut MaybeUninit<[u8; 4]>>,
 ) -> u32 {
     let (text, mut number) = (unsafe { bytes(text, len) }, 0);
-    written(out.unwrap_or(&mut MaybeUninit::uninit()), |buffer| {
+    written(out.unwrap_or(&mut MaybeUninit::zeroed()), |buffer| {
         number = help::duration_str_help(text, bits, buffer);
         buffer.iter().take_while(|byte| **byte != 0).count()
     });
