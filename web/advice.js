@@ -22,9 +22,10 @@ function mend(text, options) {
     const { fault } = tryParseNs(text, options);
     if (fault?.help === "ZERO") return "0s";
     if (!fault?.suggestion) return text;
-    // Letters that no unit has are not in `found`, such as those after a Greek mu.
-    const mended = text.slice(fault.index).replace(/^\p{L}+/u, fault.suggestion);
-    return mend(text.slice(0, fault.index) + mended, options);
+    const { index, found, suggestion } = fault;
+    // The letters after a Greek mu are not in `found`, but belong to the word.
+    const [word] = /^μ[A-Za-z]*/.exec(text.slice(index)) ?? [found];
+    return mend(text.slice(0, index) + suggestion + text.slice(index + word.length), options);
 }
 
 /** The options, and then those with changes by which more texts are read. Of two that both read a

@@ -100,6 +100,7 @@ REFUSED = [
     ("5小时", "", ["小时"], []),
     ("5μs", "", ["μs"], ["5us", "5 microseconds"]),
     ("5 μseconds", "more_names", ["μseconds"], ["5 us", "5 microseconds"]),
+    ("5 minsª", "", ["minsª"], []),
     ("13mxyz", "", ["mxyz"], []),
     ("1h, 30m", "", [","], []),
     ("1.5h", "", ["."], []),
