@@ -173,6 +173,8 @@ class Kinds(unittest.TestCase):
         with self.subTest(type=type(values), dtype=getattr(values, "dtype", None)):
             answer = numpy.asarray(to_timedelta(values, default_unit="ms"))
             self.assertEqual(numpy.isnat(answer).tolist(), [True])
+            refused = (array.array("Q", [0]), array.array("Q", [0]))
+            self.assertEqual(parse_many(values, default_unit="ms", errors="coerce"), refused)
 
     def test_judges_types_by_their_whole_names(self):
         for name in [
@@ -250,6 +252,7 @@ class Kinds(unittest.TestCase):
 
     @unittest.skipUnless(numpy, "NumPy or pandas is missing")
     def test_keeps_missing_values_of_each_type(self):
+        self.check_missing(array.array("f", [float("nan")]))
         for values in of_pandas():
             missing = pandas.array([None], dtype=values.dtype)
             for column in (missing, pandas.Series(missing), pandas.Categorical(missing)):

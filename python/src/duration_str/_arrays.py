@@ -19,6 +19,7 @@ from ._columns import (
     stand_in,
     type_name,
     values_of,
+    with_gaps,
     zeros,
 )
 from ._lists import Rounding, Style, Unit
@@ -44,13 +45,14 @@ def _missing_in(values: Any) -> Any:
     return array != array if array.dtype.kind in "cfM" else numpy.zeros(array.shape, bool)
 
 
-def _flat(values: Any, name: str) -> list[Any]:
-    """`name` is the name of the items' type. If the type is not read, the list has stand-ins."""
+def flat_values(values: Any, name: str) -> list[Any]:
+    """`name` is the name of the items' type. If the type is not read, the list has None for each
+    missing value, and a stand-in for each other one."""
     import numpy
 
     has_dtype = hasattr(values, "dtype")
     if not has_dtype and not hasattr(values, "to_pylist"):
-        return values_of(values, name)
+        return with_gaps(values, values_of(values, name), name)
     if (refused := stand_in(name)) is not None:
         missing = _missing_in(values)
         flat: Any = numpy.full(missing.shape, refused, dtype=object)
@@ -231,7 +233,7 @@ def to_timedelta(
     name = "object" if is_one else type_name(values)
     if name.partition("[")[0] in _LENGTHS:
         return _nanos_of_lengths(values, _lengths(values), raises)
-    texts = [values] if is_one else _flat(values, name)
+    texts = [values] if is_one else flat_values(values, name)
     if not raises:
         check_type(texts, name, reading[1])
     nanos = zeros(len(texts))
@@ -328,7 +330,7 @@ def _has_printed_type(values: Any) -> bool:
 def _durations(values: Any) -> list[Any]:
     """The values of a timedelta64 column become ints of nanoseconds. A missing one becomes None."""
     if (name := type_name(values)).partition("[")[0] not in _LENGTHS:
-        return _flat(values, name)
+        return flat_values(values, name)
     lengths = _lengths(values)
     step = nanos_a_step(lengths.dtype)
     numbers: list[int] = lengths.astype("int64").ravel().tolist()

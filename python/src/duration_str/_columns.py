@@ -122,6 +122,22 @@ def values_of(texts: Any, name: str) -> list[Any]:
     return list(texts)
 
 
+def with_gaps(column: Any, values: list[Any], name: str) -> list[Any]:
+    """`values` are those that `values_of` returns. Returns them with None in place of each stand-in
+    for a missing value."""
+    if stand_in(name) is None:
+        return values
+    if "numpy" in sys.modules and (hasattr(column, "dtype") or hasattr(column, "to_pylist")):
+        from ._arrays import flat_values
+
+        return flat_values(column, name)
+    try:
+        missing = list(map(is_missing, column))
+    except NotImplementedError:  # A memoryview returns no values of some types.
+        return values
+    return [None if is_gap else value for is_gap, value in zip(missing, values)]
+
+
 def zeros(count: int) -> array[int]:
     return array("Q", (0,)) * count
 
@@ -202,7 +218,7 @@ def parse_many(
     0 for each text or number that is refused and for any other value. The
     second has the positions of these zeros. But a column whose type is never
     read, such as an array of integers without a default unit, raises
-    DurationTypeError even then.
+    DurationTypeError even then, unless all its values are missing.
 
     >>> duration_str.parse_many(["1s", "2m"])
     array('Q', [1000000000, 120000000000])
@@ -223,7 +239,7 @@ def parse_many(
     name = type_name(texts)
     given = values_of(texts, name)
     if not raises:
-        check_type(given, name, reading[1])
+        check_type(with_gaps(texts, given, name), name, reading[1])
     nanos = zeros(len(given))
     refused = _native.read_list(given, nanos, reading, raises, 0, None)
     return nanos if raises else (nanos, array("Q", refused))
