@@ -136,7 +136,8 @@ def in_rust():
         before = f"const {constant}: [&str; "
         yield name, before, "];", f"{len(items)}] = [{quoted(items)}"
     helps = "\n".join(f'    "{each}",' for each in HELPS)
-    yield name, "const HELPS: [&str; ", "\n];", f"{len(HELPS)}] = [\n{helps}"
+    for place in (name, "rust/tests/all/faults.rs"):
+        yield place, "const HELPS: [&str; ", "\n];", f"{len(HELPS)}] = [\n{helps}"
     yield name, "const SENTENCES: [&str; 4] = [\n", "\n];", rows(SENTENCES)
     yield name, "const UNIT_PATTERNS: [&str; 8] = [\n", "\n];", rows(UNIT_PATTERNS)
 
