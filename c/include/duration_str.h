@@ -272,11 +272,11 @@ enum duration_str_style {
     DURATION_STR_STYLE_LONG = 2     /* `1 hour 30 minutes` */
 };
 
-/* To which duration another one is rounded before it is printed or broken
- * down: to one whose text in the same units and parts leaves nothing out, and
- * that so has no rest. */
+/* How a duration is rounded before it is printed or broken down. It becomes one
+ * whose text in the same units and parts leaves nothing out. So it has no
+ * rest. */
 enum duration_str_rounding {
-    /* to none: what doesn't fit into the units and parts is the rest */
+    /* not at all: what doesn't fit into the units and parts is the rest */
     DURATION_STR_ROUNDING_NONE = 0,
     /* to the longest one that is not above it, which has the same text */
     DURATION_STR_ROUNDING_DOWN = 1,
