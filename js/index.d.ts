@@ -218,7 +218,7 @@ interface Refused {
     readonly expected: Expected;
     /** What the user may have meant, or should write instead. It is null if no help applies. */
     readonly help: Help | null;
-    /** The unit, such as `min` for `5 mins`, if the help is `DID_YOU_MEAN`. Otherwise it is null. */
+    /** The unit, such as `min` for `5 mins`, if the help is `DID_YOU_MEAN`, and otherwise null. */
     readonly suggestion: Suggestion | null;
 }
 
@@ -400,9 +400,9 @@ export function pattern(options?: Options): string;
  * less than 1e-10 ns below it may be rounded up too.
  *
  * @throws RangeError if the number is negative, 2^64 nanoseconds or more, NaN or infinite. It is
- * also thrown if the name of a unit, a rounding or a style is unknown, if `parts` is neither a whole
- * number from 1 on nor `Infinity`, if the largest unit is shorter than the smallest, or if `units`
- * is empty or has no unit from the largest to the smallest.
+ * also thrown if the name of a unit, a rounding or a style is unknown, if `parts` is neither a
+ * whole number from 1 on nor `Infinity`, if the largest unit is shorter than the smallest, or if
+ * `units` is empty or has no unit from the largest to the smallest.
  * @throws TypeError if the duration is not a number, if the format is not a plain object, or if an
  * option is unknown or has the wrong type
  */

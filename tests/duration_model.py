@@ -371,8 +371,8 @@ class Commands(Texts):
         return lines
 
     def row(self, text, options):
-        """A line with the text as the chosen field. Only within quotation marks, a field can contain
-        the delimiter."""
+        """A line with the text as the chosen field. Only within quotation marks, a field can
+        contain the delimiter."""
         delimiter = options.get("delimiter")
         others = ["x"] if delimiter is None else ["", "x", f'"{delimiter}"', f'"{delimiter}5m"']
         if delimiter in (" ", "\t"):

@@ -82,8 +82,8 @@ finds() {
 # can WHAT NEED WORDS..: returns whether the words succeed. If they fail, NEED says what is missing
 can() { "${@:3}" >/dev/null 2>&1 || skips "$1" "missing: $2"; }
 
-# lints WHAT WORDS..: runs these words, which run clippy, as a step. The step is skipped if clippy is
-# missing, or if it is another compiler's: then it can't use the crates that rustc has compiled
+# lints WHAT WORDS..: runs these words, which run clippy, as a step. The step is skipped if clippy
+# is missing, or if it is another compiler's: then it can't use the crates that rustc has compiled
 lints() {
     can "$1" 'clippy (make setup all=yes; or rustup component add clippy)' cargo clippy --version ||
         return

@@ -1,9 +1,9 @@
 // Tests the types of the package by the compiler alone.
 import {
     type Breakdown, breakdown, DurationError, type Expected, type Fault, formatNs, format,
-    type Format, type Help, type Options, parseNs, parse, type Part, type PartFormat, type Parts, parts,
-    pattern, type PrintedUnit, type Refusal, type Suggestion, tryParseNs, tryParse, type Unit,
-    version,
+    type Format, type Help, type Options, parseNs, parse, type Part, type PartFormat, type Parts,
+    parts, pattern, type PrintedUnit, type Refusal, type Suggestion, tryParseNs, tryParse,
+    type Unit, version,
 } from "duration-str";
 
 const options: Options = { noCalc: true, lowercase: false, cnUnit: undefined, requireUnit: true };

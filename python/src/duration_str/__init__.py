@@ -149,8 +149,8 @@ _own(globals())
 format.__module__ = __name__
 
 if not TYPE_CHECKING:
-    # All of these modules but `_help` need the module typing, which takes longer to import than this
-    # package. So the modules are imported when one of their items is used.
+    # All of these modules except `_help` need the module typing, which takes longer to import than
+    # this package. So the modules are imported when one of their items is used.
     _LATER = ("_help", "_lists", "_parts", "_pattern", "_columns", "_arrays", "_models")
 
     def __getattr__(name):

@@ -56,8 +56,8 @@ def type_name(values: Any) -> str:
     try:
         with memoryview(values) as buffer:
             name = f"format {buffer.format!r}"
-            # An array reads its own texts and objects, but neither `tolist` nor `struct` does. Unions
-            # and packed structures of ctypes name the format of one byte.
+            # An array reads its own texts and objects, but neither `tolist` nor `struct` does.
+            # Unions and packed structures of ctypes name the format of one byte.
             is_unread = isinstance(values, memoryview) and (
                 buffer.format[-1] in "uwOZ" or (buffer.format == "B" and buffer.itemsize != 1)
             )

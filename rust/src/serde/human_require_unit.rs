@@ -2,8 +2,8 @@
 //! but refuses a number without a unit, as in `"90"` and `"1h 30"`. Such a number may have been
 //! meant in milliseconds.
 //!
-//! [`parse_require_unit`](crate::parse_require_unit) reads the texts. The fields have the same types
-//! as those of [`human`], and are written in the same way.
+//! [`parse_require_unit`](crate::parse_require_unit) reads the texts. The fields have the same
+//! types as those of [`human`], and are written in the same way.
 //!
 //! This module needs the feature `serde`.
 //!
