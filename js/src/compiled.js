@@ -6,15 +6,17 @@ import reading from "read.txt";
 const ADVICE = "allow 'wasm-unsafe-eval' in the content security policy, lift --jitless or the "
     + "limit of the address space, or import duration-str/plain";
 
-/** js/build writes a byte as one or two ASCII characters, which takes fewer bytes in a bundle after
- * gzip than base64, or than one character for each byte. */
+/** js/build writes the bytes from -2 to 66 and from 105 to 128, which are the most frequent, as one
+ * ASCII character, and any other byte as two. After gzip a bundle then has fewer bytes than with
+ * base64, or with one character for each byte. */
 function bytesOf(text) {
     const bytes = new Uint8Array(text.length);
     let end = 0;
     for (let place = 0; place < text.length; place++) {
-        let code = text.charCodeAt(place) - 32;
-        if (code > 92) code = 93 * (code - 92) + text.charCodeAt(++place) - 32;
-        bytes[end++] = code - 5;
+        let byte = text.charCodeAt(place) - 34;
+        if (byte > 90) byte = 95 * (byte - 91) + text.charCodeAt(++place) + 34;
+        else if (byte > 66) byte += 38;
+        bytes[end++] = byte;
     }
     return bytes.subarray(0, end);
 }
