@@ -241,9 +241,6 @@ fn put_text(buffer: &mut [u8], at: usize, text: &str) -> Option<usize>
     requires { at ≤ length buffer.old }
     ensures { IsInFront (take at buffer.old ++ text.now) result buffer.new }
 {
-    if text.is_empty() {
-        return Some(at);
-    }
     put(buffer, at, text.as_bytes())
 }
 

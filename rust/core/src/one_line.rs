@@ -179,9 +179,6 @@ fn put_column(buffer: &mut [u8], at: usize, column: usize) -> Option<usize> {
 }
 
 fn put_text(buffer: &mut [u8], at: usize, text: &str) -> Option<usize> {
-    if text.is_empty() {
-        return Some(at);
-    }
     put(buffer, at, text.as_bytes())
 }
 
