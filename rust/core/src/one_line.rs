@@ -116,11 +116,15 @@ fn put_overflow(buffer: &mut [u8], text: &str) -> Option<usize> {
 }
 
 fn put_overflow_problem(buffer: &mut [u8], text: &str) -> Option<usize> {
-    if text.as_bytes().contains(&b'*') {
+    if has_star(text.as_bytes()) {
         put_text_problem(buffer, "step of over 584 years", text)
     } else {
         put_text_problem(buffer, "duration of over 584 years", text)
     }
+}
+
+fn has_star(bytes: &[u8]) -> bool {
+    bytes.iter().any(|b| *b == b'*')
 }
 
 fn put_text_problem(buffer: &mut [u8], problem: &str, text: &str) -> Option<usize> {
