@@ -7,7 +7,6 @@ ghost use Rattle.duration_str.specs.Internal.Writing.{IsWritten};
 ghost use Rattle.duration_str.specs.Messages.{byte_text, caret_text, chars_before, message_of, line_of, laid_out};
 
 use crate::fault::Fault;
-use crate::printing::put_number;
 use crate::slice::range_to;
 use std::fmt;
 
@@ -166,7 +165,7 @@ fn put_spaces(buffer: &mut [u8], at: usize, count: usize) -> Option<usize>
     Some(end)
 }
 
-#[tactic(auto, using(crate::proofs::Printer::DigitLemmas::short_decimal, std::proofs::lemmas::Fmt::decimal_digit))]
+#[tactic(auto, using(std::proofs::lemmas::Fmt::decimal_digit))]
 pub(crate) fn put_decimal(buffer: &mut [u8], at: usize, number: usize) -> Option<usize>
     requires { at ≤ length buffer.old }
     ensures { IsInFront (take at buffer.old ++ decimal number) result buffer.new }
@@ -174,9 +173,8 @@ pub(crate) fn put_decimal(buffer: &mut [u8], at: usize, number: usize) -> Option
     if number < 10 {
         return put(buffer, at, &[b'0' + number as u8]);
     }
-    let mut digits = [0; 64];
-    let end = put_number(&mut digits, 0, number as u64);
-    put(buffer, at, &digits[..end])
+    let end = put_decimal(buffer, at, number / 10)?;
+    put_decimal(buffer, end, number % 10)
 }
 
 /// What a message is written to.

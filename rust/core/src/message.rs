@@ -2,7 +2,6 @@
 //! The message of a fault, and its layout.
 
 use crate::fault::Fault;
-use crate::printing::put_number;
 use crate::slice::range_to;
 use core::fmt;
 
@@ -125,9 +124,8 @@ pub(crate) fn put_decimal(buffer: &mut [u8], at: usize, number: usize) -> Option
     if number < 10 {
         return put(buffer, at, &[b'0' + number as u8]);
     }
-    let mut digits = [0; 64];
-    let end = put_number(&mut digits, 0, number as u64);
-    put(buffer, at, &digits[..end])
+    let end = put_decimal(buffer, at, number / 10)?;
+    put_decimal(buffer, end, number % 10)
 }
 
 /// What a message is written to.

@@ -33,6 +33,3 @@ below_power = decimal_by_steps_wide (λ n ds. n < 10 ^ length ds) (λ n small. o
 
 pub length_smaller : (m n : ℕ) → m ≤ n → n < 10 ^ 64 → length (decimal m) ≤ length (decimal n)
 length_smaller m n h small = search (rules, below_power, length-decimal-le_wide, some_decimal)
-
-pub short_decimal : (n : ℕ) → n < 2 ^ 64 → length (decimal n) ≤ 20
-short_decimal n h = length-decimal-le_wide 20 n (omega arith) (omega arith) (omega arith)
