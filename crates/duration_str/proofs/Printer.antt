@@ -1,5 +1,6 @@
 pub mod MessageLemmas
 pub mod OneLineLemmas
+pub mod EscapeLemmas
 pub mod ReportLemmas
 pub mod SinkLemmas
 pub mod PrintingLemmas

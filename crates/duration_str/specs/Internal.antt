@@ -1,4 +1,5 @@
 -- Definitions for private contracts, such as what each step of cutting, reading or printing does.
+pub mod Escapes
 pub mod Numbers
 pub mod UnitTable
 pub mod Positions

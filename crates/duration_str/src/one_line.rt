@@ -4,13 +4,14 @@
 //! Each private function that writes returns the index where its part ends, or `None` if there is
 //! no room. So no contract requires room for a part. One proof, for the whole line, shows that
 //! everything fits.
-ghost use Rattle.std.specs.Prelude.{◌≡◌, ◌≤◌, ◌++◌, ◌+◌, ◌-◌, ◌&&◌, ◌==◌, not, slice_index, length, take, map, encode_utf8_all, IsTrue, ◌||◌, None, if◌then◌else◌};
-ghost use Rattle.std.specs.Char.{to_ascii_lowercase};
-ghost use Rattle.std.specs.Char.Escape.{escape_default};
+ghost use Rattle.std.specs.Prelude.{◌≡◌, ◌≤◌, ◌<◌, ◌++◌, ◌+◌, ◌-◌, ◌&&◌, ◌==◌, not, slice_index, length, take, map, encode_utf8_all, IsTrue, ◌||◌, None, if◌then◌else◌};
+ghost use Rattle.std.specs.Char.{digit_char, to_ascii_lowercase};
+ghost use Rattle.std.specs.Char.Escape.{escape_unicode, short_escape};
 ghost use Rattle.std.specs.List.{list_all, list_any};
 ghost use Rattle.std.specs.Str.{chars, bytes_eq, IsCharBoundary};
 ghost use Rattle.duration_str.specs.Buffers.{IsInFront};
 ghost use Rattle.duration_str.specs.Text.{is_blank, is_digit};
+ghost use Rattle.duration_str.specs.Internal.Escapes.{hex_digits};
 ghost use Rattle.duration_str.specs.Internal.Positions.{ahead};
 ghost use Rattle.duration_str.specs.Faults.{place_of};
 ghost use Rattle.duration_str.specs.Messages.{chars_before};
@@ -287,8 +288,10 @@ fn shown_len(c: char) -> usize
 {
     if is_clear(c) {
         1
+    } else if escape_letter(c) != 0 {
+        2
     } else {
-        c.escape_default().len()
+        4 + hex_len(c as u32)
     }
 }
 
@@ -297,23 +300,83 @@ fn put_shown(buffer: &mut [u8], at: usize, c: char) -> Option<usize>
     ensures { IsInFront (take at buffer.old ++ encode_utf8_all (shown c)) result buffer.new }
 {
     if is_clear(c) {
-        put_text(buffer, at, c.encode_utf8(&mut [0; 4]))
-    } else {
-        put_escaped(buffer, at, c)
+        return put_text(buffer, at, c.encode_utf8(&mut [0; 4]));
+    }
+    let letter = escape_letter(c);
+    if letter != 0 {
+        return put(buffer, at, &[b'\\', letter]);
+    }
+    put_code(buffer, at, c)
+}
+
+/// Returns the letter after the backslash in a character's escape, as in `\n`. If the escape is the
+/// character's code, as in `\u{1b}`, it returns 0.
+fn escape_letter(c: char) -> u8
+    ensures { result ≡ short_escape c }
+{
+    match c {
+        '\t' => b't',
+        '\r' => b'r',
+        '\n' => b'n',
+        '\'' => b'\'',
+        '"' => b'"',
+        '\\' => b'\\',
+        _ => 0,
     }
 }
 
-#[inline(always)]
-fn put_escaped(buffer: &mut [u8], at: usize, c: char) -> Option<usize>
+/// Writes the escape that is the character's code, as in `\u{1b}`.
+fn put_code(buffer: &mut [u8], at: usize, c: char) -> Option<usize>
     requires { at ≤ length buffer.old }
-    ensures { IsInFront (take at buffer.old ++ encode_utf8_all (escape_default c))
-        result buffer.new }
+    ensures { IsInFront (take at buffer.old ++ escape_unicode c) result buffer.new }
 {
-    let mut end = at;
-    for part in c.escape_default() {
-        end = put_text(buffer, end, part.encode_utf8(&mut [0; 4]))?;
+    let start = put(buffer, at, b"\\u{")?;
+    let end = put_hex(buffer, start, c as u32)?;
+    put(buffer, end, b"}")
+}
+
+/// Writes a number to the base 16.
+fn put_hex(buffer: &mut [u8], at: usize, n: u32) -> Option<usize>
+    requires room { at ≤ length buffer.old }
+    requires small { n < 0x100_0000 }
+    ensures { IsInFront (take at buffer.old ++ hex_digits n) result buffer.new }
+{
+    let end = if n < 16 {
+        at
+    } else {
+        put_hex(buffer, at, n / 16)?
+    };
+    put(buffer, end, &[hex_digit(n % 16)])
+}
+
+fn hex_digit(digit: u32) -> u8
+    requires { digit < 16 }
+    ensures { result ≡ digit_char digit }
+{
+    if digit < 10 {
+        b'0' + digit as u8
+    } else {
+        b'a' - 10 + digit as u8
     }
-    Some(end)
+}
+
+/// Returns how many digits a number below 2^24 has to the base 16.
+fn hex_len(n: u32) -> usize
+    ensures { result ≡ length (hex_digits n) }
+{
+    if n < 0x10 {
+        1
+    } else if n < 0x100 {
+        2
+    } else if n < 0x1000 {
+        3
+    } else if n < 0x1_0000 {
+        4
+    } else if n < 0x10_0000 {
+        5
+    } else {
+        6
+    }
 }
 
 pub(crate) fn is_clear(c: char) -> bool

@@ -216,26 +216,78 @@ fn are_clear(bytes: &[u8]) -> bool {
 fn shown_len(c: char) -> usize {
     if is_clear(c) {
         1
+    } else if escape_letter(c) != 0 {
+        2
     } else {
-        c.escape_default().len()
+        4 + hex_len(c as u32)
     }
 }
 
 fn put_shown(buffer: &mut [u8], at: usize, c: char) -> Option<usize> {
     if is_clear(c) {
-        put_text(buffer, at, c.encode_utf8(&mut [0; 4]))
-    } else {
-        put_escaped(buffer, at, c)
+        return put_text(buffer, at, c.encode_utf8(&mut [0; 4]));
+    }
+    let letter = escape_letter(c);
+    if letter != 0 {
+        return put(buffer, at, &[b'\\', letter]);
+    }
+    put_code(buffer, at, c)
+}
+
+/// Returns the letter after the backslash in a character's escape, as in `\n`. If the escape is the
+/// character's code, as in `\u{1b}`, it returns 0.
+fn escape_letter(c: char) -> u8 {
+    match c {
+        '\t' => b't',
+        '\r' => b'r',
+        '\n' => b'n',
+        '\'' => b'\'',
+        '"' => b'"',
+        '\\' => b'\\',
+        _ => 0,
     }
 }
 
-#[inline(always)]
-fn put_escaped(buffer: &mut [u8], at: usize, c: char) -> Option<usize> {
-    let mut end = at;
-    for part in c.escape_default() {
-        end = put_text(buffer, end, part.encode_utf8(&mut [0; 4]))?;
+/// Writes the escape that is the character's code, as in `\u{1b}`.
+fn put_code(buffer: &mut [u8], at: usize, c: char) -> Option<usize> {
+    let start = put(buffer, at, b"\\u{")?;
+    let end = put_hex(buffer, start, c as u32)?;
+    put(buffer, end, b"}")
+}
+
+/// Writes a number to the base 16.
+fn put_hex(buffer: &mut [u8], at: usize, n: u32) -> Option<usize> {
+    let end = if n < 16 {
+        at
+    } else {
+        put_hex(buffer, at, n / 16)?
+    };
+    put(buffer, end, &[hex_digit(n % 16)])
+}
+
+fn hex_digit(digit: u32) -> u8 {
+    if digit < 10 {
+        b'0' + digit as u8
+    } else {
+        b'a' - 10 + digit as u8
     }
-    Some(end)
+}
+
+/// Returns how many digits a number below 2^24 has to the base 16.
+fn hex_len(n: u32) -> usize {
+    if n < 0x10 {
+        1
+    } else if n < 0x100 {
+        2
+    } else if n < 0x1000 {
+        3
+    } else if n < 0x1_0000 {
+        4
+    } else if n < 0x10_0000 {
+        5
+    } else {
+        6
+    }
 }
 
 pub(crate) fn is_clear(c: char) -> bool {

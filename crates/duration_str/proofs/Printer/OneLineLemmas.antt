@@ -61,7 +61,7 @@ chosen b first second = search rules
 abbrev is_plain_byte : ℕ → Bool
 is_plain_byte b = nat_le 32 b && nat_lt b 127
 
-bytes_good : (bytes : List ℕ) → list_all is_plain_byte bytes ≡ true
+pub bytes_good : (bytes : List ℕ) → list_all is_plain_byte bytes ≡ true
     → (encode_utf8_all bytes ≡ bytes) × (list_all is_good bytes ≡ true)
 bytes_good [] e = (refl, refl)
 bytes_good (b ∷ bytes) e = search (rules, and_parts, ltb-true, encode_ascii, low_scalar, bytes_good bytes)
@@ -113,7 +113,7 @@ code_plain c =
     let d2 : is_plain_byte (hex_digit_at 0x100 c) ≡ true = grind (arith, nat_tests) in
     grind (arith, common_steps, either)
 
-escape_plain : (c : ℕ) → is_clear c ≡ false → list_all is_plain_byte (escape_default c) ≡ true
+pub escape_plain : (c : ℕ) → is_clear c ≡ false → list_all is_plain_byte (escape_default c) ≡ true
 escape_plain c other = elim (cases_Bool (nat_lt 0 (short_escape c))) [
   | inl some ↦ let plain : is_plain_byte (short_escape c) ≡ true = grind (arith, nat_tests) in rw (some, plain) refl
   | inr none ↦ elim (cases_Bool (nat_lt c 32)) [
