@@ -154,8 +154,8 @@ help_at expected text place piece =
     else sign_help piece
 
 -- The help where no letters stand at a place for a unit. It is `help`, unless there is none and a
--- unit could stand there, but neither an operator nor the end. Then it is that the unit is missing:
--- in a text of zeros and blanks the second, since zero is the same in each unit
+-- unit could stand there, but neither an operator nor the end. Then it is `MissingUnit`, or in a
+-- text of zeros and blanks `Zero`, since zero is the same in each unit
 abbrev pub missing_unit_help : Expected → Bytes → Option Help → Option Help
 missing_unit_help expected text (Some help) = Some help
 missing_unit_help expected text None =
