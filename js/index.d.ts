@@ -218,7 +218,11 @@ interface Refused {
     readonly expected: Expected;
     /** What the user may have meant, or should write instead. It is null if no help applies. */
     readonly help: Help | null;
-    /** The unit, such as `min` for `5 mins`, if the help is `DID_YOU_MEAN`, and otherwise null. */
+    /**
+     * The unit, such as `min` for `5 mins`, if the help is `DID_YOU_MEAN`, and otherwise null. To
+     * mend the text, write it in place of `found`, and if that is a Greek `μ`, also of the Latin
+     * letters after it.
+     */
     readonly suggestion: Suggestion | null;
 }
 

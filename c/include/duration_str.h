@@ -464,9 +464,10 @@ size_t duration_str_report(
  *
  * For DURATION_STR_HELP_DID_YOU_MEAN, writes the name of a unit to the start of
  * `suggestion`, such as `min` for `5 mins`. The user should write this name in
- * place of the word at the place of the fault. Otherwise writes the empty text.
- * `suggestion` has DURATION_STR_SUGGESTION_BUFFER_SIZE bytes. It may be null if
- * you want only the help. */
+ * place of the token that was found, and if that is a Greek mu, also in place of
+ * the Latin letters after it. Otherwise writes the empty text. `suggestion` has
+ * DURATION_STR_SUGGESTION_BUFFER_SIZE bytes. It may be null if you want only the
+ * help. */
 uint32_t duration_str_help(
     const char *text, size_t length, uint32_t options,
     char suggestion[DURATION_STR_SUGGESTION_BUFFER_SIZE]);

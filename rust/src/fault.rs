@@ -110,6 +110,10 @@ impl<'a> Fault<'a> {
     /// Returns the help for the fault: what a user may have meant, or should write instead. It is
     /// `None` if no help applies. The line ends with the help in words.
     ///
+    /// If the help suggests a name, the user should write it in place of the token that
+    /// [`found`](Self::found) returns, and if that is a Greek `μ`, also of the Latin letters after
+    /// it.
+    ///
     /// ```
     /// use duration_str::{Help, Options, TimeUnit, parse_with};
     ///
