@@ -27,6 +27,8 @@ except ImportError:
 
 SECOND = 10**9
 MINUTE = 60 * SECOND
+#: What the error of a column's number says if errors are coerced and no default unit is named
+TWO_WAYS = "default_unit='ms', or read the column as texts, in pandas by dtype=str"
 
 
 def numbers(result):
@@ -159,13 +161,9 @@ class Reading(unittest.TestCase):
                 line = "^at index 0: .*default_unit='ms'$"
                 with self.assertRaisesRegex(TypeError, line):
                     to_timedelta(column)
-                if kind == "object":
-                    coerced = to_timedelta(column, errors="coerce")
-                    self.assertEqual(numbers(coerced), [None, None])
-                    continue
-                for call in (to_timedelta, parse_many):
-                    hint = "default_unit='ms', or read the column as texts, in pandas by dtype=str$"
-                    with self.assertRaisesRegex(DurationTypeError, f"^at index 0: .*{hint}"):
+                calls = [to_timedelta] if kind == "object" else [to_timedelta, parse_many]
+                for call in calls:
+                    with self.assertRaisesRegex(DurationTypeError, f"^at index 0: .*{TWO_WAYS}$"):
                         call(column, errors="coerce")
         gaps = pandas.Series([1500, None, 2])
         self.assertEqual(gaps.dtype, numpy.float64)
@@ -190,6 +188,29 @@ class Reading(unittest.TestCase):
             numbers(to_timedelta(["1", 10**5_000], default_unit="s", errors="coerce")),
             [SECOND, None],
         )
+
+    def test_loses_no_number_among_texts(self):
+        zero = numpy.zeros(1)
+        types = [zero.astype(f"{kind}{size}")[0] for kind in "iu" for size in (1, 2, 4, 8)]
+        values = [90, 1.5, 0, -1, 2**64, 10**5_000, float("inf"), *types, numpy.float64(1)]
+        for value in values:
+            line = f"^at index 3: .* must be a str, not {type(value).__name__}: .*{TWO_WAYS}$"
+            column = ["1h", None, "x", value, 90]
+            for given in [column, numpy.array(column, dtype=object), pandas.Series(column)]:
+                with self.assertRaisesRegex(DurationTypeError, line):
+                    to_timedelta(given, errors="coerce")
+            nanos, refused = parse_many(column, errors="coerce")
+            self.assertEqual(refused.tolist(), [1, 2, 3, 4])
+        # A default unit reads no floats of these types.
+        for value in [numpy.float16(1), numpy.float32(90), numpy.longdouble(90)]:
+            line = f"^at index 1: a duration's text must be a str, not {type(value).__name__}$"
+            with self.assertRaisesRegex(DurationTypeError, line):
+                to_timedelta(["1h", value], errors="coerce")
+        others = [True, numpy.True_, 1j, decimal.Decimal(90), b"90", [90], object()]
+        others += [datetime.date(2026, 11, 30), numpy.datetime64(90, "s"), datetime.timedelta.max]
+        others += [float("nan"), numpy.float32("nan"), numpy.timedelta64(2**62, "s")]
+        coerced = to_timedelta(["1s", *others], errors="coerce")
+        self.assertEqual(numbers(coerced), [SECOND, *[None] * len(others)])
 
     def test_reads_numbers_beside_a_gap(self):
         column = pandas.Series([1500, None])
@@ -345,9 +366,6 @@ class Reading(unittest.TestCase):
             with self.subTest(value=value):
                 with self.assertRaisesRegex(TypeError, "^at index 2: .* must be a str, not "):
                     to_timedelta(["x", None, value])
-                self.assertEqual(
-                    numbers(to_timedelta(["1s", value], errors="coerce")), [SECOND, None]
-                )
         for column in [numpy.array([b"1s"]), numpy.array([1]), pandas.Series([1.5]), {1}]:
             with self.assertRaisesRegex(TypeError, "^at index 0: "):
                 to_timedelta(column)
@@ -361,7 +379,8 @@ class Reading(unittest.TestCase):
                 TypeError, "must be a str, not (int|float): .*default_unit"
             ):
                 to_timedelta(value)
-            self.assertTrue(pandas.isna(to_timedelta(value, errors="coerce")))
+            with self.assertRaisesRegex(DurationTypeError, "^a duration's text .*='ms'$"):
+                to_timedelta(value, errors="coerce")
         has_length = type("HasLength", (), {"__len__": lambda self: 2})()
         record = numpy.zeros(1, "i4,f4")[0]
         for value in [has_length, record, numpy.void(b"1s")]:

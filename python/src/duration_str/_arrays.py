@@ -14,6 +14,7 @@ from ._columns import (
     INTEGERS,
     Errors,
     check_type,
+    coerced_error_of,
     is_missing,
     raises_errors,
     stand_in,
@@ -23,7 +24,7 @@ from ._columns import (
     zeros,
 )
 from ._lists import Rounding, Style, Unit
-from ._texts import UNNAMED, UNSAID, nanos_a_step, nanos_of, type_error_of
+from ._texts import UNNAMED, UNSAID, is_number, nanos_a_step, nanos_of, type_error_of
 
 if TYPE_CHECKING:
     import numpy
@@ -88,8 +89,9 @@ def _like(values: Any, result: Any) -> Any:
 
 def _nanos_of_value(value: Any, index: int, raises: bool, takes_numbers: bool) -> int:
     """Returns the nanoseconds of a value that has no text. They stand for NaT if the value is
-    missing, or if it is refused and `raises` is false. A timedelta64 whose unit `nanos_of` refuses
-    raises TypeError even then, unless it is NaT."""
+    missing, or if it is refused and `raises` is false. Even then it raises an error for a number if
+    `takes_numbers` is false, and for a timedelta64 whose unit `nanos_of` refuses, unless it is NaT.
+    """
     import numpy
 
     if is_missing(value):
@@ -102,6 +104,8 @@ def _nanos_of_value(value: Any, index: int, raises: bool, takes_numbers: bool) -
         raise OverflowError(f"{where}timedelta64 doesn't have 2**63 nanoseconds or more: {value!r}")
     if raises:
         raise type_error_of(value, takes_numbers, index)
+    if not takes_numbers and (is_number(value) or isinstance(value, numpy.floating)):
+        raise coerced_error_of(value, takes_numbers, index)
     return _NAT
 
 
@@ -205,11 +209,16 @@ def to_timedelta(
     refuses, except NaN, raises an error of the same type. Any other value in a
     column, such as bytes, raises DurationTypeError. A timedelta of 2**63
     nanoseconds or more, in either direction, raises OverflowError. Both errors
-    are raised even if a text before the value is refused. With
-    `errors="coerce"` all these values become NaT. But a timedelta64 of a wrong
-    unit, such as 5 years, raises TypeError even then. A column whose type is
-    never read, such as one of integers without a default unit, also raises
-    DurationTypeError even then, unless all its values are missing.
+    are raised even if a text before the value is refused.
+
+    With `errors="coerce"` all these values become NaT. But three errors are
+    raised even then:
+
+    - DurationTypeError for a number, if you name no default unit. (A number is
+      an int or a float, also of NumPy, but no bool.)
+    - DurationTypeError for a column whose type is never read, such as
+      datetime64, unless all its values are missing.
+    - TypeError for a timedelta64 of a wrong unit, such as 5 years.
     """
     raises = raises_errors(errors)
     reading = _native.reading(

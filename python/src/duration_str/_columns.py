@@ -11,7 +11,7 @@ from typing import Any, Literal, SupportsIndex, overload
 
 from . import _native
 from ._lists import Unit
-from ._texts import UNNAMED, UNSAID, DurationTypeError, type_error_of
+from ._texts import UNNAMED, UNSAID, DurationTypeError, is_number, type_error_of
 
 #: What to do with a refused value
 Errors = Literal["raise", "coerce"]
@@ -91,14 +91,22 @@ def check_type(values: list[Any], name: str, takes_numbers: bool) -> None:
     read, and there is a value. Otherwise a whole column would be lost without a word."""
     import re
 
-    is_number = re.fullmatch(_NUMBERS, name)
-    if name == "object" or re.fullmatch(_TEXTS, name) or (is_number and takes_numbers):
+    if name == "object" or re.fullmatch(_TEXTS, name):
+        return
+    if takes_numbers and re.fullmatch(_NUMBERS, name):
         return
     index = next((at for at, value in enumerate(values) if not is_missing(value)), None)
     if index is not None:
-        error = type_error_of(values[index], takes_numbers, index)
-        hint = ", or read the column as texts, in pandas by dtype=str" if is_number else ""
-        raise DurationTypeError(f"{error}{hint}")
+        raise coerced_error_of(values[index], takes_numbers, index)
+
+
+def coerced_error_of(value: Any, takes_numbers: bool, index: int) -> DurationTypeError:
+    """Returns the error of a value that is refused even if errors are coerced. The index -1 stands
+    for none."""
+    error = type_error_of(value, takes_numbers, index)
+    if index < 0 or not is_number(value):
+        return error
+    return DurationTypeError(f"{error}, or read the column as texts, in pandas by dtype=str")
 
 
 def values_of(texts: Any, name: str) -> list[Any]:

@@ -157,9 +157,8 @@ def type_error_of(value: "Any", takes_numbers: bool, index: int) -> DurationType
                 "NaN" if value != value else "a float of 2**53 or more, which can have lost digits"
             )
         return DurationTypeError(f"{where}a duration must be a str or a whole number, not {what}")
-    is_number = isinstance(value, (int, float)) and not isinstance(value, bool) and value == value
     help = ""
-    if is_number or whole_of(value) is not None:
+    if is_number(value):
         help = ": to read numbers, name their unit, such as by default_unit='ms'"
     return DurationTypeError(f"{where}a duration's text must be a str, not {what}{help}")
 
@@ -171,6 +170,14 @@ def surrogate_error_of(text: str, index: int) -> DurationError:
     except UnicodeEncodeError as error:
         report = f"not UTF-8: a lone surrogate at index {error.start}"
     return DurationError(report, text, Cause.NOT_TEXT, index=None if index < 0 else index)
+
+
+def is_number(value: "Any") -> bool:
+    """Returns whether a value is a number, except NaN, of a type that is read if a default unit is
+    named."""
+    if isinstance(value, (int, float)):
+        return not isinstance(value, bool) and value == value
+    return whole_of(value) is not None
 
 
 def whole_of(value: "Any") -> int | None:
