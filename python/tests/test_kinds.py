@@ -262,7 +262,7 @@ class Kinds(unittest.TestCase):
             if dtype.names or dtype.name in UNREADABLE:
                 continue
             self.check_missing(numpy.ma.array(values, mask=True))
-            if dtype.kind == "f" or dtype.name.startswith("datetime64["):
+            if dtype.kind == "f" or dtype.name.startswith(("datetime64[", "timedelta64[")):
                 missing = numpy.full(1, "nan" if dtype.kind == "f" else "NaT", dtype)
                 self.check_missing(missing)
                 series = first(pandas.Series, missing) if dtype.isnative else None

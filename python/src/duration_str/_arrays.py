@@ -43,7 +43,7 @@ def _missing_in(values: Any) -> Any:
         if hasattr(values, method):
             return numpy.asarray(getattr(values, method)())
     array = numpy.asarray(values)
-    return array != array if array.dtype.kind in "cfM" else numpy.zeros(array.shape, bool)
+    return array != array if array.dtype.kind in "cfmM" else numpy.zeros(array.shape, bool)
 
 
 def flat_values(values: Any, name: str) -> list[Any]:
