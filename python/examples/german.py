@@ -14,7 +14,7 @@ EXPECTED = {
 CAUSES = {
     Cause.EMPTY: "leere Eingabe",
     Cause.NUMBER_TOO_LARGE: "zu große Zahl",
-    Cause.OVERFLOW: "mehr als 584 Jahre",
+    Cause.OVERFLOW: "zu lange Dauer",
     Cause.MIXED: "Summe und Produkt gemischt",
     Cause.NOT_TEXT: "kein UTF-8",
 }
