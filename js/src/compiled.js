@@ -6,9 +6,9 @@ import reading from "read.txt";
 const ADVICE = "allow 'wasm-unsafe-eval' in the content security policy, lift --jitless or the "
     + "limit of the address space, or import duration-str/plain";
 
-/** js/build writes the bytes from -2 to 66 and from 105 to 128, which are the most frequent, as one
- * ASCII character, and any other byte as two. After gzip a bundle then has fewer bytes than with
- * base64, or with one character for each byte. */
+/** js/build writes the bytes 254, 255, 0 to 66 and 105 to 128, which some nine of ten bytes of the
+ * modules are, as one ASCII character each, and any other byte as two. After gzip a bundle then has
+ * fewer bytes than with base64, or with one character for each byte. */
 function bytesOf(text) {
     const bytes = new Uint8Array(text.length);
     let end = 0;
