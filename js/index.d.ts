@@ -339,7 +339,7 @@ export declare const version: string;
  * @throws TypeError if the options are not a plain object, if one of them is unknown or has the
  * wrong type, or if `text` is not a string. With a `defaultUnit` it can also be a number or a
  * bigint.
- * @throws RangeError if `defaultUnit` is an unknown or a Chinese name, stands beside
+ * @throws RangeError if `defaultUnit` is not a name that is read without options, stands beside
  * `requireUnit: true`, or is not the second while `noCalc` is `false`. With a `defaultUnit`, it is
  * also thrown for NaN, and for a number of 2^53 or more, which can have lost digits.
  * @throws Error if WebAssembly is missing or refused. Other functions can throw it too. The message
