@@ -400,8 +400,8 @@ export function pattern(options?: Options): string;
  * `1h 30min`, and with `{ parts: 1 }` it is `1h`.
  *
  * A number with a fraction, such as a difference of `performance.now()`, is rounded to the nearest
- * nanosecond: `format(1.005)` is `1ms 5µs`. Half a nanosecond is rounded up. A fraction that is
- * less than 1e-10 ns below it may be rounded up too.
+ * nanosecond: `format(1.005)` is `1ms 5µs`. Half a nanosecond is rounded up. So may be a fraction
+ * that is less than 1e-10 ns below a half.
  *
  * @throws RangeError if the number is negative, 2^64 nanoseconds or more, NaN or infinite. It is
  * also thrown if the name of a unit, a rounding or a style is unknown, if `parts` is neither a
