@@ -339,7 +339,7 @@ export declare const version: string;
  * @throws TypeError if the options are not a plain object, if one of them is unknown or has the
  * wrong type, or if `text` is not a string. With a `defaultUnit` it can also be a number or a
  * bigint.
- * @throws RangeError if `defaultUnit` is an unknown or a Chinese name, stands beside
+ * @throws RangeError if `defaultUnit` is not a name that is read without options, stands beside
  * `requireUnit: true`, or is not the second while `noCalc` is `false`. With a `defaultUnit`, it is
  * also thrown for NaN, and for a number of 2^53 or more, which can have lost digits.
  * @throws Error if WebAssembly is missing or refused. Other functions can throw it too. The message
@@ -400,8 +400,8 @@ export function pattern(options?: Options): string;
  * `1h 30min`, and with `{ parts: 1 }` it is `1h`.
  *
  * A number with a fraction, such as a difference of `performance.now()`, is rounded to the nearest
- * nanosecond: `format(1.005)` is `1ms 5µs`. Half a nanosecond is rounded up. A fraction that is
- * less than 1e-10 ns below it may be rounded up too.
+ * nanosecond: `format(1.005)` is `1ms 5µs`. Half a nanosecond is rounded up. So may be a fraction
+ * that is less than 1e-10 ns below a half.
  *
  * @throws RangeError if the number is negative, 2^64 nanoseconds or more, NaN or infinite. It is
  * also thrown if the name of a unit, a rounding or a style is unknown, if `parts` is neither a

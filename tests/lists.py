@@ -17,7 +17,7 @@ UNITS = list(units.table())
 FURTHER = list(units.more())
 PRINTED = [unit.printed for unit in UNITS]
 # An index into a list of regular expressions is a sum: 1 for `no_calc` and 2 for `require_unit`, or
-# 1 for `lowercase` and 2 for `cn_unit`.
+# 1 for `lowercase`, 2 for `cn_unit` and 4 for `more_names`.
 INDEXES = [(first, second) for second in (False, True) for first in (False, True)]
 SENTENCES = [patterns.SENTENCES[each] for each in INDEXES]
 UNIT_PATTERNS = [patterns.units_by(*each, more) for more in (False, True) for each in INDEXES]
@@ -143,7 +143,7 @@ def in_rust():
 
 
 def in_the_schema():
-    """The schema has no patterns for `lowercase` and `cn_unit`."""
+    """The schema has no patterns for `lowercase`, `cn_unit` and `more_names`."""
     for no_calc, required in patterns.SENTENCES:
         name = "duration" + "_no_calc" * no_calc + "_require_unit" * required
         pattern = patterns.pattern(no_calc=no_calc, require_unit=required)

@@ -52,9 +52,11 @@ def any_of(names, capitals):
 def units_by(lowercase, cn_unit, more_names=False):
     table = list(units.table())
     names = [name for unit in table for name in unit.names]
-    names += [name for unit in units.more() for name in unit.names if more_names]
-    chinese = [name for unit in table for name in unit.chinese if cn_unit]
-    return any_of([*names, *chinese], not lowercase)
+    if more_names:
+        names += [name for unit in units.more() for name in unit.names]
+    if cn_unit:
+        names += [name for unit in table for name in unit.chinese]
+    return any_of(names, not lowercase)
 
 
 def pattern(no_calc=False, lowercase=False, cn_unit=False, require_unit=False, more_names=False):

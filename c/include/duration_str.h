@@ -477,8 +477,9 @@ uint32_t duration_str_help(
  * the bytes are not UTF-8.
  *
  * The name is passed like a text. It is one of the names of units above, and
- * its ASCII letters may be capitals. The Chinese names give -1. So do the empty
- * name, and texts such as `5min` and ` min`.
+ * its ASCII letters may be capitals. The names that an option adds give -1,
+ * such as the Chinese ones and `mins`. So do the empty name, and texts such as
+ * `5min` and ` min`.
  *
  * The number 0 is the year, so compare the result with -1. Do so before you
  * pass it to DURATION_STR_UNITS or DURATION_STR_UNITS_BETWEEN. */

@@ -43,7 +43,9 @@ export function unitOf(what, name) {
     const small = name.replace(/[A-Z]/g, (letter) => letter.toLowerCase());
     const unit = NAMES.findIndex((names) => names.split(" ").includes(small));
     if (unit >= 0) return unit;
-    throw new RangeError(`${what} must be one of ${UNITS.join(", ")}, not ${name}`);
+    // Many keyboards have no µ, and the Greek μ looks like it.
+    const listed = UNITS.join(", ").replace("µs", "µs or us");
+    throw new RangeError(`${what} must be one of ${listed}, not ${name}`);
 }
 
 function defaultUnitBits(name) {

@@ -156,7 +156,7 @@ test("takes each name that is read for its unit", () => {
 });
 
 test("refuses formats that there are not", () => {
-    const names = NAMES.join(", ");
+    const names = "y, q, mon, w, d, h, min, s, ms, µs or us, ns";
     const noUnit = (name) => new RangeError(
         `a unit of the option units must be one of ${names}, not ${name}`,
     );

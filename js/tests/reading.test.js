@@ -139,7 +139,7 @@ test("refuses a number as its text, or says why it is no whole number", () => {
 });
 
 test("refuses a default unit that there is not, or beside a required one", () => {
-    const names = "y, q, mon, w, d, h, min, s, ms, µs, ns";
+    const names = "y, q, mon, w, d, h, min, s, ms, µs or us, ns";
     const message = "the options requireUnit and defaultUnit contradict each other";
     const rows = [
         ...NO_UNITS.map((name) => [

@@ -6,10 +6,10 @@
 //! a month has 30.44 days here, by whatever name, and a year has 365.25 days. In the rest of this
 //! crate, except for the module `humantime_serde`, a month has 30 days and a year 365.
 //!
-//! This module also reads the names of units that only humantime has: `M` is a month, and `secs`,
-//! `mins`, `hrs`, `millis` and `nanos` are units, and so are `yr`, `yrs`, `wk` and `wks` of
-//! humantime 2.4. Capitals and small letters differ. The rest of this crate, except for the module
-//! `humantime_serde`, refuses these names, or reads `1M` as a minute.
+//! This module also reads `M`, which is a month, and all names that [`Rules::more_names`] adds,
+//! such as `secs`, `mins` and `hrs`. Capitals and small letters differ. The rest of this crate,
+//! except for the module `humantime_serde`, reads `1M` as a minute, and refuses those names unless
+//! it is told to read them.
 //!
 //! This module prints what humantime 2.1 prints, such as `1day 2h 3m`.
 //!
@@ -32,6 +32,7 @@
 //!
 //! let timeout: humantime::Duration = "1h 30min".parse()?;
 //! assert_eq!(humantime::parse_duration("90mins")?, *timeout);
+//! assert_eq!(humantime::parse_duration("2mths")?, humantime::parse_duration("2M")?);
 //! assert_eq!(humantime::format_duration(timeout.into()).to_string(), "1h 30m");
 //! let year = std::time::Duration::from_secs(365 * 86_400);
 //! let printed = humantime::format_duration(year).to_string();

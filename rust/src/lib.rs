@@ -181,8 +181,8 @@
 //!
 //! This crate has the calls of `duration-str` 0.19.0 from crates.io, such as [`parse`], whose error
 //! is a `String`, and `deserialize_duration`. Two macros are missing, which `docs/MIGRATING.md` in
-//! the repository names. The module `dates` has the calls of `duration-str`
-//! for a moment before or after now, and two for a moment before or after another.
+//! the repository names. The module `dates` has the calls of `duration-str` for a moment before or
+//! after now, and two for a moment before or after another.
 //!
 //! ```
 //! use duration_str::{parse, HumanFormat};

@@ -31,8 +31,9 @@ pub(crate) const FEATURES: Options = Options {
     cn_unit: cfg!(feature = "cn_unit"),
 };
 
-/// The options of [`parse_duration`]. If the features `no_calc` and `lowercase` affected it, a
-/// crate that turns one on could break what the other crates of the program read.
+/// The options of the calls that `duration-str` 0.19.0 lacks, such as [`parse_duration`]. If the
+/// features `no_calc` and `lowercase` affected them, a crate that turns one on could break what the
+/// other crates of the program read.
 pub(crate) const ADDITIONS: Options = Options {
     cn_unit: FEATURES.cn_unit,
     ..Options::off()

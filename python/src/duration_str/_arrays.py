@@ -307,7 +307,7 @@ def format_many(
     raises = raises or not _has_printed_type(values)
     while len(texts) < len(given):
         try:
-            # The list goes on after the texts that it has.
+            # This begins with the value at the position `len(texts)`.
             _native.format_list(given, _nanos_or_none, texts, limits)
         except (OverflowError, TypeError, ValueError) as error:
             if raises:

@@ -243,7 +243,8 @@ static void raise_name(PyObject *name, const char *keyword, const char *listed) 
         "%s must be one of %s, not %R", keyword, listed, name);
 }
 
-/* Returns the unit of this name, or -1 with an error. A Chinese name is an error, too. */
+/* Returns the unit of this name, or -1 with an error. A name that only an option adds is an error,
+ * too. */
 static int unit_of(struct state *state, PyObject *name, const char *keyword) {
     /* Python usually keeps one object for equal names in a program, so this finds most printed
      * names. */
@@ -935,16 +936,16 @@ PyDoc_STRVAR(parse_ns_doc,
     "  more_names    more names of units are read, such as `mins`, `hrs` and `yr`\n"
     "  default_unit  a number without a unit counts this unit; with any unit except\n"
     "                seconds, `+` and `*` are not read\n\n"
-    "You can give the default unit by any of its names, except for the Chinese ones.\n"
-    "If you name one, even seconds, a whole number that is not a text is read as its\n"
-    "digits would be. This can be an int (also NumPy's, but no bool), or a float\n"
-    "that is whole and below 2**53.\n\n"
+    "You can give the default unit by any name that is read without options. If you\n"
+    "name one, even seconds, a whole number that is not a text is read as its digits\n"
+    "would be. This can be an int (also NumPy's, but no bool), or a float that is\n"
+    "whole and below 2**53.\n\n"
     "Raises DurationError if the text is refused. With a default unit it is also\n"
     "raised for numbers such as -1, 1.5 and 2**64. Raises DurationTypeError for any\n"
     "other value, also for NaN and for a float of 2**53 or more. Raises ValueError\n"
-    "for an int with more digits than Python writes, if `default_unit` is an unknown\n"
-    "or a Chinese name, if you name it and also require units, or if it is not the\n"
-    "second and you also write `no_calc=False`.\n\n"
+    "for an int with more digits than Python writes, if `default_unit` is any other\n"
+    "name, if you name it and also require units, or if it is not the second and you\n"
+    "also write `no_calc=False`.\n\n"
     ">>> duration_str.parse_ns('1500', default_unit='ms')\n"
     "1500000000\n"
     ">>> duration_str.parse_ns(1500, default_unit='ms')\n"
