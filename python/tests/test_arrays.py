@@ -171,6 +171,15 @@ class Reading(unittest.TestCase):
             to_timedelta(gaps, errors="coerce")
         with self.assertRaisesRegex(DurationTypeError, "^at index 1: "):
             to_timedelta(gaps[1:], errors="coerce")
+        # NumPy would make floats of these integers, and the second would lose its last digit.
+        categories = pandas.Categorical.from_codes([0, 1, -1], [2, 2**53 + 1])
+        for column in (categories, pandas.Series(categories), pandas.Index(categories)):
+            for errors in ("raise", "coerce"):
+                with self.subTest(kind=type(column), errors=errors):
+                    result = to_timedelta(column, default_unit="ns", errors=errors)
+                    self.assertEqual(numbers(result), [2, 2**53 + 1, None])
+                    printed = format_many(column, errors=errors).tolist()
+                    self.assertEqual(printed, ["2ns", format(2**53 + 1), None])
         nothing = pandas.Series([None, None], dtype="float64")
         self.assertEqual(numbers(to_timedelta(nothing, errors="coerce")), [None, None])
         empty = pandas.Series([], dtype="int64")

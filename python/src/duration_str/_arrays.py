@@ -58,7 +58,10 @@ def flat_values(values: Any, name: str) -> list[Any]:
         missing = _missing_in(values)
         flat: Any = numpy.full(missing.shape, refused, dtype=object)
         flat[missing] = None
-    elif not has_dtype:  # NumPy would make floats of Arrow's integers with gaps.
+    # NumPy would make floats of the integers of categories and of Arrow, if there is a gap.
+    elif hasattr(getattr(values, "dtype", None), "categories") and hasattr(values, "tolist"):
+        return list(values.tolist())
+    elif not has_dtype:
         return list(values.to_pylist())
     else:
         flat = numpy.asarray(values, dtype=object)
