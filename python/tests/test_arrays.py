@@ -352,6 +352,12 @@ class Reading(unittest.TestCase):
             OverflowError, "^at index 2: .*timedelta64\\(9223372037,'s'\\)$"
         ):
             to_timedelta(column)
+        for step in ("15250W", "15251W", "40000W"):  # The last two don't fit into 63 and 64 bits.
+            longest = numpy.array([0, "NaT", 1], dtype=f"timedelta64[{step}]")
+            with self.subTest(step=step):
+                self.assertEqual(numbers(to_timedelta(longest[:2])), [0, None])
+                one = 15_250 * 604_800 * SECOND if step == "15250W" else None
+                self.assertEqual(numbers(to_timedelta(longest, errors="coerce")), [0, None, one])
 
     def test_returns_an_array_of_timedelta64_as_it_is(self):
         lengths = numpy.array([1, "NaT"], dtype="timedelta64[ns]")
