@@ -171,6 +171,15 @@ class Reading(unittest.TestCase):
             to_timedelta(gaps, errors="coerce")
         with self.assertRaisesRegex(DurationTypeError, "^at index 1: "):
             to_timedelta(gaps[1:], errors="coerce")
+        # NumPy would make floats of these integers, and the second would lose its last digit.
+        categories = pandas.Categorical.from_codes([0, 1, -1], [2, 2**53 + 1])
+        for column in (categories, pandas.Series(categories), pandas.Index(categories)):
+            for errors in ("raise", "coerce"):
+                with self.subTest(kind=type(column), errors=errors):
+                    result = to_timedelta(column, default_unit="ns", errors=errors)
+                    self.assertEqual(numbers(result), [2, 2**53 + 1, None])
+                    printed = format_many(column, errors=errors).tolist()
+                    self.assertEqual(printed, ["2ns", format(2**53 + 1), None])
         nothing = pandas.Series([None, None], dtype="float64")
         self.assertEqual(numbers(to_timedelta(nothing, errors="coerce")), [None, None])
         empty = pandas.Series([], dtype="int64")
@@ -343,6 +352,12 @@ class Reading(unittest.TestCase):
             OverflowError, "^at index 2: .*timedelta64\\(9223372037,'s'\\)$"
         ):
             to_timedelta(column)
+        for step in ("15250W", "15251W", "40000W"):  # The last two don't fit into 63 and 64 bits.
+            longest = numpy.array([0, "NaT", 1], dtype=f"timedelta64[{step}]")
+            with self.subTest(step=step):
+                self.assertEqual(numbers(to_timedelta(longest[:2])), [0, None])
+                one = 15_250 * 604_800 * SECOND if step == "15250W" else None
+                self.assertEqual(numbers(to_timedelta(longest, errors="coerce")), [0, None, one])
 
     def test_returns_an_array_of_timedelta64_as_it_is(self):
         lengths = numpy.array([1, "NaT"], dtype="timedelta64[ns]")

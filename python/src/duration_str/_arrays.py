@@ -58,7 +58,10 @@ def flat_values(values: Any, name: str) -> list[Any]:
         missing = _missing_in(values)
         flat: Any = numpy.full(missing.shape, refused, dtype=object)
         flat[missing] = None
-    elif not has_dtype:  # NumPy would make floats of Arrow's integers with gaps.
+    # NumPy would make floats of the integers of categories and of Arrow, if there is a gap.
+    elif hasattr(getattr(values, "dtype", None), "categories") and hasattr(values, "tolist"):
+        return list(values.tolist())
+    elif not has_dtype:
         return list(values.to_pylist())
     else:
         flat = numpy.asarray(values, dtype=object)
@@ -124,7 +127,10 @@ def _nanos_of_lengths(values: Any, lengths: Any, raises: bool) -> Any:
     if raises and beyond.any():
         first = int(beyond.argmax())
         _nanos_of_value(lengths.ravel()[first], first, raises, False)
-    nanos = numpy.where(beyond | (numbers == _NAT), _NAT, numbers * step)
+    # If a step is 2**63 nanoseconds or more, such as 20,000 weeks, then all numbers except 0 are
+    # beyond. Their product with it would be no array of integers.
+    products = numbers * min(step, 2**63 - 1)
+    nanos = numpy.where(beyond | (numbers == _NAT), _NAT, products)
     return _like(values, nanos.view("timedelta64[ns]"))
 
 
