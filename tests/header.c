@@ -123,6 +123,21 @@ static void check_refusals(void) {
     expect(strcmp(duration_str_cause_name(9), "") == 0, "no name");
 }
 
+/* All bytes of a long text are read, up to the last one, and none after it. */
+static void check_long_texts(void) {
+    static char text[(1 << 17) + 2];
+    const size_t length = sizeof text - 1;
+    struct duration_str_answer answer;
+    uint64_t nanos;
+    memset(text, ' ', sizeof text);
+    memcpy(text + length - 2, "1mx", 3);
+    expect(duration_str_parse(text, length, &nanos) && nanos == 60000000000u, "a long text");
+    text[length - 1] = '-';
+    expect(!duration_str_parse_with(text, length, 0, &answer) &&
+               is_syntax(answer, length - 1, read_with("1-", 0).expected, 1),
+        "the last byte of a long text");
+}
+
 static void check_null_texts(void) {
     uint64_t nanos = 7;
     struct duration_str_answer answer;
@@ -405,6 +420,7 @@ int main(void) {
     check_unit_names();
     check_lines();
     check_help();
+    check_long_texts();
     check_null_texts();
     check_null_results();
     return wrong;

@@ -58,7 +58,7 @@ def wrong_links(name):
 
 def wrong_paths(name, folders):
     near = (ROOT, (ROOT / name).parent, CRATE)
-    for path in re.findall(rf"`((?:{'|'.join(folders)})/[\w./-]*)`", prose(name)):
+    for path in re.findall(rf"`((?:{'|'.join(folders)})/[\w./-]*)[` ]", prose(name)):
         if not any((folder / path).exists() for folder in near):
             yield f"{name}: names a path that is not there: {path}"
 
@@ -378,7 +378,11 @@ def misspelt():
 
 
 def problems():
-    folders = {name.split("/")[0] for name in tracked_files("*/**")} | {"proofs", "specs", "src"}
+    # Those of the last commit, too: documents may still name a folder that is removed.
+    words = ["git", "ls-tree", "-d", "--name-only", "HEAD"]
+    listed = subprocess.run(words, cwd=ROOT, capture_output=True, text=True, check=True)
+    folders = {*listed.stdout.split(), "proofs", "specs", "src"}
+    folders |= {name.split("/")[0] for name in tracked_files("*/**")}
     for name in tracked_files("*.md"):
         yield from wrong_links(name)
         yield from wrong_paths(name, folders)

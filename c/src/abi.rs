@@ -50,9 +50,11 @@ unsafe extern "C" fn duration_str_parse(
     nanos: &mut MaybeUninit<u64>,
 ) -> bool {
     let mut value = 0;
-    crate::duration_str_parse(unsafe { bytes(text, len) }, &mut value)
-        .then(|| nanos.write(value))
-        .is_some()
+    let is_read = crate::duration_str_parse(unsafe { bytes(text, len) }, &mut value);
+    if is_read {
+        nanos.write(value);
+    }
+    is_read
 }
 
 #[unsafe(no_mangle)]
@@ -86,9 +88,16 @@ extern "C" fn duration_str_breakdown(
     rest: Option<&mut MaybeUninit<u64>>,
 ) -> bool {
     let (mut each, mut left) = ([0; breakdown::UNIT_COUNT], 0);
-    breakdown::duration_str_breakdown(secs, nanos, units, parts, rounding, &mut each, &mut left)
-        .then(|| (counts.write(each), rest.map(|rest| rest.write(left))))
-        .is_some()
+    let is_written = breakdown::duration_str_breakdown(
+        secs, nanos, units, parts, rounding, &mut each, &mut left,
+    );
+    if is_written {
+        counts.write(each);
+        if let Some(rest) = rest {
+            rest.write(left);
+        }
+    }
+    is_written
 }
 
 #[unsafe(no_mangle)]

@@ -129,6 +129,14 @@ impl Run<'_> {
         self.choices.field.is_some() && !self.choices.sum
     }
 
+    /// A line that ends as on Windows. A field is cut without the carriage return anyway.
+    fn without_return<'a>(&self, line: &'a [u8]) -> &'a [u8] {
+        if self.choices.field.is_some() || self.end != b'\n' {
+            return line;
+        }
+        line.strip_suffix(b"\r").unwrap_or(line)
+    }
+
     fn lines(&mut self, mut input: BufReader<File>) -> io::Result<()> {
         let mut line = Vec::new();
         for number in 1.. {
@@ -139,27 +147,21 @@ impl Run<'_> {
             self.is_open = text.len() == line.len()
                 && (self.choices.field.is_some() || self.choices.header.is_some());
             let is_header = number <= self.choices.header.unwrap_or(0);
+            let stays = if is_header {
+                !self.choices.sum
+            } else {
+                self.keeps_others()
+            };
             if text.len() > LONGEST {
                 if !is_header {
-                    self.tell(
-                        Refusal::new("LINE_TOO_LONG", "line of over 1,048,576 bytes"),
-                        b"",
-                        number,
-                    )?;
+                    let refusal = Refusal::new("LINE_TOO_LONG", "line of over 1,048,576 bytes");
+                    self.tell(refusal, b"", number)?;
                 }
-                self.pass(
-                    &mut input,
-                    &mut line,
-                    self.keeps_others() || is_header && !self.choices.sum,
-                )?;
-            } else if is_header {
-                if !self.choices.sum {
-                    self.put(&[text])?;
-                }
-            } else if self.choices.field.is_none() && self.end == b'\n' {
-                self.line(text.strip_suffix(b"\r").unwrap_or(text), number)?;
-            } else {
-                self.line(text, number)?;
+                self.pass(&mut input, &mut line, stays)?;
+            } else if !is_header {
+                self.line(self.without_return(text), number)?;
+            } else if stays {
+                self.put(&[text])?;
             }
         }
         Ok(())

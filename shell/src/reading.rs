@@ -117,44 +117,65 @@ pub fn read<'a>(bytes: &'a [u8], choices: &Choices) -> Result<(&'a str, u64), Re
 /// that has neither.
 fn bare_number(text: &str, unit: TimeUnit, round: Round) -> Option<(&str, u128)> {
     let number = text.trim_matches([' ', '\t', '\r', '\n']);
-    if !number.contains(['.', 'e', 'E']) {
-        return None;
+    let decimal = Decimal::of(number)?;
+    Some((number, decimal.times(unit.nanos().into(), round)))
+}
+
+/// The digits of a number, and the place of its point among them, which can be before or after all
+/// digits.
+struct Decimal {
+    digits: Vec<u8>,
+    point: isize,
+}
+
+impl Decimal {
+    fn of(number: &str) -> Option<Decimal> {
+        if !number.contains(['.', 'e', 'E']) {
+            return None;
+        }
+        let (digits, exponent) = number.split_once(['e', 'E']).unwrap_or((number, "0"));
+        // Floats of Rust are written like this. They can also have a sign or a point at the end, or
+        // be a word such as `inf`. `parse` accepts a number that is too large for a float.
+        let starts = number.starts_with(|first: char| first.is_ascii_digit() || first == '.');
+        if !starts || digits.ends_with('.') || number.parse::<f64>().is_err() {
+            return None;
+        }
+        let (whole, decimals) = digits.split_once('.').unwrap_or((digits, ""));
+        let most = if exponent.starts_with('-') {
+            isize::MIN
+        } else {
+            isize::MAX
+        };
+        let exponent = exponent.parse().unwrap_or(most);
+        // A larger exponent makes every number but 0 too large, and a smaller one leaves less than
+        // a nanosecond.
+        let exponent = exponent.clamp(-(digits.len() as isize) - 99, digits.len() as isize + 99);
+        Some(Decimal {
+            digits: [whole, decimals].concat().into_bytes(),
+            point: whole.len() as isize + exponent,
+        })
     }
-    let (digits, exponent) = number.split_once(['e', 'E']).unwrap_or((number, "0"));
-    // Floats of Rust are written like this. They can also have a sign or a point at the end, or be
-    // a word such as `inf`. `parse` accepts a number that is too large for a float.
-    let starts = number.starts_with(|first: char| first.is_ascii_digit() || first == '.');
-    if !starts || digits.ends_with('.') || number.parse::<f64>().is_err() {
-        return None;
+
+    fn digit(&self, place: isize) -> u128 {
+        let digit = usize::try_from(place)
+            .ok()
+            .and_then(|place| self.digits.get(place));
+        digit.map_or(0, |digit| u128::from(digit - b'0'))
     }
-    let (whole, decimals) = digits.split_once('.').unwrap_or((digits, ""));
-    let most = if exponent.starts_with('-') {
-        isize::MIN
-    } else {
-        isize::MAX
-    };
-    let exponent = exponent.parse().unwrap_or(most);
-    // A larger exponent makes every number but 0 too large, and a smaller one leaves less than a
-    // nanosecond.
-    let exponent = exponent.clamp(-(digits.len() as isize) - 99, digits.len() as isize + 99);
-    let point = whole.len() as isize + exponent;
-    let digits = [whole, decimals].concat().into_bytes();
-    let digit = |place: isize| {
-        let place = usize::try_from(place).ok();
-        place
-            .and_then(|place| digits.get(place))
-            .map_or(0, |digit| u128::from(digit - b'0'))
-    };
-    let length = u128::from(unit.nanos());
-    // The part of a unit that the decimals are, from the last one to the first. Each division is
-    // rounded in the same way, and so the result is, too.
-    let more = if let Round::Up = round { 9 } else { 0 };
-    let part = (point..digits.len() as isize)
-        .rev()
-        .fold(0, |part, place| (digit(place) * length + part + more) / 10);
-    // If the whole part doesn't fit, the result is more than any duration.
-    let whole = (0..point).fold(0, |number: u128, place| {
-        number.saturating_mul(10).saturating_add(digit(place))
-    });
-    Some((number, whole.saturating_mul(length).saturating_add(part)))
+
+    fn times(&self, length: u128, round: Round) -> u128 {
+        // The part of a unit that the decimals are, from the last one to the first. Each division
+        // is rounded in the same way, and so the result is, too.
+        let more = if let Round::Up = round { 9 } else { 0 };
+        let part = (self.point..self.digits.len() as isize)
+            .rev()
+            .fold(0, |part, place| {
+                (self.digit(place) * length + part + more) / 10
+            });
+        // If the whole part doesn't fit, the result is more than any duration.
+        let whole = (0..self.point).fold(0, |number: u128, place| {
+            number.saturating_mul(10).saturating_add(self.digit(place))
+        });
+        whole.saturating_mul(length).saturating_add(part)
+    }
 }

@@ -66,13 +66,19 @@ def type_name(values: Any) -> str:
         return "object"
 
 
+def _is_read(name: str, takes_numbers: bool) -> bool:
+    """Returns whether values of the type of this name are read."""
+    if name == "object":
+        return True
+    import re
+
+    return bool(re.fullmatch(f"{_TEXTS}|{_NUMBERS}" if takes_numbers else _TEXTS, name))
+
+
 def stand_in(name: str) -> Any | None:
     """Returns None if values of the type of this name are read. Otherwise it returns an object that
     takes the place of each value. The object's type has this name, so errors say it."""
-    import re
-
-    is_read = name == "object" or re.fullmatch(f"{_TEXTS}|{_NUMBERS}", name)
-    return None if is_read else type(name, (), {})()
+    return None if _is_read(name, True) else type(name, (), {})()
 
 
 def is_missing(value: Any) -> bool:
@@ -89,11 +95,7 @@ def is_missing(value: Any) -> bool:
 def check_type(values: list[Any], name: str, takes_numbers: bool) -> None:
     """`name` is the name of the items' type. Raises DurationTypeError if no value of this type is
     read, and there is a value. Otherwise a whole column would be lost without a word."""
-    import re
-
-    if name == "object" or re.fullmatch(_TEXTS, name):
-        return
-    if takes_numbers and re.fullmatch(_NUMBERS, name):
+    if _is_read(name, takes_numbers):
         return
     index = next((at for at, value in enumerate(values) if not is_missing(value)), None)
     if index is not None:
