@@ -259,7 +259,7 @@ install install-library: installable
 	for file in LICENSE NOTICE; do put "$$file" "$(docdir)/$$file"; done
 	missing=$$(tools/cargo-debian --missing $(crates)) || true
 	! $(call serves,$(command),$(commanded)) || missing=
-	[ -n "$$missing" ] || type -P help2man >/dev/null || missing=help2man
+	type -P help2man >/dev/null || missing="help2man$${missing:+ $$missing}"
 	[ "$(target)" = "$(host)" ] || missing='crates for $(target)'
 	if [ -z "$$programs" ]; then
 	    :

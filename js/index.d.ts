@@ -316,7 +316,8 @@ export type Result<Value = number> =
     | { readonly ok: true; readonly value: Value; readonly fault?: undefined }
     | { readonly ok: false; readonly value?: undefined; readonly fault: Fault };
 
-/** The version of the library and of this package. */
+/** The version of the library, such as `0.19.0`. A package that is made of a commit between two
+ * releases has a version of its own. */
 export declare const version: string;
 
 /**

@@ -32,6 +32,7 @@ def _read(value: Any, options: dict[str, Any]) -> Any:
             "place": error.place,
             "pos": error.pos,
             "found": error.found,
+            "expected": [str(each.name).lower() for each in error.expected],
             "help": error.help.name if error.help else None,
             "suggestion": error.suggestion,
         }
