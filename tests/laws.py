@@ -19,6 +19,8 @@ def weaken(crates):
     """Adds these modules to `uses` in a copy of the crates."""
     specs = (crates / "duration_str/specs/Laws.antt").read_text("utf-8")
     laws = (crates / "duration_str/src/laws.rt").read_text("utf-8")
+    # The laws whose definitions are in other files than specs/Laws.antt stay.
+    others = "".join(re.findall(r"^ghost use (?!.*\.Laws\.).*\n", laws, re.M))
     laws = re.findall(r"^pub fn (\w+)\(\)\n(.*?)^\{\}", laws, re.M | re.S)
     imports, *definitions = specs.replace("{Year}", "{Year, Second}").split("\n\n")
     for module, (of_rules, of_unit) in FEWER.items():
@@ -35,7 +37,9 @@ def weaken(crates):
         use = f"use Rattle.duration_str.specs.Laws.{{{', '.join(unchanged)}}}"
         text = "\n\n".join([f"{imports}\n{use}", *weaker.values()])
         (crates / f"uses/specs/{module}.antt").write_text(text, "utf-8")
-        code = f"ghost {use};\nghost use Rattle.uses.specs.{module}.{{{', '.join(weaker)}}};\n"
+        code = (
+            f"{others}ghost {use};\nghost use Rattle.uses.specs.{module}.{{{', '.join(weaker)}}};\n"
+        )
         for law, contract in laws:
             code += f"pub fn {law}()\n{contract}{{\n    duration_str::laws::{law}();\n}}\n"
             proof = crates / f"uses/proofs/{module}/{law}"

@@ -13,6 +13,7 @@ pub mod ReadsBack
 pub mod OlderTexts
 pub mod AllParts
 pub mod NearWords
+pub mod Mended
 pub mod NeverMore
 pub mod Rounding
 pub mod PartsAndRest

@@ -1,10 +1,11 @@
 -- Rows of clauses of laws that no caller in `uses` needs: what follows from each in one case. A
 -- clause that said less would be refused here.
-use Rattle.std.specs.Prelude.{◌≡◌, ◌≢◌, ℕ, ◌<◌, List, [], ◌∷◌, map, None, Some, codes, true}
+use Rattle.std.specs.Prelude.{◌≡◌, ◌≢◌, ℕ, ◌<◌, List, [], ◌∷◌, map, None, Some, codes, true, IsTrue, ◌≤◌}
 use Rattle.std.specs.Duration.{FitsDuration}
 use Rattle.duration_str.specs.Laws.{HasNoChinese, OlderTexts, OneRounding, OptionsIdle, PlaceAndKinds}
+use Rattle.duration_str.specs.Mended.{MendedTexts}
 use Rattle.duration_str.specs.Options.{off}
-use Rattle.duration_str.specs.Reading.{IsRead}
+use Rattle.duration_str.specs.Reading.{IsRead, IsRefused}
 use Rattle.duration_str.specs.Answer.{last_of}
 use Rattle.duration_str.specs.Format.{IsGreatestWithin, lengths_within, whole_format}
 use Rattle.duration_str.specs.Grammar.{IsSentenceOf, operator, Terminal, terminal_of}
@@ -14,6 +15,10 @@ use Rattle.duration_str.specs.Printing.{weighted_sum}
 use Rattle.duration_str.specs.Rounding.{IsRounded, IsRoundedDown, IsRoundedUp, PrintsWhole}
 use Rattle.duration_str.specs.Rules.{Rules, rules_of, rules_with}
 use Rattle.duration_str.specs.declared.format.Format.{Format}
+use Rattle.std.proofs.Common.{refl}
+use Rattle.duration_str.specs.declared.cause.Cause.TheVariants.{Syntax}
+use Rattle.duration_str.specs.declared.cause.Expected.{Expected}
+use Rattle.duration_str.specs.declared.unit.TimeUnit.TheVariants.{Minute}
 use Rattle.duration_str.specs.declared.operator.CondUnit.TheVariants.{Plus, Star}
 use Rattle.duration_str.specs.declared.rounding.Rounding.TheVariants.{Nearest, Up}
 
@@ -73,3 +78,9 @@ older_lexemes_have_the_same_terminals lexemes law = law.terminals off lexemes (c
 pub older_sentence_is_a_sentence : (lexemes : List (List ℕ)) → OlderTexts
     → IsSentenceOf (older_rules off) lexemes (codes "1m") → IsSentenceOf (rules_of off) lexemes (codes "1m")
 older_sentence_is_a_sentence lexemes law = law.sentence off lexemes (codes "1m")
+
+pub text_with_min_fails_after_it : (later : ℕ) (expected others : Expected) → MendedTexts → IsTrue expected.unit_word
+    → IsRefused (rules_of off) (codes "5 mins 3 hrs") (Syntax 2 expected)
+    → IsRefused (rules_of off) (codes "5 min 3 hrs") (Syntax later others) → 5 ≤ later
+text_with_min_fails_after_it later expected others law unit refused again =
+    law (rules_of off) (codes "5 ") (codes "mins") (codes " 3 hrs") Minute expected refl refl unit refused later others again

@@ -8,7 +8,9 @@ use Rattle.duration_str.specs.Breakdown.{sum_of_parts}
 use Rattle.duration_str.specs.Rounding.{IsNearest, IsRoundedDown, IsRoundedUp, NoneAbove}
 use Rattle.duration_str.specs.Format.{chosen, intersection, counts_within, down_to, is_in, lengths_within, set_of, shorter_units, text_within, up_to, whole_format, without_unit}
 use Rattle.duration_str.specs.Humantime.{humantime_row_of, humantime_rules}
-use Rattle.duration_str.specs.OneLine.{is_letter, is_plain, one_line_of}
+use Rattle.duration_str.specs.OneLine.{help_number, is_letter, is_plain, one_line_of, suggestion_of}
+use Rattle.duration_str.specs.declared.help.Help.{Help}
+use Rattle.duration_str.specs.declared.help.Help.TheVariants.{Brackets, ClockTime, DidYouMean, DigitsOnly, Division, Fraction, Iso8601, LargeNumber, LeadingPlus, MissingUnit, Negative, NoPoint, OneDuration, QuotationMarks, Units as UnitsHelp, Zero}
 use Rattle.duration_str.specs.Report.{report_of}
 use Rattle.duration_str.proofs.Characters.UnitLemmas.{Each, each_unit}
 use Rattle.duration_str.specs.Text.{width}
@@ -529,6 +531,8 @@ pub record Lines : Type 0 where
       ≡ codes "unknown unit \"MONS\" at column 3 (did you mean \"mon\"?)"
   pub line-small_mo : one_line_of (codes "3mo") (Syntax 1 after_number)
       ≡ codes "unknown unit \"mo\" at column 2 (did you mean \"mon\"?)"
+  pub line-small_mos : one_line_of (codes "3mos") (Syntax 1 after_number)
+      ≡ codes "unknown unit \"mos\" at column 2 (did you mean \"mon\"?)"
   pub line-capital_mo : one_line_of (codes "3Mo") (Syntax 1 after_number)
       ≡ codes "unknown unit \"Mo\" at column 2 (write y, q, mon, w, d, h, min, s, ms, us or ns)"
   pub line-ascii : one_line_of (codes "5 micros") (Syntax 2 after_number)
@@ -546,8 +550,16 @@ pub record Lines : Type 0 where
       ≡ codes "expected a number, '+', '*' or the end at column 3, found \".\" (units have no point)"
   pub line-point_alone : one_line_of (codes "5 .") (Syntax 2 after_number)
       ≡ codes "expected a unit, '+', '*' or the end at column 3, found \".\""
+  pub line-point_after_a_blank : one_line_of (codes "5 .5h") (Syntax 2 after_number)
+      ≡ codes "expected a unit, '+', '*' or the end at column 3, found \".\" (numbers have digits only: write 1500ms for 1.5s)"
+  pub line-point_between : one_line_of (codes "5m.5s") (Syntax 2 after_unit)
+      ≡ codes "expected a number, '+', '*' or the end at column 3, found \".\" (units have no point)"
   pub line-comma : one_line_of (codes "1,000ms") (Syntax 1 after_number)
       ≡ codes "expected a unit, '+', '*' or the end at column 2, found \",\" (numbers have digits only)"
+  pub line-underscore : one_line_of (codes "1_000ms") (Syntax 1 after_number)
+      ≡ codes "expected a unit, '+', '*' or the end at column 2, found \"_\" (numbers have digits only)"
+  pub line-apostrophe_between : one_line_of (codes "1'000ms") (Syntax 1 after_number)
+      ≡ codes "expected a unit, '+', '*' or the end at column 2, found \"'\" (numbers have digits only)"
   pub line-exponent : one_line_of (codes "1e3s") (Syntax 1 after_number)
       ≡ codes "unknown unit \"e\" at column 2 (numbers have digits only)"
   pub line-exponent_below_zero : one_line_of (codes "5e-3s") (Syntax 1 after_number-no_calc)
@@ -560,12 +572,16 @@ pub record Lines : Type 0 where
       ≡ codes "unknown unit \"e\" at column 3 (write y, q, mon, w, d, h, min, s, ms, us or ns)"
   pub line-clock : one_line_of (codes "1:30") (Syntax 1 after_number)
       ≡ codes "expected a unit, '+', '*' or the end at column 2, found \":\" (clock times are not read: write 1h 30m or 1m 30s)"
+  pub line-colon_alone : one_line_of (codes "1:") (Syntax 1 after_number)
+      ≡ codes "expected a unit, '+', '*' or the end at column 2, found \":\""
   pub line-minus : one_line_of (codes " -5m") (Syntax 1 number_alone)
       ≡ codes "expected a number at column 2, found \"-\" (negative durations are not read)"
   pub line-minus_point : one_line_of (codes "-.5s") (Syntax 0 number_alone)
       ≡ codes "expected a number at column 1, found \"-\" (negative durations are not read)"
   pub line-plus : one_line_of (codes "\t+1h") (Syntax 1 number_alone)
       ≡ codes "expected a number at column 2, found \"+\" (a leading \"+\" is not read)"
+  pub line-plus_point : one_line_of (codes "+.5s") (Syntax 0 number_alone)
+      ≡ codes "expected a number at column 1, found \"+\" (a leading \"+\" is not read)"
   pub line-plus_blank : one_line_of (codes "+ 1h") (Syntax 0 number_alone)
       ≡ codes "expected a number at column 1, found \"+\""
   pub line-plus_later : one_line_of (codes "1++2") (Syntax 2 number_alone)
@@ -588,12 +604,18 @@ pub record Lines : Type 0 where
       ≡ codes "expected a number, '+', '*' or the end at column 3, found \"\\\"\""
   pub line-iso : one_line_of (codes "Pt5M") (Syntax 0 number_alone)
       ≡ codes "expected a number at column 1, found \"Pt\" (ISO 8601 is not read: write 1mon 30m for P1MT30M)"
+  pub line-iso_day : one_line_of (codes "p1D") (Syntax 0 number_alone)
+      ≡ codes "expected a number at column 1, found \"p\" (ISO 8601 is not read: write 1mon 30m for P1MT30M)"
+  pub line-iso_point : one_line_of (codes "P.5D") (Syntax 0 number_alone)
+      ≡ codes "expected a number at column 1, found \"P\""
   pub line-comma_between : one_line_of (codes "1h, 30m") (Syntax 2 after_unit)
       ≡ codes "expected a number, '+', '*' or the end at column 3, found \",\" (one duration is read, without \",\" or \"and\")"
   pub line-comma_after_an_operator : one_line_of (codes "1h + ,") (Syntax 5 number_alone)
       ≡ codes "expected a number at column 6, found \",\""
   pub line-and : one_line_of (codes "1h And 30m") (Syntax 3 after_unit-no_calc)
       ≡ codes "expected a number or the end at column 4, found \"And\" (one duration is read, without \",\" or \"and\")"
+  pub line-ampersand : one_line_of (codes "1h & 30m") (Syntax 3 after_unit)
+      ≡ codes "expected a number, '+', '*' or the end at column 4, found \"&\" (one duration is read, without \",\" or \"and\")"
   pub line-and_a_unit : one_line_of (codes "5 & 3") (Syntax 2 after_number)
       ≡ codes "expected a unit, '+', '*' or the end at column 3, found \"&\""
   -- ---- Help with a number that lacks its unit
@@ -619,6 +641,25 @@ pub record Lines : Type 0 where
 pub lines : Lines
 unfolding chars digits encode
 lines = assumption
+
+-- ---- Helps as values
+
+abbrev helps_without_a_name : List Help
+helps_without_a_name =
+    UnitsHelp ∷ Fraction ∷ DigitsOnly ∷ ClockTime ∷ Negative ∷ LeadingPlus ∷ Iso8601 ∷ OneDuration ∷ NoPoint ∷ Brackets
+    ∷ Division ∷ QuotationMarks ∷ MissingUnit ∷ Zero ∷ LargeNumber ∷ []
+
+pub record Helps : Type 0 where
+  pub numbers : map help_number (DidYouMean Minute ∷ helps_without_a_name)
+      ≡ 1 ∷ 2 ∷ 3 ∷ 4 ∷ 5 ∷ 6 ∷ 7 ∷ 8 ∷ 9 ∷ 10 ∷ 11 ∷ 12 ∷ 13 ∷ 14 ∷ 15 ∷ 16 ∷ []
+  pub names : map (λ u. suggestion_of (DidYouMean u)) units
+      ≡ map (λ name. Some name) (codes "y" ∷ codes "q" ∷ codes "mon" ∷ codes "w" ∷ codes "d" ∷ codes "h" ∷ codes "min"
+      ∷ codes "s" ∷ codes "ms" ∷ codes "us" ∷ codes "ns" ∷ [])
+  pub no_names : map suggestion_of helps_without_a_name ≡ replicate 15 None
+
+pub helps : Helps
+unfolding encode
+helps = assumption
 
 -- ---- Characters
 

@@ -1,6 +1,7 @@
 //! Laws about the definitions. Each function does nothing, and its contract states a law, which is
 //! proved. In the comments, texts are read by the library's own table of units.
 ghost use Rattle.duration_str.specs.Laws.{OneSentence, OneCut, OneReading, AnswerIsReading, PlaceAndKinds, NoCalcAgrees, OptionsIdle, BlanksFree, SumOfTexts, Reorder, TwoFactors, GreatestBreakdown, EqualTexts, ReadsBack, LastLine, OlderTexts, AllParts, NeverMore, OneRounding, PartsAndRest, NearWords, MoreNames};
+ghost use Rattle.duration_str.specs.Mended.{MendedTexts};
 
 /// At most one sentence spells a text, and the lexemes of that sentence are those of the text's
 /// tokens. Each text is either read as one value or refused for one cause, and the computed answer
@@ -164,4 +165,12 @@ pub fn near_words()
 #[tactic(auto, using(crate::proofs::LawProofs::OlderTexts::more_names_hold))]
 pub fn more_names()
     ensures { MoreNames }
+{}
+
+/// If a text is refused where a unit could stand, and the name that a help gives for a unit is
+/// written in place of what was found there, a syntax fault of the new text is not before the end of
+/// that name. So `5 mins 3 hrs` is refused at its third byte, and `5 min 3 hrs` at its ninth one.
+#[tactic(auto, using(crate::proofs::LawProofs::Mended::mended_texts_hold))]
+pub fn mended_texts()
+    ensures { MendedTexts }
 {}

@@ -1,9 +1,26 @@
 -- Rows of definitions that say what calls return: what follows from each in one case. A definition
 -- that said less would be refused here.
-use Rattle.std.specs.Prelude.{◌≡◌, ℕ, ◌∷◌, ◌++◌, [], List, None, Some, codes}
+use Rattle.std.specs.Prelude.{◌≡◌, ◌≤◌, ◌⊎◌, ℕ, ◌+◌, ◌^◌, ◌∷◌, ◌++◌, [], Any, List, None, Some, codes}
+use Rattle.std.specs.Duration.{FitsDuration}
+use Rattle.std.specs.Str.{chars}
+use Rattle.std.proofs.Common.{arith, inl, inr, refl}
+use Rattle.duration_str.proofs.Sentences.AnswerLemmas.{answer_refused, one_reading_holds}
+use Rattle.duration_str.specs.Answer.{expected_at_start}
+use Rattle.duration_str.specs.Breakdown.{ArePartsRounded, sum_of_parts}
+use Rattle.duration_str.specs.Format.{IsPrintedWithin, whole_format}
+use Rattle.duration_str.specs.Reading.{IsRead, IsRefused}
+use Rattle.duration_str.specs.Rounding.{NoneAbove}
+use Rattle.duration_str.specs.declared.cause.Cause.{Cause}
+use Rattle.duration_str.specs.declared.cause.Cause.TheVariants.{Syntax}
+use Rattle.duration_str.specs.declared.format.Format.{Format}
 use Rattle.duration_str.specs.declared.help.Help.TheVariants.{DidYouMean, Negative}
 use Rattle.duration_str.specs.declared.unit.TimeUnit.TheVariants.{Minute}
-use Rattle.duration_str_c.specs.Help.{IsHelpShown}
+use Rattle.duration_str_c.specs.Answers.{rules_of_bits}
+use Rattle.duration_str_c.specs.Breakdown.{counts_of, IsBrokenDown, IsTooLarge}
+use Rattle.duration_str_c.specs.Format.{IsFormatted}
+use Rattle.duration_str_c.specs.Help.{IsHelpShown, ShowsHelp}
+use Rattle.duration_str_c.specs.Messages.{IsShown}
+use Rattle.duration_str_c.specs.Rounding.{AreRight, NoneRounded}
 use lib.Utf8.{encode}
 
 pub unit_is_suggested_by_its_name : (number : ℕ) (new : List ℕ)
@@ -21,3 +38,98 @@ rest_of_the_buffer_stays number new shown = shown.1
 
 pub no_help_is_zero : (number : ℕ) (new : List ℕ) → IsHelpShown None (codes "????") number new → number ≡ 0
 no_help_is_zero number new shown = shown.0
+
+-- ---- The help for a text
+
+minus : (cause : Cause) → IsRefused (rules_of_bits 0) (chars (codes "-5m")) cause → cause ≡ Syntax 0 expected_at_start
+unfolding chars
+minus cause refused =
+    one_reading_holds.one_cause (rules_of_bits 0) (chars (codes "-5m")) cause (Syntax 0 expected_at_start) refused
+    ((answer_refused (rules_of_bits 0) (chars (codes "-5m")) (Syntax 0 expected_at_start)).0 refl)
+
+minus_not_read : (nanos : ℕ) → IsRead (rules_of_bits 0) (chars (codes "-5m")) nanos → ⊥
+unfolding chars
+minus_not_read nanos read =
+    one_reading_holds.not_both (rules_of_bits 0) (chars (codes "-5m")) nanos (Syntax 0 expected_at_start) read
+    ((answer_refused (rules_of_bits 0) (chars (codes "-5m")) (Syntax 0 expected_at_start)).0 refl)
+
+pub help_is_that_of_the_text : (number : ℕ) (new : List ℕ) → ShowsHelp 0 (codes "-5m") (codes "????") number new
+    → number ≡ 6
+unfolding chars encode
+help_is_that_of_the_text number new (inl (unknown, shown)) = absurd (unknown refl)
+help_is_that_of_the_text number new (inr (inl (known, no_text, shown))) = absurd (no_text (codes "-5m", (refl, refl)))
+help_is_that_of_the_text number new (inr (inr (inl (known, utf8, nanos, read, shown)))) = absurd (minus_not_read nanos read)
+help_is_that_of_the_text number new (inr (inr (inr (known, utf8, cause, refused, shown)))) =
+    rw (minus cause refused) at shown.0
+
+pub unknown_option_has_no_help : (number : ℕ) (new : List ℕ) → ShowsHelp 32 (codes "-5m") (codes "????") number new
+    → number ≡ 0
+unknown_option_has_no_help number new (inl (unknown, shown)) = shown.0
+unknown_option_has_no_help number new (inr (inl (known, no_text, shown))) = cc
+unknown_option_has_no_help number new (inr (inr (inl (known, utf8, nanos, read, shown)))) = cc
+unknown_option_has_no_help number new (inr (inr (inr (known, utf8, cause, refused, shown)))) = cc
+
+-- ---- A message in a buffer
+
+pub long_message_leaves_the_buffer : (len : ℕ) (new : List ℕ) → IsShown (codes "abc") (codes "xyz") len new
+    → new ≡ codes "xyz"
+long_message_leaves_the_buffer len new shown = shown.2 (omega arith)
+
+pub length_of_a_long_message : (len : ℕ) (new : List ℕ) → IsShown (codes "abc") (codes "xyz") len new → len ≡ 3
+length_of_a_long_message len new shown = shown.0
+
+pub short_message_stands_in_front : (len : ℕ) (new : List ℕ) → IsShown (codes "a") (codes "xyz") len new
+    → new ≡ codes "a" ++ (0 ∷ codes "z")
+short_message_stands_in_front len new shown = shown.1 (omega arith)
+
+-- ---- What is printed and broken down
+
+pub right_number_of_rounding : AreRight 4 1_500_000_000 → ⊥
+right_number_of_rounding right = absurd (omega (arith, right.1))
+
+pub right_duration_fits : (nanos : ℕ) → AreRight 0 nanos → FitsDuration nanos
+right_duration_fits nanos right = right.0
+
+pub only_up_has_no_result : (format : Format) → NoneRounded 2 format 1_500_000_000 → ⊥
+only_up_has_no_result format (inl long) = long (omega arith)
+only_up_has_no_result format (inr (inl unknown)) = absurd (omega (arith, unknown))
+only_up_has_no_result format (inr (inr none)) = absurd cc
+
+pub nothing_is_above : (format : Format) → NoneRounded 3 format 1_500_000_000 → NoneAbove format 1_500_000_000
+nothing_is_above format (inl long) = absurd (long (omega arith))
+nothing_is_above format (inr (inl unknown)) = absurd (omega (arith, unknown))
+nothing_is_above format (inr (inr none)) = none.1
+
+pub formatted_as_it_is : (format : Format) (text : List ℕ) → IsFormatted 0 format 1_500_000_000 text
+    → IsPrintedWithin format 1_500_000_000 text
+formatted_as_it_is format text (inl (right, (shown, is, printed))) = rw is at printed
+formatted_as_it_is format text (inr (inl long, empty)) = absurd (long (omega arith))
+formatted_as_it_is format text (inr (inr (inl unknown), empty)) = absurd (omega (arith, unknown))
+formatted_as_it_is format text (inr (inr (inr none), empty)) = absurd cc
+
+pub unknown_rounding_prints_nothing : (format : Format) (text : List ℕ) → IsFormatted 4 format 1_500_000_000 text
+    → text ≡ []
+unknown_rounding_prints_nothing format text (inl (right, printed)) = absurd (omega (arith, right.1))
+unknown_rounding_prints_nothing format text (inr (none, empty)) = empty
+
+pub parts_are_those_of_the_format : (counts : List ℕ) (rest : ℕ)
+    (broken_down : IsBrokenDown None whole_format 1_500_000_000 counts rest)
+    → ArePartsRounded None whole_format 1_500_000_000 broken_down.shown broken_down.parts
+parts_are_those_of_the_format counts rest broken_down = broken_down.are_parts
+
+pub counts_are_those_of_the_parts : (counts : List ℕ) (rest : ℕ)
+    (broken_down : IsBrokenDown None whole_format 1_500_000_000 counts rest) → counts ≡ counts_of broken_down.parts
+counts_are_those_of_the_parts counts rest broken_down = broken_down.each
+
+pub parts_and_rest_are_all : (counts : List ℕ) (rest : ℕ)
+    (broken_down : IsBrokenDown None whole_format 1_500_000_000 counts rest)
+    → broken_down.shown ≡ sum_of_parts broken_down.parts + rest
+parts_and_rest_are_all counts rest broken_down = broken_down.whole
+
+pub too_large_is_a_count_or_the_rest : (format : Format) (too_large : IsTooLarge None format 1_500_000_000)
+    → Any (λ n. 2 ^ 64 ≤ n) too_large.counts ⊎ (2 ^ 64 ≤ too_large.rest)
+too_large_is_a_count_or_the_rest format too_large = too_large.large
+
+pub too_large_is_broken_down : (format : Format) (too_large : IsTooLarge None format 1_500_000_000)
+    → IsBrokenDown None format 1_500_000_000 too_large.counts too_large.rest
+too_large_is_broken_down format too_large = too_large.broken_down

@@ -1,14 +1,19 @@
 -- Examples that are computed, such as which bits are options, and the counts of units.
-use Rattle.std.proofs.Common.{◌≡◌, ◌+◌, ◌∷◌, [], codes, false, negsuc, None, pos, Some, true}
+use Rattle.std.proofs.Common.{◌≡◌, ◌+◌, ◌∷◌, [], codes, false, map, negsuc, None, pos, Some, true}
 use Rattle.duration_str.specs.Options.{off}
+use Rattle.duration_str.specs.declared.cause.Cause.TheVariants.{Empty, Mixed, NotText, NumberTooLarge, OutOfRange, Overflow, Syntax}
+use Rattle.duration_str.specs.declared.cause.Expected.{Expected}
+use Rattle.duration_str.specs.declared.format.Style.TheVariants.{Compact, Long, Short}
+use Rattle.duration_str.specs.declared.operator.CondUnit.TheVariants.{Plus, Star}
 use Rattle.duration_str.specs.declared.rounding.Rounding.TheVariants.{Down, Nearest, Up}
 use Rattle.duration_str.specs.declared.unit.TimeUnit.TheVariants.{Day, Hour, MilliSecond, Minute, NanoSecond, Second, Year}
 use Rattle.duration_str.specs.Breakdown.{parts_in, sum_of_parts}
 use Rattle.duration_str.specs.MoreNames.{more_row_of}
 use Rattle.duration_str.specs.Rules.{rules_of, unit_of_word}
 use Rattle.duration_str.specs.Units.{row_of, units}
-use Rattle.duration_str_c.specs.Answers.{are_options, default_unit_of_bits, rules_of_bits}
+use Rattle.duration_str_c.specs.Answers.{are_options, bits_of, cause_number, default_unit_of_bits, first_sign, later_sign, options_of_bits, rules_of_bits}
 use Rattle.duration_str_c.specs.Breakdown.{counts_of}
+use Rattle.duration_str_c.specs.Format.{style_numbered}
 use Rattle.duration_str_c.specs.Rounding.{rounding_numbered}
 use Rattle.duration_str_c.specs.Units.{number_of}
 
@@ -41,6 +46,27 @@ pub record Bits : Type 0 where
 
 pub bits : Bits
 bits = assumption
+
+abbrev number_or_operator : Expected
+number_or_operator = record { number = true; unit_word = false; operator = true; text_end = false }
+
+abbrev unit_or_end : Expected
+unit_or_end = record { number = false; unit_word = true; operator = false; text_end = true }
+
+pub record Numbers : Type 0 where
+  pub option-no_calc : options_of_bits 1 ≡ record off { no_calc = true }
+  pub option-lowercase : options_of_bits 2 ≡ record off { lowercase = true }
+  pub option-cn_unit : options_of_bits 4 ≡ record off { cn_unit = true }
+  pub causes : map cause_number (Empty ∷ Syntax 0 unit_or_end ∷ NumberTooLarge None ∷ Overflow None ∷ Mixed Plus Star
+      ∷ OutOfRange ∷ NotText false ∷ []) ≡ 1 ∷ 2 ∷ 3 ∷ 4 ∷ 5 ∷ 6 ∷ 7 ∷ []
+  pub number_and_operator : bits_of number_or_operator ≡ 5
+  pub unit_and_end : bits_of unit_or_end ≡ 10
+  pub first_operator : first_sign (Mixed Star Plus) ≡ 42
+  pub later_operator : later_sign (Mixed Star Plus) ≡ 43
+  pub styles : map style_numbered (0 ∷ 1 ∷ 2 ∷ []) ≡ Short ∷ Compact ∷ Long ∷ []
+
+pub numbers : Numbers
+numbers = assumption
 
 pub record Roundings : Type 0 where
   pub none : rounding_numbered 0 ≡ None

@@ -1,2 +1,3 @@
+pub mod ResultRows
 pub mod Rows
 pub mod UnitLemmas

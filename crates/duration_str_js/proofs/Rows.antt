@@ -1,13 +1,19 @@
 -- Examples that are computed, such as the rules that bits stand for, and the counts of parts.
-use Rattle.std.proofs.Common.{◌≡◌, ◌∷◌, [], None, Some}
+use Rattle.std.proofs.Common.{◌≡◌, ◌∷◌, [], false, map, negsuc, None, Some, true}
+use Rattle.duration_str.specs.Options.{off}
+use Rattle.duration_str.specs.declared.cause.Cause.TheVariants.{Empty, Mixed, NotText, NumberTooLarge, OutOfRange, Overflow, Syntax}
+use Rattle.duration_str.specs.declared.cause.Expected.{Expected}
+use Rattle.duration_str.specs.declared.format.Style.TheVariants.{Compact, Long, Short}
+use Rattle.duration_str.specs.declared.help.Help.TheVariants.{DidYouMean, Negative}
+use Rattle.duration_str.specs.declared.operator.CondUnit.TheVariants.{Plus, Star}
 use Rattle.duration_str.specs.declared.format.TheConstants.Units.{ALL}
 use Rattle.duration_str.specs.declared.rounding.Rounding.TheVariants.{Down, Nearest, Up}
 use Rattle.duration_str.specs.declared.unit.TimeUnit.TheVariants.{Day, Hour, MilliSecond, Minute, NanoSecond, Second, Year}
 use Rattle.duration_str.specs.Format.{set_of}
 use Rattle.duration_str.specs.MoreNames.{more_row_of}
 use Rattle.duration_str.specs.Units.{row_of}
-use Rattle.duration_str_js.specs.Printing.{rounding_numbered, units_among, units_of, with_counts}
-use Rattle.duration_str_js.specs.Reading.{default_unit_of_bits, rules_of_bits}
+use Rattle.duration_str_js.specs.Printing.{rounding_numbered, style_numbered, units_among, units_of, with_counts}
+use Rattle.duration_str_js.specs.Reading.{bits_of, cause_number, default_unit_of_bits, number_of, options_of_bits, place_number, rules_of_bits, unit_number}
 
 pub record Bits : Type 0 where
   pub names-more : (rules_of_bits 17).table Minute ≡ more_row_of Minute
@@ -23,6 +29,28 @@ pub record Bits : Type 0 where
 pub bits : Bits
 bits = assumption
 
+abbrev number_or_operator : Expected
+number_or_operator = record { number = true; unit_word = false; operator = true; text_end = false }
+
+abbrev unit_or_end : Expected
+unit_or_end = record { number = false; unit_word = true; operator = false; text_end = true }
+
+pub record Refusals : Type 0 where
+  pub option-no_calc : options_of_bits 1 ≡ record off { no_calc = true }
+  pub option-lowercase : options_of_bits 2 ≡ record off { lowercase = true }
+  pub option-cn_unit : options_of_bits 4 ≡ record off { cn_unit = true }
+  pub causes : map cause_number (Empty ∷ Syntax 0 unit_or_end ∷ NumberTooLarge None ∷ Overflow None ∷ Mixed Plus Star
+      ∷ OutOfRange ∷ NotText false ∷ []) ≡ 1 ∷ 2 ∷ 3 ∷ 4 ∷ 5 ∷ 6 ∷ 7 ∷ []
+  pub number_and_operator : bits_of number_or_operator ≡ 5
+  pub unit_and_end : bits_of unit_or_end ≡ 10
+  pub no_place : place_number None ≡ negsuc 0
+  pub help-none : number_of None ≡ 0
+  pub unit-none : unit_number (Some Negative) ≡ 0
+  pub unit-nanosecond : unit_number (Some (DidYouMean NanoSecond)) ≡ 11
+
+pub refusals : Refusals
+refusals = assumption
+
 pub record Numbers : Type 0 where
   pub rounding-none : rounding_numbered 0 ≡ None
   pub rounding-down : rounding_numbered 1 ≡ Some Down
@@ -32,6 +60,7 @@ pub record Numbers : Type 0 where
   pub units-quarter : units_of 2 ≡ record { bits = 2 }
   pub units-all : units_of 2047 ≡ ALL
   pub units-above_the_last : units_of 2048 ≡ ALL
+  pub styles : map style_numbered (0 ∷ 1 ∷ 2 ∷ 3 ∷ []) ≡ Short ∷ Compact ∷ Long ∷ Long ∷ []
 
 pub numbers : Numbers
 numbers = assumption

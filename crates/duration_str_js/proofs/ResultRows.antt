@@ -1,0 +1,51 @@
+-- Rows of definitions that say what calls return: what follows from each in one case. A definition
+-- that said less would be refused here.
+use Rattle.std.specs.Prelude.{◌≡◌, ℕ, ◌-◌, ◌%◌, ◌^◌, List, None, codes, pos}
+use Rattle.std.specs.Str.{chars}
+use Rattle.std.proofs.Common.{false, refl, true}
+use Rattle.duration_str.proofs.Sentences.AnswerLemmas.{answer_refused, one_reading_holds}
+use Rattle.duration_str.specs.Breakdown.{ArePartsRounded, sum_of_parts}
+use Rattle.duration_str.specs.Format.{set_of, whole_format}
+use Rattle.duration_str.specs.Reading.{IsRefused}
+use Rattle.duration_str.specs.Report.{report_of}
+use Rattle.duration_str.specs.declared.cause.Cause.{Cause}
+use Rattle.duration_str.specs.declared.cause.Cause.TheVariants.{Syntax}
+use Rattle.duration_str.specs.declared.cause.Expected.{Expected}
+use Rattle.duration_str.specs.declared.format.Units.{Units}
+use Rattle.duration_str_js.specs.Printing.{IsCounted, units_among, with_counts}
+use Rattle.duration_str_js.specs.Reading.{IsReported, rules_of_bits}
+use Rattle.duration_str_js.specs.declared.reading.Refusal.{Refusal}
+
+abbrev after_number : Expected
+after_number = record { number = false; unit_word = true; operator = true; text_end = true }
+
+abbrev mins : Cause
+mins = Syntax 2 after_number
+
+one_cause : (cause : Cause) → IsRefused (rules_of_bits 0) (chars (codes "5 mins")) cause → cause ≡ mins
+unfolding chars
+one_cause cause refused =
+    one_reading_holds.one_cause (rules_of_bits 0) (chars (codes "5 mins")) cause mins refused
+    ((answer_refused (rules_of_bits 0) (chars (codes "5 mins")) mins).0 refl)
+
+pub what_is_said_of_mins : (refusal : Refusal) (report : List ℕ) → IsReported 0 (codes "5 mins") refusal report
+    → refusal ≡ record { place = pos 2; found_length = 4; cause = 2; expected = 14; help = 1; unit = 7 }
+unfolding chars
+what_is_said_of_mins refusal report (cause, refused, same, is) = rw (one_cause cause refused) at same
+
+pub report_of_mins : (refusal : Refusal) (report : List ℕ) → IsReported 0 (codes "5 mins") refusal report
+    → report ≡ report_of (codes "5 mins") mins
+report_of_mins refusal report (cause, refused, same, is) = rw (one_cause cause refused) at is
+
+module _ (old new : List ℕ) (rest : ℕ) (set : Units) (is : IsCounted None whole_format 1_500_000_000 old new rest set) where
+  pub parts_are_those_of_the_format : ArePartsRounded None whole_format 1_500_000_000 is.shown is.parts
+  parts_are_those_of_the_format = is.are_parts
+
+  pub counts_are_written_over : new ≡ with_counts old is.parts
+  counts_are_written_over = is.counts
+
+  pub units_are_those_of_the_parts : set ≡ set_of (units_among is.parts)
+  units_are_those_of_the_parts = is.units
+
+  pub rest_is_what_the_parts_leave : rest ≡ (is.shown - sum_of_parts is.parts) % 2 ^ 64
+  rest_is_what_the_parts_leave = is.rest_of
