@@ -16,7 +16,7 @@
 //! is the only capital with a digit that is in a name.
 //!
 //! To find the unit, the number is multiplied by a constant, so that each name has a slot of its
-//! own:
+//! own. A `match` of the number would take more time, from mispredicted branches.
 //!
 //! ```text
 //!  packed * SPREAD
