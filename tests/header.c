@@ -142,6 +142,7 @@ static void check_null_texts(void) {
     uint64_t nanos = 7;
     struct duration_str_answer answer;
     expect(!duration_str_parse(NULL, 0, &nanos) && nanos == 7, "a null text");
+    expect(duration_str_parse("0", 1, &nanos) && nanos == 0, "zero");
     expect(!duration_str_parse_with(NULL, 0, 0, &answer), "a null text with options");
     expect(answer.cause == DURATION_STR_CAUSE_EMPTY, "its answer");
     expect(duration_str_unit(NULL, 0) == -1, "a null name");
@@ -245,7 +246,7 @@ static void check_breakdowns(void) {
                    millisecond = DURATION_STR_UNITS(DURATION_STR_UNIT_MILLISECOND);
     const struct breakdown rows[] = {
         {39689999, 123456789, all, 11, none, {1, 1, 0, 0, 3, 8, 59, 59, 123, 456, 789}, 0},
-        {0, 39689999123456789, all, 11, none, {1, 1, 0, 0, 3, 8, 59, 59, 123, 456, 789}, 0},
+        {0, 39689999123456789, all, 1u << 31, none, {1, 1, 0, 0, 3, 8, 59, 59, 123, 456, 789}, 0},
         {7199, 0, all, 1, none, {0, 0, 0, 0, 0, 1, 0, 0, 0, 0, 0}, 3599000000000},
         {7199, 0, all, 1, down, {0, 0, 0, 0, 0, 1, 0, 0, 0, 0, 0}, 0},
         {7199, 0, all, 1, nearest, {0, 0, 0, 0, 0, 2, 0, 0, 0, 0, 0}, 0},

@@ -1,11 +1,15 @@
-/* `german TEXT..` says in German what is wrong with each text. It uses no words of the library's
- * line. */
+/* `german TEXT..` says in German what is wrong with each text, without the library's words. */
 #include <stdio.h>
 #include <string.h>
 
 #include "duration_str.h"
 
-static const char *const helps[] = {
+static const char *const causes[] = {[DURATION_STR_CAUSE_EMPTY] = "leere Eingabe",
+    [DURATION_STR_CAUSE_NUMBER_TOO_LARGE] = "zu große Zahl",
+    [DURATION_STR_CAUSE_OVERFLOW] = "mehr als 584 Jahre",
+    [DURATION_STR_CAUSE_MIXED] = "Summe und Produkt gemischt",
+    [DURATION_STR_CAUSE_NOT_TEXT] = "kein UTF-8"};
+static const char *const helps[] = {[DURATION_STR_HELP_DID_YOU_MEAN] = "besser ",
     [DURATION_STR_HELP_UNITS] = "Einheiten: y, q, mon, w, d, h, min, s, ms, us, ns",
     [DURATION_STR_HELP_FRACTION] = "Zahlen haben nur Ziffern: 1500ms statt 1.5s",
     [DURATION_STR_HELP_DIGITS_ONLY] = "Zahlen haben nur Ziffern",
@@ -20,103 +24,36 @@ static const char *const helps[] = {
     [DURATION_STR_HELP_QUOTATION_MARKS] = "ohne Anführungszeichen",
     [DURATION_STR_HELP_MISSING_UNIT] = "mit Einheit: y, q, mon, w, d, h, min, s, ms, us, ns",
     [DURATION_STR_HELP_ZERO] = "besser 0s",
-    [DURATION_STR_HELP_LARGE_NUMBER] = "mit Einheit, etwa ns",
-};
+    [DURATION_STR_HELP_LARGE_NUMBER] = "mit Einheit, etwa ns"};
+static const char *const kinds[] = {"einer Zahl", "einer Einheit", "+ oder *", "des Endes"};
+/* A later version can have more causes and helps. */
+#define WORDS(list, at) ((at) < sizeof list / sizeof *list && list[at] ? list[at] : "")
 
-/* Prints what could stand at the place. */
-static void say_expected(uint32_t expected) {
-    static const struct {
-        uint32_t bit;
-        const char *words;
-    } kinds[] = {
-        {DURATION_STR_EXPECTED_UNIT, "einer Einheit"},
-        {DURATION_STR_EXPECTED_NUMBER, "einer Zahl"},
-        {DURATION_STR_EXPECTED_OPERATOR, "+ oder *"},
-        {DURATION_STR_EXPECTED_END, "des Endes"},
-    };
-    const char *before = " statt ";
-    for (size_t at = 0; at < sizeof kinds / sizeof *kinds; at++)
-        if (expected & kinds[at].bit) {
-            printf("%s%s", before, kinds[at].words);
-            before = " oder ";
-        }
-}
-
-/* Returns the column of a place, from 1: only the first byte of a character counts. */
-static size_t column_of(const char *text, size_t place) {
+static void say_syntax(const char *text, const struct duration_str_answer *answer) {
     size_t column = 1;
-    for (size_t at = 0; at < place; at++)
-        column += ((unsigned char)text[at] & 0xc0) != 0x80;
-    return column;
-}
-
-/* On a terminal, other characters can hide the line or change its order. */
-static bool is_printable_ascii(const char *token, size_t length) {
-    for (size_t at = 0; at < length; at++)
-        if (token[at] < ' ' || token[at] > '~')
-            return false;
-    return true;
-}
-
-static void say_found(const char *token, size_t length) {
-    if (length == 0)
-        printf("das Ende");
-    else if (is_printable_ascii(token, length)) {
-        printf("„");
-        fwrite(token, 1, length, stdout);
-        printf("“");
-    } else
-        printf("etwas anderes");
-}
-
-static void say_problem(const char *text, struct duration_str_answer answer) {
-    switch (answer.cause) {
-    case DURATION_STR_CAUSE_EMPTY:
-        printf("leere Eingabe");
-        break;
-    case DURATION_STR_CAUSE_NUMBER_TOO_LARGE:
-        printf("zu große Zahl");
-        break;
-    case DURATION_STR_CAUSE_OVERFLOW:
-        printf("mehr als 584 Jahre");
-        break;
-    case DURATION_STR_CAUSE_MIXED:
-        printf("Summe und Produkt gemischt");
-        break;
-    case DURATION_STR_CAUSE_NOT_TEXT:
-        printf("kein UTF-8");
-        break;
-    case DURATION_STR_CAUSE_SYNTAX:
-        printf("Spalte %zu: ", column_of(text, answer.place));
-        say_found(text + answer.place, answer.found_length);
-        say_expected(answer.expected);
-        break;
-    default:
-        printf("keine Dauer");
-    }
-}
-
-/* Says what is wrong with a text, or prints its duration. */
-static void say(const char *text, size_t length, uint32_t options) {
-    struct duration_str_answer answer;
-    char suggestion[DURATION_STR_SUGGESTION_BUFFER_SIZE];
-    char printed[DURATION_STR_FORMAT_BUFFER_SIZE];
-    if (duration_str_parse_with(text, length, options, &answer)) {
-        duration_str_format(answer.nanos, printed);
-        puts(printed);
-        return;
-    }
-    say_problem(text, answer);
-    const uint32_t help = duration_str_help(text, length, options, suggestion);
-    if (help == DURATION_STR_HELP_DID_YOU_MEAN)
-        printf(" (besser „%s“)", suggestion);
-    else if (help < sizeof helps / sizeof *helps && helps[help])
-        printf(" (%s)", helps[help]);
-    putchar('\n');
+    for (size_t at = 0; at < answer->place; at++)
+        column += ((unsigned char)text[at] & 0xc0) != 0x80; /* the first byte of a character */
+    printf("Spalte %zu: %s", column, answer->found_length ? "„" : "das Ende");
+    /* On a terminal, other characters can hide the line or change its order. */
+    for (const char *at = text + answer->place, *end = at + answer->found_length; at < end; at++)
+        putchar(*at >= ' ' && *at <= '~' ? *at : '?');
+    fputs(answer->found_length ? "“" : "", stdout);
+    for (unsigned bit = 0; bit < sizeof kinds / sizeof *kinds; bit++)
+        if (answer->expected & 1u << bit)
+            printf(" %s %s", answer->expected & ((1u << bit) - 1) ? "oder" : "statt", kinds[bit]);
 }
 
 int main(int count, char **words) {
-    for (int at = 1; at < count; at++)
-        say(words[at], strlen(words[at]), 0);
-    return 0;
+    for (int at = 1; at < count; at++) {
+        struct duration_str_answer answer;
+        char unit[DURATION_STR_SUGGESTION_BUFFER_SIZE];
+        const uint32_t help = duration_str_help(words[at], strlen(words[at]), 0, unit);
+        duration_str_parse_with(words[at], strlen(words[at]), 0, &answer);
+        fputs(WORDS(causes, answer.cause), stdout);
+        if (answer.cause == DURATION_STR_CAUSE_SYNTAX)
+            say_syntax(words[at], &answer);
+        if (help != DURATION_STR_HELP_NONE)
+            printf(" (%s%s)", WORDS(helps, help), unit);
+        putchar('\n');
+    }
 }

@@ -1,15 +1,6 @@
 //! Says in German what is wrong with durations. Run it by
 //! `cargo run --example german -- '5 mins' 1.5h`. It uses no words of the English line.
-use duration_str::{Cause, Expected, Fault, Help, Options, parse_with};
-
-/// Returns the line that says in German what is wrong.
-pub fn german(fault: &Fault<'_>) -> String {
-    let problem = problem(fault);
-    match fault.help().and_then(german_help) {
-        Some(help) => format!("{problem} ({help})"),
-        None => problem,
-    }
-}
+use duration_str::{Cause, Fault, Help, Options, parse_with};
 
 fn problem(fault: &Fault<'_>) -> String {
     match fault.cause() {
@@ -19,33 +10,23 @@ fn problem(fault: &Fault<'_>) -> String {
         Cause::Mixed { .. } => "Summe und Produkt gemischt".to_string(),
         Cause::Syntax { place, expected } => {
             let column = fault.text()[..place].chars().count() + 1;
-            let found = match fault.found() {
-                Some(token) => format!("„{}“", token.escape_debug()),
-                None => "das Ende".to_string(),
-            };
-            format!("Spalte {column}: {found} statt {}", kinds(expected))
+            let token = |token: &str| format!("„{}“", token.escape_debug());
+            let found = fault.found().map_or("das Ende".to_string(), token);
+            let unit = expected.unit_word.then_some("einer Einheit");
+            let number = expected.number.then_some("einer Zahl");
+            let operator = expected.operator.then_some("+ oder *");
+            let end = expected.text_end.then_some("des Endes");
+            let kinds = [unit, number, operator, end].into_iter().flatten();
+            let kinds = kinds.collect::<Vec<_>>().join(" oder ");
+            format!("Spalte {column}: {found} statt {kinds}")
         }
         _ => "keine Dauer".to_string(),
     }
 }
 
-/// Returns what could stand at the place.
-fn kinds(expected: Expected) -> String {
-    let kinds = [
-        (expected.unit_word, "einer Einheit"),
-        (expected.number, "einer Zahl"),
-        (expected.operator, "+ oder *"),
-        (expected.text_end, "des Endes"),
-    ];
-    let kinds = kinds.into_iter().filter(|(could_stand, _)| *could_stand);
-    let words: Vec<&str> = kinds.map(|(_, words)| words).collect();
-    words.join(" oder ")
-}
-
-/// Returns `None` for a help that a later version adds.
-fn german_help(help: Help) -> Option<String> {
+fn words(help: Help) -> String {
     let words = match help {
-        Help::DidYouMean(_) => return help.suggestion().map(|name| format!("besser „{name}“")),
+        Help::DidYouMean(_) => "besser ",
         Help::Units => "Einheiten: y, q, mon, w, d, h, min, s, ms, us, ns",
         Help::Fraction => "Zahlen haben nur Ziffern: 1500ms statt 1.5s",
         Help::DigitsOnly => "Zahlen haben nur Ziffern",
@@ -61,16 +42,16 @@ fn german_help(help: Help) -> Option<String> {
         Help::MissingUnit => "mit Einheit: y, q, mon, w, d, h, min, s, ms, us, ns",
         Help::Zero => "besser 0s",
         Help::LargeNumber => "mit Einheit, etwa ns",
-        _ => return None,
+        _ => "", // A later version can have more.
     };
-    Some(words.to_string())
+    format!(" ({words}{})", help.suggestion().unwrap_or_default())
 }
 
 fn main() {
     for text in std::env::args().skip(1) {
-        match parse_with(&text, Options::off()) {
-            Ok(duration) => println!("{} s", duration.as_secs_f64()),
-            Err(fault) => println!("{}", german(&fault)),
+        if let Err(fault) = parse_with(&text, Options::off()) {
+            let help = fault.help().map_or(String::new(), words);
+            println!("{}{help}", problem(&fault));
         }
     }
 }

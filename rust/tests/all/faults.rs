@@ -1,11 +1,9 @@
-use crate::german::german;
 use crate::{FEATURES, Refused, by_usual_calls, options_of, rules_of, vectors};
 use duration_str::{
-    Cause, DError, Expected, Fault, Help, Options, Rules, TimeUnit, parse, parse_by,
-    parse_require_unit, parse_with,
+    Cause, DError, Expected, Fault, Help, Options, Rules, parse, parse_by, parse_require_unit,
+    parse_with,
 };
 use duration_str_core as proved;
-use std::collections::HashSet;
 use std::error::Error;
 use std::fmt::Display;
 
@@ -78,36 +76,6 @@ fn tells_all_of_a_refusal() {
         if cause != "MIXED" && rules == Rules::of(options) {
             checks_message(text, options, *place, last_line(cause, kinds));
         }
-    }
-}
-
-/// The words of a line, except names of units, words with digits, and the name of the standard
-/// ISO 8601, which German has too.
-fn words_of(line: &str) -> HashSet<String> {
-    let words = line.split(|c: char| !c.is_alphanumeric());
-    words
-        .filter(|word| !word.is_empty() && !word.contains(|c: char| c.is_ascii_digit()))
-        .filter(|word| *word != "ISO" && word.parse::<TimeUnit>().is_err())
-        .map(str::to_lowercase)
-        .collect()
-}
-
-#[test]
-fn gives_what_a_program_needs_to_say_it_in_german() {
-    for Refused(text, names, _, _, found, _, line, _, help, suggestion) in &vectors().refused {
-        let rules = rules_of(options_of(names), names);
-        let said = german(&parse_by(text, rules).expect_err(text));
-        let mut own = said.clone();
-        for quoted in [found, suggestion].into_iter().flatten() {
-            let quoted = format!("„{}“", quoted.escape_debug());
-            assert!(own.contains(&quoted), "{said}");
-            own = own.replace(&quoted, "");
-        }
-        assert_eq!(own.ends_with(')'), help.is_some(), "{said}");
-        let line = line.replace("\\\"", "");
-        let english = words_of(&line.split('"').step_by(2).collect::<String>());
-        assert!(!english.is_empty(), "{line}");
-        assert!(words_of(&own).is_disjoint(&english), "{said}");
     }
 }
 

@@ -5,9 +5,6 @@ mod config;
 mod dates;
 mod faults;
 mod features;
-#[allow(dead_code)] // its `main`
-#[path = "../german.rs"]
-mod german;
 #[cfg(feature = "serde")]
 mod human;
 mod humantime_items;
