@@ -334,7 +334,8 @@ fn with_list(shell: Shell, script: &str) -> String {
                         COMPREPLY=("${{COMPREPLY[@]/#/"${{cur%"{last}"}}"}}")
                     fi"#
             );
-            without_files(&script.replace(answer, &answers))
+            // clap lists the name of the arguments as a word, too.
+            without_files(&script.replace(answer, &answers).replace(" [TEXT]...", ""))
         }
     }
 }

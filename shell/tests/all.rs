@@ -407,6 +407,6 @@ fn tells_of_itself() {
     ] {
         let script = answer(&["--completions", shell]);
         assert!(script.contains("smallest") && script.contains(list) && !script.contains("LIST"));
-        assert!(!script.contains("_default'"));
+        assert!(!script.contains("_default'") && !script.contains("TEXT]"));
     }
 }
