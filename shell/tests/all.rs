@@ -165,6 +165,59 @@ fn divides_csv_at_delimiters() {
 }
 
 #[test]
+fn keeps_no_refused_number_beside_numbers() {
+    let input = "a,90\nb,\"1.5h\",x\nc,1h\nd";
+    let kept = "a,90\nb,\"1.5h\",x\nc,3600\nd";
+    let empty = "a,\nb,\"\",x\nc,3600\nd";
+    for (words, wanted) in [
+        ("--to s", empty),
+        ("--to s --refused empty", empty),
+        ("--to s --refused keep", kept),
+        ("--to s --refused drop", "c,3600\n"),
+        ("", &kept.replace("3600", "1h")),
+        ("--refused empty", &empty.replace("3600", "1h")),
+    ] {
+        let all = format!("-d, --field 2 --require-unit {words}");
+        let words: Vec<_> = all.split_whitespace().collect();
+        let (status, output, errors) = run(&words, input.as_bytes());
+        assert_eq!((status, &*output), (1, wanted), "{words:?}");
+        assert_eq!(errors.lines().count(), 3, "{errors}");
+    }
+    // The next field doesn't take the place of a refused one.
+    let second = ["--field", "2", "--to", "s", "--require-unit"];
+    let (status, output, _) = run(&second, b" a  90 7\nb 1h 8\n\n");
+    assert_eq!((status, &*output), (1, " a  - 7\nb 3600 8\n\n"));
+}
+
+#[test]
+fn prints_what_is_chosen_for_refused_lines() {
+    let input = "1h\r\n 5 mins\r\n90";
+    for (what, wanted) in [
+        ("keep", "1h\n 5 mins\n1min 30s\n"),
+        ("empty", "1h\n\n1min 30s\n"),
+        ("drop", "1h\n1min 30s\n"),
+    ] {
+        let errors = format!("duration: line 2: {}\n", line(" 5 mins"));
+        let ran = run(&["--refused", what], input.as_bytes());
+        assert_eq!(ran, (1, wanted.into(), errors));
+        let (status, output, _) = run(&["--refused", what, "1h", " 5 mins", "90"], b"");
+        assert_eq!((status, &*output), (1, wanted));
+    }
+    let long = "x".repeat((1 << 21) + 1);
+    for (words, wanted) in [
+        ("--refused=keep", format!("{long}\n1h\n{long}\n")),
+        ("--refused=empty", "\n1h\n\n".into()),
+        ("--refused=drop", "1h\n".into()),
+        ("--field=1", format!("{long}\n1h\n{long}")),
+        ("--field=1 --refused=empty", "\n1h\n".into()),
+    ] {
+        let words: Vec<_> = words.split(' ').collect();
+        let (status, output, _) = run(&words, format!("{long}\n1h\n{long}").as_bytes());
+        assert!((status, output) == (1, wanted), "{words:?}");
+    }
+}
+
+#[test]
 fn prints_only_the_sum() {
     let log = b"time path took\n9:00 /a 150ms\n9:01 /b 2s\n";
     let third = ["--sum", "--header", "--field", "3"];
@@ -230,6 +283,8 @@ fn refuses_wrong_usage() {
         &["--completions", "bash", "1h"],
         &["--header", "1"],
         &["--pattern", "--round", "up"],
+        &["--json", "--refused", "keep", "1h"],
+        &["--sum", "--refused", "drop", "1h"],
     ] {
         let (status, output, errors) = run(words, b"");
         assert_eq!((status, &*output), (2, ""), "{words:?}");
