@@ -193,6 +193,12 @@ def advice_on(answer, before):
     return " (put a text with blanks in quotation marks)"
 
 
+def is_word(answer):
+    """Whether a text without help begins with a letter."""
+    starts = answer.column == 1 and re.match("[A-Za-z]", answer.found or "")
+    return bool(starts) and answer.help is None
+
+
 def left_of(line, begin, end, options):
     """What is printed for a line whose text, from `begin` to `end`, is refused. `begin` is None if
     the line has no such field."""
@@ -229,6 +235,8 @@ def said_of(line, options, where, before=None):
         )
     field = f", field {options['field']}" if "field" in options else ""
     advice = "" if before is None else advice_on(answer, before)
+    if where == "line 1" and field and "header" not in options and is_word(answer):
+        advice = " (for a header, write --header)"
     return Said(
         left_of(whole if too_long else line, begin, end, options),
         f"duration: {where}{field}: {answer.message}{advice}\n".encode(),

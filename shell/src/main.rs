@@ -294,6 +294,8 @@ impl Run<'_> {
         }
         let advice = if self.is_cut(&refusal, number) {
             " (put a text with blanks in quotation marks)"
+        } else if self.is_perhaps_header(&refusal, number) {
+            " (for a header, write --header)"
         } else {
             ""
         };
@@ -324,6 +326,14 @@ impl Run<'_> {
             '+' | '*' => true,
             _ => ends_with_digit && (first.is_ascii_alphabetic() || !first.is_ascii()),
         })
+    }
+
+    fn is_perhaps_header(&self, refusal: &Refusal, number: u64) -> bool {
+        let is_first_of_column = number == 1 && self.choices.field.is_some();
+        is_first_of_column
+            && self.choices.texts.is_empty()
+            && self.choices.header.is_none()
+            && refusal.is_word()
     }
 
     fn put(&mut self, answer: &[&[u8]]) -> io::Result<()> {

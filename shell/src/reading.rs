@@ -31,6 +31,14 @@ impl Refusal {
         found.chars().next()
     }
 
+    /// Whether the text begins with a letter, and the message gives no advice.
+    pub fn is_word(&self) -> bool {
+        self.help.is_none()
+            && self
+                .first()
+                .is_some_and(|first| first.is_ascii_alphabetic())
+    }
+
     pub fn json(&self, text: &[u8], what: &str, number: u64) -> String {
         let text = String::from_utf8_lossy(text);
         let column = self.place.map(|place| text[..place].chars().count() + 1);

@@ -190,6 +190,21 @@ fn keeps_no_refused_number_beside_numbers() {
 }
 
 #[test]
+fn advises_on_a_first_line_without_a_duration() {
+    let advice = "(for a header, write --header)\n";
+    let advises = |words: &[&str], input: &str| run(words, input.as_bytes()).2.contains(advice);
+    for words in [&["--field", "1"][..], &["--field=1", "--sum"]] {
+        assert!(advises(words, "takes\n1h\n"), "{words:?}");
+        assert!(!advises(words, "1h\ntakes\n"), "{words:?}");
+        // The message gives other advice.
+        assert!(!advises(words, "PT5M\n"), "{words:?}");
+    }
+    assert!(!advises(&["--field=1", "--header=0"], "takes\n"));
+    assert!(!advises(&["--field=1", "takes"], ""));
+    assert!(!advises(&[], "takes\n"));
+}
+
+#[test]
 fn prints_what_is_chosen_for_refused_lines() {
     let input = "1h\r\n 5 mins\r\n90";
     for (what, wanted) in [
