@@ -41,7 +41,8 @@ VALUES = (
         "refused": ("keep", "empty", "drop"),
     }
     | dict.fromkeys(
-        "json quiet zero-terminated lowercase cn-unit more-names require-unit pattern sum".split(),
+        """json json-errors quiet zero-terminated lowercase cn-unit more-names require-unit pattern
+        sum""".split(),
         [""],
     )
 )
@@ -222,8 +223,12 @@ def said_of(line, options, where, before=None):
     elif where.startswith("line"):
         ending = b"" if "zero-terminated" in options else b"\r"
         line = b"" if too_long else line.removesuffix(ending)
-    answer = refused("", "no such field") if begin is None else read(line[begin:end], options)
-    answer = refused("LINE_TOO_LONG", "line of over 1,048,576 bytes") if too_long else answer
+    if too_long:
+        answer = refused("LINE_TOO_LONG", "line of over 1,048,576 bytes")
+    elif begin is None:
+        answer = refused("NO_FIELD", "no such field")
+    else:
+        answer = read(line[begin:end], options)
     if "json" in options:
         output = json_object(line.decode(errors="replace"), answer, options, where).encode()
         return Said(output + b"\n", b"", int(isinstance(answer, Refused)))
@@ -234,11 +239,15 @@ def said_of(line, options, where, before=None):
             line[:begin] + printed(answer, options).encode() + line[end:] + end_of(options), b"", 0
         )
     field = f", field {options['field']}" if "field" in options else ""
+    left = left_of(whole if too_long else line, begin, end, options)
+    if "json-errors" in options:
+        text = (b"" if too_long else line[begin:end]).decode(errors="replace")
+        return Said(left, json_object(text, answer, options, where).encode() + b"\n", 1)
     advice = "" if before is None else advice_on(answer, before)
     if where == "line 1" and field and "header" not in options and is_word(answer):
         advice = " (for a header, write --header)"
     return Said(
-        left_of(whole if too_long else line, begin, end, options),
+        left,
         f"duration: {where}{field}: {answer.message}{advice}\n".encode(),
         1,
     )
@@ -296,8 +305,9 @@ def is_wrong(options, texts):
     numbers = names & (shapes if "to" in names else {"decimals"})
     fields = (
         "json" in names
-        and names & {"field", "header", "sum", "refused"}
-        or {"sum", "refused"} <= names
+        and names & {"field", "header", "sum", "refused", "json-errors"}
+        or "sum" in names
+        and names & {"refused", "json-errors"}
         or "delimiter" in names
         and "field" not in names
     )

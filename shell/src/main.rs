@@ -203,8 +203,7 @@ impl Run<'_> {
 
     fn line(&mut self, line: &[u8], number: u64) -> io::Result<()> {
         let Some([before, text, after]) = self.cut(line) else {
-            // Only `--json` shows the cause, and `--field` can't be given with it.
-            self.tell(Refusal::new("", "no such field"), line, number)?;
+            self.tell(Refusal::new("NO_FIELD", "no such field"), line, number)?;
             return match self.choices.refused() {
                 Refused::Drop => Ok(()),
                 _ => self.put(&[line]),
@@ -292,6 +291,12 @@ impl Run<'_> {
         if self.choices.quiet {
             return Ok(());
         }
+        // On a terminal, the answers so far should stand above what is told.
+        self.output.flush()?;
+        if self.choices.json_errors {
+            let object = refusal.json(text, what, number) + "\n";
+            return io::stderr().write_all(object.as_bytes());
+        }
         let advice = if self.is_cut(&refusal, number) {
             " (put a text with blanks in quotation marks)"
         } else if self.is_perhaps_header(&refusal, number) {
@@ -299,8 +304,6 @@ impl Run<'_> {
         } else {
             ""
         };
-        // On a terminal, the answers so far should stand above this line.
-        self.output.flush()?;
         let field = self
             .choices
             .field
@@ -328,12 +331,10 @@ impl Run<'_> {
         })
     }
 
+    /// Whether a refused field perhaps belongs to a header.
     fn is_perhaps_header(&self, refusal: &Refusal, number: u64) -> bool {
-        let is_first_of_column = number == 1 && self.choices.field.is_some();
-        is_first_of_column
-            && self.choices.texts.is_empty()
-            && self.choices.header.is_none()
-            && refusal.is_word()
+        let is_column = self.choices.field.is_some() && self.choices.texts.is_empty();
+        is_column && number == 1 && self.choices.header.is_none() && refusal.is_word()
     }
 
     fn put(&mut self, answer: &[&[u8]]) -> io::Result<()> {

@@ -84,6 +84,9 @@ pub struct Choices {
     /// Print a JSON object for each text, also for a refused one
     #[arg(long, conflicts_with_all = ["field", "delimiter", "header", "sum"])]
     pub json: bool,
+    /// On standard error, print a JSON object for each refused text
+    #[arg(long, conflicts_with_all = ["sum", "json"])]
+    pub json_errors: bool,
     /// Print no durations and no refusals; the status says whether all texts were read
     #[arg(short, long)]
     pub quiet: bool,
@@ -104,7 +107,7 @@ pub struct Choices {
     pub require_unit: bool,
     /// Print the regular expression of the texts that the grammar allows, for validators
     #[arg(long, conflicts_with_all = SHAPES, conflicts_with_all = ["texts", "to", "decimals",
-        "round", "field", "delimiter", "header", "refused", "sum", "json", "quiet"])]
+        "round", "field", "delimiter", "header", "refused", "sum", "json", "json_errors", "quiet"])]
     pub pattern: bool,
     /// Print the completions for a shell
     #[arg(long, value_name = "SHELL", exclusive = true, value_parser =
@@ -172,14 +175,12 @@ impl Choices {
 
     /// In a column of numbers, a refused text that stays can look like a converted one.
     pub fn refused(&self) -> Refused {
-        let of_field = match self.to {
-            Some(_) => Refused::Empty,
-            None => Refused::Keep,
+        let default = match (self.field, self.to) {
+            (Some(_), Some(_)) if !self.sum => Refused::Empty,
+            (Some(_), None) if !self.sum => Refused::Keep,
+            _ => Refused::Drop,
         };
-        match self.field {
-            Some(_) if !self.sum => self.refused.unwrap_or(of_field),
-            _ => self.refused.unwrap_or(Refused::Drop),
-        }
+        self.refused.unwrap_or(default)
     }
 
     pub fn reading(&self) -> Options {

@@ -33,10 +33,8 @@ impl Refusal {
 
     /// Whether the text begins with a letter, and the message gives no advice.
     pub fn is_word(&self) -> bool {
-        self.help.is_none()
-            && self
-                .first()
-                .is_some_and(|first| first.is_ascii_alphabetic())
+        let first = self.first().filter(char::is_ascii_alphabetic);
+        first.is_some() && self.help.is_none()
     }
 
     pub fn json(&self, text: &[u8], what: &str, number: u64) -> String {

@@ -190,6 +190,28 @@ fn keeps_no_refused_number_beside_numbers() {
 }
 
 #[test]
+fn says_in_json_which_fields_are_refused() {
+    let words = "-d, --field 2 --to s --json-errors".split(' ');
+    let words: Vec<_> = words.collect();
+    let input = b"a,\"1h*1m+1\"\nb,1h\nc";
+    let no_more = r#""column":null,"expected":[],"found":null,"help":null,"suggestion":null,"#;
+    let wanted = [
+        r#"{"text":"1h*1m+1","line":1,"cause":"MIXED","#,
+        no_more,
+        r#""message":"sum and product mixed in \"1h*1m+1\""}"#,
+        "\n",
+        r#"{"text":"c","line":3,"cause":"NO_FIELD","#,
+        no_more,
+        r#""message":"no such field"}"#,
+        "\n",
+    ];
+    let output = "a,\"\"\nb,3600\nc";
+    assert_eq!(run(&words, input), (1, output.into(), wanted.concat()));
+    let quiet = [&words[..], &["-q"]].concat();
+    assert_eq!(run(&quiet, input), (1, "".into(), "".into()));
+}
+
+#[test]
 fn advises_on_a_first_line_without_a_duration() {
     let advice = "(for a header, write --header)\n";
     let advises = |words: &[&str], input: &str| run(words, input.as_bytes()).2.contains(advice);
@@ -298,8 +320,12 @@ fn refuses_wrong_usage() {
         &["--completions", "bash", "1h"],
         &["--header", "1"],
         &["--pattern", "--round", "up"],
+        &["--pattern", "--refused", "keep"],
+        &["--pattern", "--json-errors"],
         &["--json", "--refused", "keep", "1h"],
         &["--sum", "--refused", "drop", "1h"],
+        &["--sum", "--json-errors", "1h"],
+        &["--json", "--json-errors", "1h"],
     ] {
         let (status, output, errors) = run(words, b"");
         assert_eq!((status, &*output), (2, ""), "{words:?}");
