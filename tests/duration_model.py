@@ -38,9 +38,11 @@ VALUES = (
         "delimiter": tuple(',,;:\t "-^]5'),
         "header": (0, 1, 1, 2, 9),
         "parts": (1, 2, 3, 12, 2**64 - 1),
+        "refused": ("keep", "empty", "drop"),
     }
     | dict.fromkeys(
-        "json quiet zero-terminated lowercase cn-unit more-names require-unit pattern sum".split(),
+        """json json-errors quiet zero-terminated lowercase cn-unit more-names require-unit pattern
+        sum""".split(),
         [""],
     )
 )
@@ -48,7 +50,7 @@ WITH_PATTERN = {"pattern", "lowercase", "cn-unit", "more-names", "require-unit"}
 WITH_PATTERN |= {"from", "zero-terminated"}
 WRONG_WORDS = """--to= --to=mins --to=年 --from=secs --largest=mo --round=half --decimals=10 --units=
 --units=y,mins --parts=0 --parts=+12 --parts=two --field=0 --field=+1 --field=-1 -dab -dé
---header= --header=x --header=+1 --decimals=+5 --none -x""".split()
+--header= --header=x --header=+1 --decimals=+5 --refused= --refused=Keep --none -x""".split()
 # These are read only as a whole.
 NUMBERS = ("12.5", ".5", "1e-05", "2.5E+3", "0.5e0", "\t3.0 ", "1e-99999999999999999999")
 WORDS = """--to=ms --from=Hour --largest=µs --smallest=mon --units=y,d --style=long
@@ -164,8 +166,11 @@ def field_in(line, options):
         pattern = f"(?<![^{{0}}])(?:{quoted}[^{{0}}]*)"
     fields = re.finditer(pattern.format(re.escape(options.get("delimiter", BLANKS))).encode(), line)
     field = dict(enumerate(fields, 1)).get(options["field"])
-    begin = field and field.end() - len(field[0].lstrip(EDGES))
-    return field and (begin, begin + len(field[0].strip(EDGES)))
+    if not field:
+        return None
+    text = field[0].strip(EDGES)
+    begin = field.start() + field[0].index(text)
+    return begin, begin + len(text)
 
 
 def json_object(text, answer, options, where):
@@ -189,16 +194,41 @@ def advice_on(answer, before):
     return " (put a text with blanks in quotation marks)"
 
 
+def is_word(answer):
+    """Whether a text without help begins with a letter."""
+    starts = answer.column == 1 and re.match("[A-Za-z]", answer.found or "")
+    return bool(starts) and answer.help is None
+
+
+def left_of(line, begin, end, options):
+    """What is printed for a line whose text, from `begin` to `end`, is refused. `begin` is None if
+    the line has no such field."""
+    of_field = "empty" if "to" in options else "keep"
+    what = options.get("refused", of_field if "field" in options else "drop")
+    if what == "drop" or "sum" in options:
+        return b""
+    if what == "empty" and len(line) > LONGEST_LINE:
+        line = b""
+    elif what == "empty" and begin is not None:
+        mark = b"-" if "field" in options and "delimiter" not in options else b""
+        line = line[:begin] + mark + line[end:]
+    return line + end_of(options)
+
+
 def said_of(line, options, where, before=None):
     """`where` is, for example, `line 1`. `before` is the argument before, if there is one."""
-    too_long, begin, end = len(line) > LONGEST_LINE, 0, len(line)
+    too_long, begin, end, whole = len(line) > LONGEST_LINE, 0, len(line), line
     if "field" in options:
         begin, end = field_in(line, options) or (None, None)
     elif where.startswith("line"):
         ending = b"" if "zero-terminated" in options else b"\r"
         line = b"" if too_long else line.removesuffix(ending)
-    answer = refused("", "no such field") if begin is None else read(line[begin:end], options)
-    answer = refused("LINE_TOO_LONG", "line of over 1,048,576 bytes") if too_long else answer
+    if too_long:
+        answer = refused("LINE_TOO_LONG", "line of over 1,048,576 bytes")
+    elif begin is None:
+        answer = refused("NO_FIELD", "no such field")
+    else:
+        answer = read(line[begin:end], options)
     if "json" in options:
         output = json_object(line.decode(errors="replace"), answer, options, where).encode()
         return Said(output + b"\n", b"", int(isinstance(answer, Refused)))
@@ -209,9 +239,15 @@ def said_of(line, options, where, before=None):
             line[:begin] + printed(answer, options).encode() + line[end:] + end_of(options), b"", 0
         )
     field = f", field {options['field']}" if "field" in options else ""
+    left = left_of(whole if too_long else line, begin, end, options)
+    if "json-errors" in options:
+        text = (b"" if too_long else line[begin:end]).decode(errors="replace")
+        return Said(left, json_object(text, answer, options, where).encode() + b"\n", 1)
     advice = "" if before is None else advice_on(answer, before)
+    if where == "line 1" and field and "header" not in options and is_word(answer):
+        advice = " (for a header, write --header)"
     return Said(
-        0 if "sum" in options else (line + end_of(options)) * bool(field),
+        left,
         f"duration: {where}{field}: {answer.message}{advice}\n".encode(),
         1,
     )
@@ -269,7 +305,9 @@ def is_wrong(options, texts):
     numbers = names & (shapes if "to" in names else {"decimals"})
     fields = (
         "json" in names
-        and names & {"field", "header", "sum"}
+        and names & {"field", "header", "sum", "refused", "json-errors"}
+        or "sum" in names
+        and names & {"refused", "json-errors"}
         or "delimiter" in names
         and "field" not in names
     )

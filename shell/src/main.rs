@@ -6,7 +6,7 @@ mod patterns;
 mod reading;
 
 use duration_str::{FORMAT_BUFFER_SIZE, TimeUnit};
-use options::{Choices, Round};
+use options::{Choices, Refused, Round};
 use reading::Refusal;
 use std::ffi::{CStr, OsStr, OsString, c_char, c_int};
 use std::fs::File;
@@ -124,11 +124,6 @@ impl Run<'_> {
         io::stderr().write_all(b"duration: sum of over 584 years\n")
     }
 
-    /// Whether what is not read as a duration is written as it is.
-    fn keeps_others(&self) -> bool {
-        self.choices.field.is_some() && !self.choices.sum
-    }
-
     /// A line that ends as on Windows. A field is cut without the carriage return anyway.
     fn without_return<'a>(&self, line: &'a [u8]) -> &'a [u8] {
         if self.choices.field.is_some() || self.end != b'\n' {
@@ -144,23 +139,17 @@ impl Run<'_> {
                 break;
             }
             let text = line.strip_suffix(&[self.end]).unwrap_or(&line);
-            self.is_open = text.len() == line.len()
-                && (self.choices.field.is_some() || self.choices.header.is_some());
+            self.is_open = self.stays_open(text.len() == line.len());
             let is_header = number <= self.choices.header.unwrap_or(0);
-            let stays = if is_header {
-                !self.choices.sum
-            } else {
-                self.keeps_others()
-            };
             if text.len() > LONGEST {
                 if !is_header {
                     let refusal = Refusal::new("LINE_TOO_LONG", "line of over 1,048,576 bytes");
                     self.tell(refusal, b"", number)?;
                 }
-                self.pass(&mut input, &mut line, stays)?;
+                self.pass(&mut input, &mut line, is_header)?;
             } else if !is_header {
                 self.line(self.without_return(text), number)?;
-            } else if stays {
+            } else if !self.choices.sum {
                 self.put(&[text])?;
             }
         }
@@ -182,28 +171,43 @@ impl Run<'_> {
         Ok(read.map_err(of_input)? > 0)
     }
 
-    /// Reads the rest of a line that is too long, and, if `stays` is true, writes the whole line.
+    /// Reads the rest of a line that is too long, and writes the whole line if it stays.
     fn pass(
         &mut self,
         input: &mut BufReader<File>,
         line: &mut Vec<u8>,
-        stays: bool,
+        is_header: bool,
     ) -> io::Result<()> {
+        let refused = match self.choices.refused() {
+            _ if is_header && !self.choices.sum => Refused::Keep,
+            refused => refused,
+        };
+        let stays = refused == Refused::Keep;
         while !line.is_empty() && !line.ends_with(&[self.end]) {
             self.output.write_all(if stays { line } else { b"" })?;
             self.next(input, line)?;
         }
-        self.output.write_all(if stays { line } else { b"" })
+        self.is_open = self.stays_open(line.is_empty());
+        let rest = line.strip_suffix(&[self.end]).unwrap_or(b"");
+        match refused {
+            Refused::Keep => self.put(&[rest]),
+            Refused::Empty => self.put(&[]),
+            Refused::Drop => Ok(()),
+        }
+    }
+
+    /// Whether the answer to the input's last line gets no line end, if that line has none.
+    fn stays_open(&self, is_open: bool) -> bool {
+        is_open && (self.choices.field.is_some() || self.choices.header.is_some())
     }
 
     fn line(&mut self, line: &[u8], number: u64) -> io::Result<()> {
         let Some([before, text, after]) = self.cut(line) else {
-            return self.refuse(
-                // Only `--json` shows the cause, and `--field` can't be given with it.
-                Refusal::new("", "no such field"),
-                [b"", line, b""],
-                number,
-            );
+            self.tell(Refusal::new("NO_FIELD", "no such field"), line, number)?;
+            return match self.choices.refused() {
+                Refused::Drop => Ok(()),
+                _ => self.put(&[line]),
+            };
         };
         match reading::read(text, self.choices) {
             Err(refusal) => self.refuse(refusal, [before, text, after], number),
@@ -264,10 +268,13 @@ impl Run<'_> {
 
     fn refuse(&mut self, refusal: Refusal, line: [&[u8]; 3], number: u64) -> io::Result<()> {
         self.tell(refusal, line[1], number)?;
-        if self.keeps_others() {
-            self.put(&line)
-        } else {
-            Ok(())
+        let is_between_blanks = self.choices.field.is_some() && self.choices.delimiter.is_none();
+        // Between blanks, the next field would take the place of an empty one.
+        let empty: &[u8] = if is_between_blanks { b"-" } else { b"" };
+        match self.choices.refused() {
+            Refused::Keep => self.put(&line),
+            Refused::Empty => self.put(&[line[0], empty, line[2]]),
+            Refused::Drop => Ok(()),
         }
     }
 
@@ -284,13 +291,19 @@ impl Run<'_> {
         if self.choices.quiet {
             return Ok(());
         }
+        // On a terminal, the answers so far should stand above what is told.
+        self.output.flush()?;
+        if self.choices.json_errors {
+            let object = refusal.json(text, what, number) + "\n";
+            return io::stderr().write_all(object.as_bytes());
+        }
         let advice = if self.is_cut(&refusal, number) {
             " (put a text with blanks in quotation marks)"
+        } else if self.is_perhaps_header(&refusal, number) {
+            " (for a header, write --header)"
         } else {
             ""
         };
-        // On a terminal, the answers so far should stand above this line.
-        self.output.flush()?;
         let field = self
             .choices
             .field
@@ -316,6 +329,12 @@ impl Run<'_> {
             '+' | '*' => true,
             _ => ends_with_digit && (first.is_ascii_alphabetic() || !first.is_ascii()),
         })
+    }
+
+    /// Whether a refused field perhaps belongs to a header.
+    fn is_perhaps_header(&self, refusal: &Refusal, number: u64) -> bool {
+        let is_column = self.choices.field.is_some() && self.choices.texts.is_empty();
+        is_column && number == 1 && self.choices.header.is_none() && refusal.is_word()
     }
 
     fn put(&mut self, answer: &[&[u8]]) -> io::Result<()> {

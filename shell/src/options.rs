@@ -64,7 +64,7 @@ pub struct Choices {
     /// Count no unit shorter than this one
     #[arg(long, value_name = "UNIT", default_value = "ns", value_parser = unit)]
     smallest: TimeUnit,
-    /// Convert the Nth field of each line, and print the whole line; a refused field stays as it is
+    /// Convert the Nth field of each line, and print the whole line
     #[arg(long, value_name = "N", value_parser = positive)]
     pub field: Option<usize>,
     /// Divide fields at this ASCII character [default: runs of blanks]
@@ -74,12 +74,19 @@ pub struct Choices {
     #[arg(long, value_name = "N", num_args = ..=1, require_equals = true,
         default_missing_value = "1", conflicts_with = "texts", value_parser = whole::<u64>)]
     pub header: Option<u64>,
+    /// Keep a refused text as it is, leave its place empty, or drop its line [default: drop; with
+    /// --field keep, and with --field and --to empty]
+    #[arg(long, value_name = "WHAT", conflicts_with_all = ["sum", "json"])]
+    refused: Option<Refused>,
     /// Print only the sum of all durations, and no header; if a text is refused, print nothing
     #[arg(long)]
     pub sum: bool,
     /// Print a JSON object for each text, also for a refused one
     #[arg(long, conflicts_with_all = ["field", "delimiter", "header", "sum"])]
     pub json: bool,
+    /// On standard error, print a JSON object for each refused text
+    #[arg(long, conflicts_with_all = ["sum", "json"])]
+    pub json_errors: bool,
     /// Print no durations and no refusals; the status says whether all texts were read
     #[arg(short, long)]
     pub quiet: bool,
@@ -100,12 +107,20 @@ pub struct Choices {
     pub require_unit: bool,
     /// Print the regular expression of the texts that the grammar allows, for validators
     #[arg(long, conflicts_with_all = SHAPES, conflicts_with_all = ["texts", "to", "decimals",
-        "round", "field", "delimiter", "header", "sum", "json", "quiet"])]
+        "round", "field", "delimiter", "header", "refused", "sum", "json", "json_errors", "quiet"])]
     pub pattern: bool,
     /// Print the completions for a shell
     #[arg(long, value_name = "SHELL", exclusive = true, value_parser =
         PossibleValuesParser::new(["bash", "fish", "zsh"]).try_map(|word| word.parse::<Shell>()))]
     pub completions: Option<Shell>,
+}
+
+/// What is printed for a refused text.
+#[derive(Clone, Copy, PartialEq, ValueEnum)]
+pub enum Refused {
+    Keep,
+    Empty,
+    Drop,
 }
 
 #[derive(Clone)]
@@ -156,6 +171,16 @@ impl Choices {
             "--units has none from --largest to --smallest\n"
         };
         Err(clap::Error::raw(ErrorKind::ArgumentConflict, told))
+    }
+
+    /// In a column of numbers, a refused text that stays can look like a converted one.
+    pub fn refused(&self) -> Refused {
+        let default = match (self.field, self.to) {
+            (Some(_), Some(_)) if !self.sum => Refused::Empty,
+            (Some(_), None) if !self.sum => Refused::Keep,
+            _ => Refused::Drop,
+        };
+        self.refused.unwrap_or(default)
     }
 
     pub fn reading(&self) -> Options {
@@ -334,7 +359,8 @@ fn with_list(shell: Shell, script: &str) -> String {
                         COMPREPLY=("${{COMPREPLY[@]/#/"${{cur%"{last}"}}"}}")
                     fi"#
             );
-            without_files(&script.replace(answer, &answers))
+            // clap lists the name of the arguments as a word, too.
+            without_files(&script.replace(answer, &answers).replace(" [TEXT]...", ""))
         }
     }
 }

@@ -31,6 +31,12 @@ impl Refusal {
         found.chars().next()
     }
 
+    /// Whether the text begins with a letter, and the message gives no advice.
+    pub fn is_word(&self) -> bool {
+        let first = self.first().filter(char::is_ascii_alphabetic);
+        first.is_some() && self.help.is_none()
+    }
+
     pub fn json(&self, text: &[u8], what: &str, number: u64) -> String {
         let text = String::from_utf8_lossy(text);
         let column = self.place.map(|place| text[..place].chars().count() + 1);

@@ -165,6 +165,96 @@ fn divides_csv_at_delimiters() {
 }
 
 #[test]
+fn keeps_no_refused_number_beside_numbers() {
+    let input = "a,90\nb,\"1.5h\",x\nc,1h\nd";
+    let kept = "a,90\nb,\"1.5h\",x\nc,3600\nd";
+    let empty = "a,\nb,\"\",x\nc,3600\nd";
+    for (words, wanted) in [
+        ("--to s", empty),
+        ("--to s --refused empty", empty),
+        ("--to s --refused keep", kept),
+        ("--to s --refused drop", "c,3600\n"),
+        ("", &kept.replace("3600", "1h")),
+        ("--refused empty", &empty.replace("3600", "1h")),
+    ] {
+        let all = format!("-d, --field 2 --require-unit {words}");
+        let words: Vec<_> = all.split_whitespace().collect();
+        let (status, output, errors) = run(&words, input.as_bytes());
+        assert_eq!((status, &*output), (1, wanted), "{words:?}");
+        assert_eq!(errors.lines().count(), 3, "{errors}");
+    }
+    // The next field doesn't take the place of a refused one.
+    let second = ["--field", "2", "--to", "s", "--require-unit"];
+    let (status, output, _) = run(&second, b" a  90 7\nb 1h 8\n\n");
+    assert_eq!((status, &*output), (1, " a  - 7\nb 3600 8\n\n"));
+}
+
+#[test]
+fn says_in_json_which_fields_are_refused() {
+    let words = "-d, --field 2 --to s --json-errors".split(' ');
+    let words: Vec<_> = words.collect();
+    let input = b"a,\"1h*1m+1\"\nb,1h\nc";
+    let no_more = r#""column":null,"expected":[],"found":null,"help":null,"suggestion":null,"#;
+    let wanted = [
+        r#"{"text":"1h*1m+1","line":1,"cause":"MIXED","#,
+        no_more,
+        r#""message":"sum and product mixed in \"1h*1m+1\""}"#,
+        "\n",
+        r#"{"text":"c","line":3,"cause":"NO_FIELD","#,
+        no_more,
+        r#""message":"no such field"}"#,
+        "\n",
+    ];
+    let output = "a,\"\"\nb,3600\nc";
+    assert_eq!(run(&words, input), (1, output.into(), wanted.concat()));
+    let quiet = [&words[..], &["-q"]].concat();
+    assert_eq!(run(&quiet, input), (1, "".into(), "".into()));
+}
+
+#[test]
+fn advises_on_a_first_line_without_a_duration() {
+    let advice = "(for a header, write --header)\n";
+    let advises = |words: &[&str], input: &str| run(words, input.as_bytes()).2.contains(advice);
+    for words in [&["--field", "1"][..], &["--field=1", "--sum"]] {
+        assert!(advises(words, "takes\n1h\n"), "{words:?}");
+        assert!(!advises(words, "1h\ntakes\n"), "{words:?}");
+        // The message gives other advice.
+        assert!(!advises(words, "PT5M\n"), "{words:?}");
+    }
+    assert!(!advises(&["--field=1", "--header=0"], "takes\n"));
+    assert!(!advises(&["--field=1", "takes"], ""));
+    assert!(!advises(&[], "takes\n"));
+}
+
+#[test]
+fn prints_what_is_chosen_for_refused_lines() {
+    let input = "1h\r\n 5 mins\r\n90";
+    for (what, wanted) in [
+        ("keep", "1h\n 5 mins\n1min 30s\n"),
+        ("empty", "1h\n\n1min 30s\n"),
+        ("drop", "1h\n1min 30s\n"),
+    ] {
+        let errors = format!("duration: line 2: {}\n", line(" 5 mins"));
+        let ran = run(&["--refused", what], input.as_bytes());
+        assert_eq!(ran, (1, wanted.into(), errors));
+        let (status, output, _) = run(&["--refused", what, "1h", " 5 mins", "90"], b"");
+        assert_eq!((status, &*output), (1, wanted));
+    }
+    let long = "x".repeat((1 << 21) + 1);
+    for (words, wanted) in [
+        ("--refused=keep", format!("{long}\n1h\n{long}\n")),
+        ("--refused=empty", "\n1h\n\n".into()),
+        ("--refused=drop", "1h\n".into()),
+        ("--field=1", format!("{long}\n1h\n{long}")),
+        ("--field=1 --refused=empty", "\n1h\n".into()),
+    ] {
+        let words: Vec<_> = words.split(' ').collect();
+        let (status, output, _) = run(&words, format!("{long}\n1h\n{long}").as_bytes());
+        assert!((status, output) == (1, wanted), "{words:?}");
+    }
+}
+
+#[test]
 fn prints_only_the_sum() {
     let log = b"time path took\n9:00 /a 150ms\n9:01 /b 2s\n";
     let third = ["--sum", "--header", "--field", "3"];
@@ -230,6 +320,12 @@ fn refuses_wrong_usage() {
         &["--completions", "bash", "1h"],
         &["--header", "1"],
         &["--pattern", "--round", "up"],
+        &["--pattern", "--refused", "keep"],
+        &["--pattern", "--json-errors"],
+        &["--json", "--refused", "keep", "1h"],
+        &["--sum", "--refused", "drop", "1h"],
+        &["--sum", "--json-errors", "1h"],
+        &["--json", "--json-errors", "1h"],
     ] {
         let (status, output, errors) = run(words, b"");
         assert_eq!((status, &*output), (2, ""), "{words:?}");
@@ -407,6 +503,6 @@ fn tells_of_itself() {
     ] {
         let script = answer(&["--completions", shell]);
         assert!(script.contains("smallest") && script.contains(list) && !script.contains("LIST"));
-        assert!(!script.contains("_default'"));
+        assert!(!script.contains("_default'") && !script.contains("TEXT]"));
     }
 }
