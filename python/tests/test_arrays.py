@@ -368,6 +368,9 @@ class Reading(unittest.TestCase):
         pandas.testing.assert_series_equal(read, series)
         read.iloc[0] = pandas.Timedelta(5)
         self.assertEqual(numbers(series), [1, None])
+        sparse = pandas.Series(pandas.arrays.SparseArray(lengths[:1]))
+        to_timedelta(sparse).iloc[0] = pandas.Timedelta(5)
+        self.assertEqual(numbers(to_timedelta(sparse)), [1])
         masked = numpy.ma.array(lengths, mask=[True, False])
         self.assertEqual(numbers(to_timedelta(masked)), [None, None])
 

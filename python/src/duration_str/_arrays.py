@@ -42,7 +42,8 @@ def _in_nanos(column: Any, kind: Kind) -> Any:
     # `abs` leaves the number that stands for NaT below zero.
     if step > 1 and step * int(abs(given.astype("int64")).max(initial=1)) >= 2**63:
         return None
-    return given.astype("timedelta64[ns]", copy=False)
+    # Only an array is returned as it is. A sparse column would share its values with the result.
+    return given.astype("timedelta64[ns]", copy=given is not column)
 
 
 def _like(values: Any, result: Any) -> Any:
