@@ -119,7 +119,8 @@ class Reading(unittest.TestCase):
             for column in [values, pandas.Series(values), numpy.array(values, dtype=object)]:
                 self.assertEqual(numbers(to_timedelta(column, errors=errors)), wanted)
         self.assertEqual(numbers(to_timedelta(numpy.full(3, numpy.nan))), [None] * 3)
-        self.assertEqual(numbers(to_timedelta(pandas.Series([pandas.NaT] * 3))), [None] * 3)
+        lengths = pandas.Series([pandas.NaT] * 3, dtype="timedelta64[ns]")
+        self.assertEqual(numbers(to_timedelta(lengths)), [None] * 3)
         masked = numpy.ma.array(["1s", "x", "1m"], mask=[False, True, False])
         self.assertEqual(numbers(to_timedelta(masked)), [SECOND, None, MINUTE])
         masked = masked.astype(object)
@@ -367,6 +368,9 @@ class Reading(unittest.TestCase):
         pandas.testing.assert_series_equal(read, series)
         read.iloc[0] = pandas.Timedelta(5)
         self.assertEqual(numbers(series), [1, None])
+        sparse = pandas.Series(pandas.arrays.SparseArray(lengths[:1]))
+        to_timedelta(sparse).iloc[0] = pandas.Timedelta(5)
+        self.assertEqual(numbers(to_timedelta(sparse)), [1])
         masked = numpy.ma.array(lengths, mask=[True, False])
         self.assertEqual(numbers(to_timedelta(masked)), [None, None])
 
@@ -381,7 +385,7 @@ class Reading(unittest.TestCase):
             with self.subTest(value=value):
                 with self.assertRaisesRegex(TypeError, "^at index 2: .* must be a str, not "):
                     to_timedelta(["x", None, value])
-        for column in [numpy.array([b"1s"]), numpy.array([1]), pandas.Series([1.5]), {1}]:
+        for column in [numpy.array([1]), pandas.Series([1.5]), {1}]:
             with self.assertRaisesRegex(TypeError, "^at index 0: "):
                 to_timedelta(column)
         self.assertRaises(TypeError, to_timedelta, b"1s")
@@ -403,6 +407,26 @@ class Reading(unittest.TestCase):
             with self.assertRaisesRegex(DurationTypeError, line):
                 to_timedelta(value)
             self.assertIs(to_timedelta(value, errors="coerce"), pandas.NaT)
+
+    def test_refuses_columns_of_dates_as_a_whole(self):
+        # pandas takes a column that has only NaT for one of dates.
+        for values in [[], [pandas.NaT] * 2, [pandas.Timestamp(0)]]:
+            column = pandas.Series(values, dtype="datetime64[ns]")
+            for call in (parse_many, to_timedelta, format_many):
+                for errors in ("raise", "coerce"):
+                    with self.assertRaisesRegex(DurationTypeError, r"type datetime64\[ns\]$"):
+                        call(column, errors=errors)
+
+    def test_reads_empty_columns_of_files(self):
+        for kind in (object, "float64", "string"):
+            for values in ([], [None, None]):
+                column = pandas.Series(values, dtype=kind)
+                for errors in ("raise", "coerce"):
+                    with self.subTest(kind=kind, values=values, errors=errors):
+                        self.assertEqual(numbers(to_timedelta(column, errors=errors)), values)
+                        self.assertEqual([*format_many(column, errors=errors)], values)
+                refused = array("Q", range(len(values)))
+                self.assertEqual(parse_many(column, errors="coerce")[1], refused)
 
     def test_takes_one_missing_value(self):
         self.assertIsNone(to_timedelta(None))

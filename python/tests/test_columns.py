@@ -86,7 +86,7 @@ class Columns(unittest.TestCase):
         for text in ["12", b"12", bytearray(b"12")]:
             with self.assertRaisesRegex(TypeError, "not one (str|bytes|bytearray)$"):
                 parse_many(text)
-        with self.assertRaises(TypeError):
+        with self.assertRaisesRegex(TypeError, "^'int' object is not iterable$"):
             parse_many(12)
         self.assertEqual(parse_many(["1M"], no_calc=2).tolist(), [60 * SECOND])
 

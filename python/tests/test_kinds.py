@@ -1,8 +1,10 @@
 """Tests columns of the types that Python, NumPy, pandas and Arrow list. Two tables below have the
-types that are read. The error for a column of another type must name the type."""
+types that are read. A column of such a type must be read as the list of its values is. The error for
+a column of another type must name the type."""
 
 import array
 import ctypes
+import datetime
 import re
 import unittest
 
@@ -19,12 +21,22 @@ except ImportError:
     pyarrow = None
 
 # In `object` each value is judged by itself.
-READ = {"object", "float64", "Float64", "double", "str", "str32", "string", "StringDType128"}
+READ = {
+    "object",
+    "null",
+    "float64",
+    "Float64",
+    "double",
+    "str",
+    "str32",
+    "string",
+    "StringDType128",
+}
 READ |= {"large_string", "string_view"}
 READ |= {f"{kind}{bits}" for kind in ("int", "uint", "Int", "UInt") for bits in (8, 16, 32, 64)}
 READ |= {f"format '{order}{code}'" for order in ("", "<", ">") for code in "bBhHiIlLqQduwOZ"}
 READ |= {"format 'n'", "format 'N'"}
-# The types that only to_timedelta reads, each with the nanoseconds of a 1
+# The types that parse_many doesn't read, each with the nanoseconds of a 1
 UNITS = {"W": 604_800 * 10**9, "D": 86_400 * 10**9, "h": 3_600 * 10**9, "m": 60 * 10**9}
 UNITS |= {"s": 10**9, "ms": 10**6, "us": 10**3, "ns": 1}
 LENGTHS = {f"timedelta64[{unit}]": nanos for unit, nanos in UNITS.items()}
@@ -108,12 +120,13 @@ def of_arrow():
 
 
 def of_memory(values):
-    """Returns the name of the format of an array's memory, and the nanoseconds of its value, which
-    is 0 or 1, and counts milliseconds. Texts and objects in a memoryview are not read."""
+    """Returns the name of the format of an array's memory, or of its type if it is not read, and the
+    nanoseconds of its value, which is 0 or 1, and counts milliseconds."""
     view = memoryview(values)
     name = f"format {view.format!r}"
-    if isinstance(values, memoryview) and view.format[-1] in "uwOZ":
-        name = f"{name} in a memoryview"
+    # Texts and objects in a memoryview are not read.
+    if name not in READ or (isinstance(values, memoryview) and view.format[-1] in "uwOZ"):
+        name = f"{type(values).__name__} (format {view.format!r}, shape {view.shape})"
     return name, 10**6 * any(view.tobytes())
 
 
@@ -132,6 +145,43 @@ def in_pandas(values):
             yield dtype.name, column
 
 
+def answer_of(call, column, **words):
+    """Returns the answers as a list, or the type of the error that is raised, and its position, which
+    is empty if the column is refused as a whole."""
+    try:
+        answer = call(column, **words)
+    except (TypeError, ValueError, OverflowError) as error:
+        return type(error), re.match("(at index [0-9]+)?", str(error))[0]
+    if call is to_timedelta:
+        answer = numpy.asarray(answer).astype("int64")
+    nanos, *refused = answer if isinstance(answer, tuple) else (answer,)
+    # None stands for a value that is refused or missing.
+    gaps = {*refused[0]} if refused else ()
+    return [None if at in gaps or one == -(2**63) else one for at, one in enumerate(nanos)]
+
+
+def as_columns(kind, values):
+    """Yields columns of types of this kind that have these values."""
+    types = {"object": [object], "text": ["U9"], "integer": ["i8"], "float": ["f8"]}
+    gaps = [one is None for one in values]
+    filled = [next(filter(None, values), 1) if one is None else one for one in values]
+    for dtype in types.get(kind, ["m8[us]", "m8[10us]"]):
+        plain = numpy.array(filled, dtype=dtype)
+        yield numpy.ma.array(plain, mask=gaps)
+        if not any(gaps):
+            yield from (plain, plain[::-1][::-1], pandas.array(plain, dtype=plain.dtype))
+    if kind in ("integer", "float") and not any(gaps):
+        yield from (array.array(plain.dtype.char, values), memoryview(plain))
+    names = {"object": object, "text": "string", "integer": "Int64", "float": "Float64"}
+    series = first(lambda dtype: pandas.Series(values, dtype=dtype), names.get(kind, "m8[ns]"))
+    if series is None:  # a timedelta is too long
+        return
+    yield from (series, pandas.Index(series), series.array, series.astype("category"))
+    yield from (pandas.Categorical(series), pandas.CategoricalIndex(series))
+    if kind in ("object", "float"):
+        yield pandas.arrays.SparseArray(numpy.array(values, dtype=kind))
+
+
 class Column(list):
     """A column of a library that is not installed. Its type has only a name."""
 
@@ -141,14 +191,16 @@ class Column(list):
 
 
 class Kinds(unittest.TestCase):
+    CALLS = (parse_many, to_timedelta, format_many) if numpy else (parse_many, format_many)
+
     def check(self, name, column, nanos=10**6):
         """The column has one value. If its type is read, the value is `nanos` nanoseconds."""
-        for call in (parse_many, to_timedelta) if numpy else (parse_many,):
+        for call in self.CALLS:
             with self.subTest(call=call.__name__, name=name, type=type(column)):
-                if name in READ or (call is to_timedelta and name in LENGTHS):
-                    self.check_read(call, column, nanos)
-                else:
+                if not (name in READ or (call is not parse_many and name in LENGTHS)):
                     self.check_refused(call, column, name)
+                elif call is not format_many:
+                    self.check_read(call, column, nanos)
 
     def check_read(self, call, column, nanos):
         answer = call(column, default_unit="ms")
@@ -157,24 +209,56 @@ class Kinds(unittest.TestCase):
         self.assertEqual(list(answer), [nanos])
 
     def check_refused(self, call, column, name):
-        for words in [{}, {"default_unit": "ms"}]:
-            line = f"^at index 0: a duration.* must be a str.* not {re.escape(name)}$"
-            with self.assertRaisesRegex(TypeError, line):
-                call(column, **words)
+        words = [{}] if call is format_many else [{}, {"default_unit": "ms"}]
+        line = f"^this call reads no column of the type {re.escape(name)}$"
+        for options in [*words, *({"errors": "coerce", **one} for one in words)]:
             with self.assertRaisesRegex(DurationTypeError, line):
-                call(column, errors="coerce", **words)
-        if call is parse_many:
-            return
-        if hasattr(column, "__array__") or isinstance(column, memoryview):
-            with self.assertRaisesRegex(TypeError, f"^at index 0: .* not {re.escape(name)}$"):
-                format_many(column)
+                call(column, **options)
 
-    def check_missing(self, values):
-        with self.subTest(type=type(values), dtype=getattr(values, "dtype", None)):
-            answer = numpy.asarray(to_timedelta(values, default_unit="ms"))
-            self.assertEqual(numpy.isnat(answer).tolist(), [True])
-            refused = (array.array("Q", [0]), array.array("Q", [0]))
-            self.assertEqual(parse_many(values, default_unit="ms", errors="coerce"), refused)
+    def check_missing(self, name, column):
+        """The column has one value, which is missing."""
+        for call in self.CALLS:
+            with self.subTest(call=call.__name__, name=name, type=type(column)):
+                if name in READ or (call is not parse_many and name in LENGTHS):
+                    self.assertEqual(answer_of(call, column, errors="coerce"), [None])
+                else:
+                    self.check_refused(call, column, name)
+
+    @unittest.skipUnless(numpy, "NumPy or pandas is missing")
+    def test_reads_a_column_as_the_list_of_its_values(self):
+        second, long = datetime.timedelta(seconds=1), datetime.timedelta(200_000)
+        for kind, *rows in [
+            ("object", ["1s", None, "x", 5, 1.5, b"1s", second, True]),
+            ("object", ["x", None, second, -second, long], [None, None]),
+            ("text", ["1s", "x", "300y"], ["1s", None, "2m"], [None, None]),
+            ("integer", [1500, 0, -1, 2**53 + 1], [1500, None, 2**53 + 1], [None, 7]),
+            ("float", [1500.0, 1.5, 2.0**53], [1500.0, None, 2.0], [None, None]),
+            ("timedelta", [second, -second], [second, None]),
+            ("timedelta", [second, long]),
+        ]:
+            for values in rows:
+                for column in as_columns(kind, values):
+                    for words in [{}, {"default_unit": "ns"}, {"errors": "coerce"}]:
+                        self.check_values(kind, column, values, words)
+
+    def check_values(self, kind, column, values, words):
+        for call in self.CALLS:
+            if call is format_many and "default_unit" in words:
+                continue
+            wanted = answer_of(call, values, **words)
+            # Lists of these values lose them, since each could stand beside others.
+            lost = {parse_many: ("integer", "float"), format_many: ("text", "float")}
+            there = [at for at, value in enumerate(values) if value is not None]
+            if call is parse_many and kind == "timedelta":
+                wanted = (DurationTypeError, "")
+            elif "errors" in words and kind in lost.get(call, ()) and there:
+                error = DurationTypeError if call is parse_many else TypeError
+                wanted = (error, f"at index {there[0]}")
+            with self.subTest(call=call.__name__, kind=kind, type=type(column), words=words):
+                self.assertEqual(answer_of(call, column, **words), wanted)
+                singles = [answer_of(call, [value], **words) for value in values]
+                if isinstance(wanted, list):
+                    self.assertEqual([[one] for one in wanted], singles)
 
     def test_judges_types_by_their_whole_names(self):
         for name in [
@@ -202,11 +286,14 @@ class Kinds(unittest.TestCase):
     def test_judges_unions_of_c(self):
         fields = [("small", ctypes.c_uint8), ("large", ctypes.c_uint64)]
         union = type("Union", (ctypes.Union,), {"_fields_": fields})
-        view = memoryview((union * 1)())
-        self.check(f"format {view.format!r} in a memoryview", view)
-        with self.assertRaisesRegex(TypeError, "in a memoryview$"):
-            format_many(view)
+        for values in ((union * 1)(), memoryview((union * 1)())):
+            self.check(f"{type(values).__name__} (format 'B', shape (1,))", values)
         self.assertEqual(format_many(memoryview((ctypes.c_int * 2)(5, 0))), ["5ns", "0s"])
+
+    def test_reads_no_table(self):
+        rows = (ctypes.c_uint8 * 2 * 2)()
+        self.check("memoryview (format 'B', shape (2, 2))", memoryview(bytes(4)).cast("B", [2, 2]))
+        self.check(f"{type(rows).__name__} (format '<B', shape (2, 2))", rows)
 
     @unittest.skipUnless(numpy, "NumPy or pandas is missing")
     def test_judges_arrays_of_numpy(self):
@@ -247,24 +334,26 @@ class Kinds(unittest.TestCase):
                 self.check(name, column, LENGTHS.get(name, 10**6))
             # Arrow doesn't know missing values in such an array.
             if not pyarrow.types.is_run_end_encoded(values.type):
-                self.check_missing(pyarrow.nulls(1, values.type))
-        self.check_missing(pyarrow.nulls(1))
+                self.check_missing(name, pyarrow.nulls(1, values.type))
+        self.check_missing("null", pyarrow.nulls(1))
 
     @unittest.skipUnless(numpy, "NumPy or pandas is missing")
     def test_keeps_missing_values_of_each_type(self):
-        self.check_missing(array.array("f", [float("nan")]))
+        self.check_missing("format 'd'", array.array("d", [float("nan")]))
         for values in of_pandas():
             missing = pandas.array([None], dtype=values.dtype)
-            for column in (missing, pandas.Series(missing), pandas.Categorical(missing)):
-                self.check_missing(column)
+            categories = pandas.Categorical(missing)
+            for column in (missing, pandas.Series(missing)):
+                self.check_missing(values.dtype.name, column)
+            self.check_missing(categories.dtype.categories.dtype.name, categories)
         for values in of_numpy():
             dtype = values.dtype
             if dtype.names or dtype.name in UNREADABLE:
                 continue
-            self.check_missing(numpy.ma.array(values, mask=True))
+            self.check_missing(dtype.name, numpy.ma.array(values, mask=True))
             if dtype.kind == "f" or dtype.name.startswith(("datetime64[", "timedelta64[")):
                 missing = numpy.full(1, "nan" if dtype.kind == "f" else "NaT", dtype)
-                self.check_missing(missing)
+                self.check_missing(dtype.name, missing)
                 series = first(pandas.Series, missing) if dtype.isnative else None
                 if series is not None:
-                    self.check_missing(series)
+                    self.check_missing(series.dtype.name, series)

@@ -1,4 +1,5 @@
-"""Columns of texts. The module re is imported only when it is used."""
+"""Columns as lists of values, and `parse_many`. NumPy, pandas and Arrow are imported only by the
+caller."""
 
 from __future__ import annotations
 
@@ -6,7 +7,6 @@ import struct
 import sys
 from array import array
 from collections.abc import Iterable
-from functools import lru_cache
 from typing import Any, Literal, SupportsIndex, overload
 
 from . import _native
@@ -15,70 +15,105 @@ from ._texts import UNNAMED, UNSAID, DurationTypeError, is_number, type_error_of
 
 #: What to do with a refused value
 Errors = Literal["raise", "coerce"]
+#: What the values of a column are. Each of the objects has a type of its own.
+Kind = Literal["object", "text", "integer", "float", "timedelta"]
+
+# The types that have a kind: NumPy's by their `kind`, others by their names in small letters, and
+# those of buffers by their formats. Floats must have 64 bits.
+_NUMPY: dict[str, Kind] = {"O": "object", "U": "text", "T": "text"}
+_NUMPY |= {"i": "integer", "u": "integer", "f": "float", "m": "timedelta"}
+_NAMES: dict[str, Kind] = {"object": "object", "null": "object"}
+_NAMES |= dict.fromkeys(("str", "string", "large_string", "string_view"), "text")
+_NAMES |= {f"{sign}int{bits}": "integer" for sign in ("", "u") for bits in (8, 16, 32, 64)}
+_NAMES |= {"double": "float", "float64": "float"}
+_NAMES |= {f"duration[{unit}]": "timedelta" for unit in ("s", "ms", "us", "ns")}
+_FORMATS: dict[str, Kind] = {**dict.fromkeys("bBhHiIlLqQnN", "integer"), "d": "float"}
+# An array of Python or ctypes reads these items itself, but neither `memoryview` nor `struct` does.
+_OWN_FORMATS: dict[str, Kind] = {**dict.fromkeys("uwZ", "text"), "O": "object"}
 
 
-#: The types whose values are read, as NumPy, pandas, Arrow and the formats of buffers name them,
-#: except `object`, in which each value has a type of its own. Numbers are read only in a unit.
-_TEXTS = "large_string|string_view|format '[@=<>!]?[uwOZ]'|(?i:str(ing(dtype)?)?[0-9]*)"
-INTEGERS = "format '(@?[nN]|[@=<>!]?[bBhHiIlLqQ])'|(?i:u?int(8|16|32|64))"
-_NUMBERS = f"{INTEGERS}|double|format '[@=<>!]?d'|(?i:float64)"
-
-
-def _type_of_values(dtype: Any) -> Any:
-    if hasattr(dtype, "categories"):
-        return _type_of_values(dtype.categories.dtype)
-    if hasattr(dtype, "fill_value"):  # a sparse column
-        return dtype.subtype
+def _kind_of_type(dtype: Any) -> tuple[Kind | None, str]:
+    """Also returns the name of the type."""
     dtype = getattr(dtype, "pyarrow_dtype", dtype)
-    # Arrow calls categories a dictionary.
-    return dtype.value_type if hasattr(dtype, "index_type") else dtype
+    if hasattr(dtype, "fill_value"):  # a sparse column
+        return _kind_of_type(dtype.subtype)
+    if hasattr(dtype, "ordered"):  # categories of Arrow or pandas
+        is_arrow = hasattr(dtype, "value_type")
+        return _kind_of_type(dtype.value_type if is_arrow else dtype.categories.dtype)
+    name = str(getattr(dtype, "name", dtype))
+    dtype = getattr(dtype, "numpy_dtype", dtype)
+    numpy: Any = sys.modules.get("numpy")
+    if numpy is None or not isinstance(dtype, numpy.dtype):
+        return _NAMES.get(name.lower()), name
+    is_short = dtype.kind == "f" and dtype.itemsize != 8
+    return None if is_short else _NUMPY.get(dtype.kind), name
 
 
-@lru_cache(maxsize=100)
-def _name_of(dtype: Any) -> str:
-    """NumPy takes some microseconds to make the name."""
-    return str(getattr(dtype, "name", dtype))
-
-
-def type_name(values: Any) -> str:
-    """Returns `object` for a sequence that doesn't say the type of its values, such as a list."""
-    if type(values) is list:
-        return "object"
-    pandas: Any = sys.modules.get("pandas")
-    if pandas is not None and isinstance(values, pandas.DataFrame):
-        raise TypeError("a DataFrame is no column: take its columns one by one")
-    dtype = getattr(values, "dtype", None)
-    arrow: Any = sys.modules.get("pyarrow")
-    if arrow is not None and isinstance(values, (arrow.Array, arrow.ChunkedArray)):
-        dtype = values.type
-    if dtype is not None:
-        return _name_of(_type_of_values(dtype))
+def _kind_of_buffer(column: Any) -> tuple[Kind | None, str]:
+    """Also returns the name of the type. A sequence that is no buffer has objects."""
     try:
-        with memoryview(values) as buffer:
-            name = f"format {buffer.format!r}"
-            # An array reads its own texts and objects, but neither `tolist` nor `struct` does.
-            # Unions and packed structures of ctypes name the format of one byte.
-            is_unread = isinstance(values, memoryview) and (
-                buffer.format[-1] in "uwOZ" or (buffer.format == "B" and buffer.itemsize != 1)
-            )
-            return f"{name} in a memoryview" if is_unread else name
+        view = memoryview(column)
     except TypeError:
-        return "object"
+        return "object", "object"
+    name = f"{type(column).__name__} (format {view.format!r}, shape {view.shape})"
+    code = view.format.lstrip("@=<>!")
+    if view.ndim != 1:
+        return None, name
+    # Unions and packed structures of ctypes name the format of one byte.
+    if code in _FORMATS and struct.calcsize(view.format) == view.itemsize:
+        return _FORMATS[code], name
+    return None if isinstance(column, memoryview) else _OWN_FORMATS.get(code), name
 
 
-def _is_read(name: str, takes_numbers: bool) -> bool:
-    """Returns whether values of the type of this name are read."""
-    if name == "object":
-        return True
-    import re
-
-    return bool(re.fullmatch(f"{_TEXTS}|{_NUMBERS}" if takes_numbers else _TEXTS, name))
+def _is_arrow(column: Any) -> bool:
+    arrow: Any = sys.modules.get("pyarrow")
+    return arrow is not None and isinstance(column, (arrow.Array, arrow.ChunkedArray))
 
 
-def stand_in(name: str) -> Any | None:
-    """Returns None if values of the type of this name are read. Otherwise it returns an object that
-    takes the place of each value. The object's type has this name, so errors say it."""
-    return None if _is_read(name, True) else type(name, (), {})()
+def kind_of(column: Any, takes_timedeltas: bool = True) -> Kind:
+    """Raises DurationTypeError for a column of a type that is not read, whatever its values are."""
+    if isinstance(column, (str, bytes, bytearray)):
+        raise TypeError(f"a column must be a sequence, not one {type(column).__name__}")
+    pandas: Any = sys.modules.get("pandas")
+    if pandas is not None and isinstance(column, pandas.DataFrame):
+        raise TypeError("a DataFrame is no column: take its columns one by one")
+    dtype = column.type if _is_arrow(column) else getattr(column, "dtype", None)
+    kind, name = _kind_of_buffer(column) if dtype is None else _kind_of_type(dtype)
+    if kind is None or (kind == "timedelta" and not takes_timedeltas):
+        raise DurationTypeError(f"this call reads no column of the type {name}")
+    return kind
+
+
+def timedeltas_of(column: Any) -> Any:
+    """Returns a column of timedeltas as an array of timedelta64."""
+    import numpy
+
+    is_masked = isinstance(column, numpy.ma.MaskedArray)
+    return column.filled(numpy.timedelta64("NaT")) if is_masked else numpy.asarray(column)
+
+
+def values_of(column: Any, kind: Kind) -> list[Any]:
+    """Returns the values, row by row. `is_missing` knows those that are missing."""
+    if kind == "timedelta":
+        return list(timedeltas_of(column).ravel())
+    if isinstance(column, memoryview):
+        # `tolist` doesn't read formats that name an order of bytes, such as those of ctypes.
+        return [value for (value,) in struct.iter_unpack(column.format, column.tobytes())]
+    if _is_arrow(column):
+        return list(column.to_pylist())
+    dtype = getattr(column, "dtype", None)
+    if not hasattr(dtype, "kind"):  # The column is neither NumPy's nor pandas'.
+        return list(column)
+    if hasattr(dtype, "categories"):  # NumPy would make floats of integers beside a gap.
+        return list(column.tolist())
+    import numpy
+
+    # `tolist` makes None of masked values. NumPy would make floats of pandas' Int64 with a gap.
+    if not isinstance(column, numpy.ma.MaskedArray):
+        is_plain = isinstance(column, numpy.ndarray)
+        column = numpy.asarray(column, dtype=None if is_plain else object)
+    values: list[Any] = column.ravel().tolist()
+    return values
 
 
 def is_missing(value: Any) -> bool:
@@ -92,64 +127,13 @@ def is_missing(value: Any) -> bool:
     return value is None or (isinstance(value, kinds) and bool(value != value))
 
 
-def check_type(values: list[Any], name: str, takes_numbers: bool) -> None:
-    """`name` is the name of the items' type. Raises DurationTypeError if no value of this type is
-    read, and there is a value. Otherwise a whole column would be lost without a word."""
-    if _is_read(name, takes_numbers):
-        return
-    index = next((at for at, value in enumerate(values) if not is_missing(value)), None)
-    if index is not None:
-        raise coerced_error_of(values[index], takes_numbers, index)
-
-
 def coerced_error_of(value: Any, takes_numbers: bool, index: int) -> DurationTypeError:
-    """Returns the error of a value that is refused even if errors are coerced. The index -1 stands
+    """Returns the error of a number that is refused even if errors are coerced. The index -1 stands
     for none."""
     error = type_error_of(value, takes_numbers, index)
     if index < 0 or not is_number(value):
         return error
     return DurationTypeError(f"{error}, or read the column as texts, in pandas by dtype=str")
-
-
-def values_of(texts: Any, name: str) -> list[Any]:
-    """`name` is the name of the items' type. If the type is not read, a stand-in takes the place of
-    each value. Raises TypeError for a single text, and for an array that is not one-dimensional.
-    """
-    if isinstance(texts, (str, bytes, bytearray)):
-        raise TypeError(f"the texts must be a sequence of str, not one {type(texts).__name__}")
-    if getattr(texts, "ndim", 1) != 1:
-        raise TypeError(
-            f"the texts must be one column, not {texts.ndim} dimensions of {type(texts).__name__}"
-        )
-    if (refused := stand_in(name)) is not None:
-        return [refused] * len(texts)
-    if isinstance(texts, memoryview):
-        # `tolist` doesn't read formats that name an order of bytes, such as those of ctypes.
-        return [value for (value,) in struct.iter_unpack(texts.format, texts.tobytes())]
-    for listing in ("tolist", "to_pylist"):  # of NumPy and pandas, and of Arrow
-        if hasattr(texts, listing):
-            return list(getattr(texts, listing)())
-    return list(texts)
-
-
-def with_gaps(column: Any, values: list[Any], name: str) -> list[Any]:
-    """`values` are those that `values_of` returns. Returns them with None in place of each stand-in
-    for a missing value."""
-    if stand_in(name) is None:
-        return values
-    if "numpy" in sys.modules and (hasattr(column, "dtype") or hasattr(column, "to_pylist")):
-        from ._arrays import flat_values
-
-        return flat_values(column, name)
-    try:
-        missing = list(map(is_missing, column))
-    except NotImplementedError:  # A memoryview returns no values of some types.
-        return values
-    return [None if is_gap else value for is_gap, value in zip(missing, values)]
-
-
-def zeros(count: int) -> array[int]:
-    return array("Q", (0,)) * count
 
 
 def raises_errors(errors: str) -> bool:
@@ -226,9 +210,10 @@ def parse_many(
 
     With `errors="coerce"` it returns two arrays. The first has the values, and
     0 for each text or number that is refused and for any other value. The
-    second has the positions of these zeros. But a column whose type is never
-    read, such as an array of integers without a default unit, raises
-    DurationTypeError even then, unless all its values are missing.
+    second has the positions of these zeros. But DurationTypeError is raised
+    even then for a column of a type that is never read, such as datetime64,
+    and for a value in a column of numbers without a default unit, or in one of
+    timedeltas.
 
     >>> duration_str.parse_many(["1s", "2m"])
     array('Q', [1000000000, 120000000000])
@@ -246,10 +231,14 @@ def parse_many(
         more_names=more_names,
         default_unit=default_unit,
     )
-    name = type_name(texts)
-    given = values_of(texts, name)
-    if not raises:
-        check_type(with_gaps(texts, given, name), name, reading[1])
-    nanos = zeros(len(given))
-    refused = _native.read_list(given, nanos, reading, raises, 0, None)
+    kind = kind_of(texts, takes_timedeltas=False)
+    if getattr(texts, "ndim", 1) != 1:
+        raise TypeError(f"the texts must be one column, not {texts.ndim} dimensions")
+    values = values_of(texts, kind)
+    if not raises and not reading[1] and kind in ("integer", "float"):
+        for index, value in enumerate(values):
+            if not is_missing(value):
+                raise coerced_error_of(value, False, index)
+    nanos = array("Q", [0]) * len(values)
+    refused = _native.read_list(values, nanos, reading, raises, 0, None)
     return nanos if raises else (nanos, array("Q", refused))

@@ -64,9 +64,9 @@ class Expected(enum.Flag):
 
 
 class DurationTypeError(TypeError, ValueError):
-    """A value has a type that is not read, or is NaN or a float of 2**53 or more.
-    This error is also a ValueError, since pydantic doesn't take a plain
-    TypeError for a refusal."""
+    """A value or a column has a type that is not read, or a value is NaN or a
+    float of 2**53 or more. This error is also a ValueError, since pydantic
+    doesn't take a plain TypeError for a refusal."""
 
 
 _CAUSES = {int(cause): cause for cause in Cause}
