@@ -72,6 +72,8 @@ def _is_arrow(column: Any) -> bool:
 
 def kind_of(column: Any, takes_timedeltas: bool = True) -> Kind:
     """Raises DurationTypeError for a column of a type that is not read, whatever its values are."""
+    if type(column) is list:  # A shortcut: a list is no buffer.
+        return "object"
     if isinstance(column, (str, bytes, bytearray)):
         raise TypeError(f"a column must be a sequence, not one {type(column).__name__}")
     pandas: Any = sys.modules.get("pandas")
