@@ -1,6 +1,6 @@
 """Tests columns of the types that Python, NumPy, pandas and Arrow list. Two tables below have the
-types that are read. A column of such a type must be read as the list of its values is. The error for
-a column of another type must name the type."""
+types that are read. A column of such a type must be read as the list of its values is. The error
+for a column of another type must name the type."""
 
 import array
 import ctypes
@@ -120,8 +120,8 @@ def of_arrow():
 
 
 def of_memory(values):
-    """Returns the name of the format of an array's memory, or of its type if it is not read, and the
-    nanoseconds of its value, which is 0 or 1, and counts milliseconds."""
+    """Returns the name of the format of an array's memory, or of its type if it is not read, and
+    the nanoseconds of its value, which is 0 or 1, and counts milliseconds."""
     view = memoryview(values)
     name = f"format {view.format!r}"
     # Texts and objects in a memoryview are not read.
@@ -146,8 +146,8 @@ def in_pandas(values):
 
 
 def answer_of(call, column, **words):
-    """Returns the answers as a list, or the type of the error that is raised, and its position, which
-    is empty if the column is refused as a whole."""
+    """Returns the answers as a list, or the type of the error that is raised, and its position,
+    which is empty if the column is refused as a whole."""
     try:
         answer = call(column, **words)
     except (TypeError, ValueError, OverflowError) as error:
