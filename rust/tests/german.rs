@@ -5,6 +5,9 @@ use duration_str::{Cause, Expected, Fault, Help, Options, parse_with};
 /// Returns the line that says in German what is wrong.
 pub fn german(fault: &Fault<'_>) -> String {
     let problem = problem(fault);
+    if let Some(mended) = fault.mended() {
+        return format!("{problem} (besser „{}“)", mended.to_string().escape_debug());
+    }
     match fault.help().and_then(german_help) {
         Some(help) => format!("{problem} ({help})"),
         None => problem,
@@ -42,10 +45,9 @@ fn kinds(expected: Expected) -> String {
     words.join(" oder ")
 }
 
-/// Returns `None` for a help that a later version adds.
-fn german_help(help: Help) -> Option<String> {
+/// Returns `None` for a help that suggests a name, or that a later version adds.
+fn german_help(help: Help) -> Option<&'static str> {
     let words = match help {
-        Help::DidYouMean(_) => return help.suggestion().map(|name| format!("besser „{name}“")),
         Help::Units => "Einheiten: y, q, mon, w, d, h, min, s, ms, us, ns",
         Help::Fraction => "Zahlen haben nur Ziffern: 1500ms statt 1.5s",
         Help::DigitsOnly => "Zahlen haben nur Ziffern",
@@ -63,7 +65,7 @@ fn german_help(help: Help) -> Option<String> {
         Help::LargeNumber => "mit Einheit, etwa ns",
         _ => return None,
     };
-    Some(words.to_string())
+    Some(words)
 }
 
 fn main() {

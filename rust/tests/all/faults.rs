@@ -53,7 +53,19 @@ fn checks_message(text: &str, options: Options, place: Option<usize>, line: &str
 #[test]
 fn tells_all_of_a_refusal() {
     for row in &vectors().refused {
-        let Refused(text, names, cause, place, found, kinds, line, spaces, help, suggestion) = row;
+        let Refused(
+            text,
+            names,
+            cause,
+            place,
+            found,
+            kinds,
+            line,
+            spaces,
+            help,
+            suggestion,
+            mended,
+        ) = row;
         let options = options_of(names);
         let rules = rules_of(options, names);
         let fault = parse_by(text, rules).expect_err(text);
@@ -69,6 +81,12 @@ fn tells_all_of_a_refusal() {
             assert_eq!(same.as_ref(), Err(&error), "{text}");
         }
         assert_eq!(error.help(), fault.help(), "{text}");
+        assert_eq!(error.mended(), fault.mended(), "{text}");
+        let pieces = fault.mended();
+        assert_eq!(pieces.map(|it| it.to_string()), *mended, "{text}");
+        let before = pieces.map_or(text.clone(), |it| [it.front, it.word, it.rest].concat());
+        assert_eq!(before, *text);
+        assert!(pieces.is_none_or(|it| line.contains(&format!("\"{}\"", it.word))));
         assert_eq!([fault.to_string(), error.to_string()], [&line[..]; 2]);
         let above = spaces.map_or(String::new(), |spaces| {
             format!("{text}\n{}^\n", " ".repeat(spaces))
@@ -94,11 +112,11 @@ fn words_of(line: &str) -> HashSet<String> {
 
 #[test]
 fn gives_what_a_program_needs_to_say_it_in_german() {
-    for Refused(text, names, _, _, found, _, line, _, help, suggestion) in &vectors().refused {
+    for Refused(text, names, _, _, found, _, line, _, help, _, mended) in &vectors().refused {
         let rules = rules_of(options_of(names), names);
         let said = german(&parse_by(text, rules).expect_err(text));
         let mut own = said.clone();
-        for quoted in [found, suggestion].into_iter().flatten() {
+        for quoted in [found, mended].into_iter().flatten() {
             let quoted = format!("„{}“", quoted.escape_debug());
             assert!(own.contains(&quoted), "{said}");
             own = own.replace(&quoted, "");
