@@ -96,10 +96,26 @@ static void say_problem(const char *text, struct duration_str_answer answer) {
     }
 }
 
+/* Says the text with the suggestion in place of the word, or the suggestion alone. */
+static void say_mended(
+    const char *text, size_t length, size_t place, const char *suggestion, size_t word_length) {
+    const char *rest = text + place + word_length;
+    const size_t rest_length = length - place - word_length;
+    const bool is_whole = is_printable_ascii(text, place) && is_printable_ascii(rest, rest_length);
+    printf("„");
+    if (is_whole)
+        fwrite(text, 1, place, stdout);
+    printf("%s", suggestion);
+    if (is_whole)
+        fwrite(rest, 1, rest_length, stdout);
+    printf("“");
+}
+
 /* Says what is wrong with a text, or prints its duration. */
 static void say(const char *text, size_t length, uint32_t options) {
     struct duration_str_answer answer;
     char suggestion[DURATION_STR_SUGGESTION_BUFFER_SIZE];
+    size_t word_length;
     char printed[DURATION_STR_FORMAT_BUFFER_SIZE];
     if (duration_str_parse_with(text, length, options, &answer)) {
         duration_str_format(answer.nanos, printed);
@@ -107,10 +123,12 @@ static void say(const char *text, size_t length, uint32_t options) {
         return;
     }
     say_problem(text, answer);
-    const uint32_t help = duration_str_help(text, length, options, suggestion);
-    if (help == DURATION_STR_HELP_DID_YOU_MEAN)
-        printf(" (besser „%s“)", suggestion);
-    else if (help < sizeof helps / sizeof *helps && helps[help])
+    const uint32_t help = duration_str_help(text, length, options, suggestion, &word_length);
+    if (help == DURATION_STR_HELP_DID_YOU_MEAN) {
+        printf(" (besser ");
+        say_mended(text, length, answer.place, suggestion, word_length);
+        putchar(')');
+    } else if (help < sizeof helps / sizeof *helps && helps[help])
         printf(" (%s)", helps[help]);
     putchar('\n');
 }

@@ -313,14 +313,16 @@ static void check_help(struct text text, uint32_t options) {
     const char *bytes = (const char *)text.bytes;
     char *suggestion = (char *)buffer_at(output_end, DURATION_STR_SUGGESTION_BUFFER_SIZE);
     uint8_t *start = (uint8_t *)suggestion;
-    const uint32_t help = duration_str_help(bytes, text.length, options, suggestion);
+    size_t word_length;
+    const uint32_t help = duration_str_help(bytes, text.length, options, suggestion, &word_length);
     const size_t length = strlen(suggestion);
     HOLDS(is_untouched(start - CANARIES, start) && is_untouched(start + length + 1, output_end));
     HOLDS(help <= DURATION_STR_HELP_LARGE_NUMBER);
-    HOLDS(duration_str_help(bytes, text.length, options, NULL) == help);
+    HOLDS(duration_str_help(bytes, text.length, options, NULL, NULL) == help);
     const size_t of_line = duration_str_one_line(bytes, text.length, options, NULL, line);
     HOLDS((help != DURATION_STR_HELP_NONE) == (of_line > 0 && line[of_line - 1] == ')'));
     HOLDS((help == DURATION_STR_HELP_DID_YOU_MEAN) == (length > 0));
+    HOLDS((word_length > 0) == (length > 0));
     if (length == 0)
         return;
     HOLDS(duration_str_unit(suggestion, length) >= 0);
