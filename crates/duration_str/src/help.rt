@@ -145,9 +145,9 @@ impl<'a> Fault<'a> {
         }
     }
 
-    /// Returns the text with the name that the help suggests in place of the word that is no unit, or
-    /// `None` if the help suggests none. The word is quoted in the fault's line. It begins with the
-    /// token at the fault's place, and can be longer, such as `μs` with the Greek letter mu.
+    /// Returns the text with the name that the help suggests in place of the word that is no unit,
+    /// or `None` if the help suggests none. The word is quoted in the fault's line. It begins with
+    /// the token at the fault's place, and can be longer, such as `μs` with the Greek letter mu.
     ///
     /// ```
     /// use duration_str::{Options, parse_with};
@@ -161,11 +161,12 @@ impl<'a> Fault<'a> {
     pub fn mended(&self) -> Option<Mended<'a>>
         ensures { HasPieces (mended_of self.now.text.now self.now.cause) result }
     {
-        let Cause::Syntax { place, .. } = self.cause else {
+        let Cause::Syntax { place, expected } = self.cause else {
             return None;
         };
-        let name = self.help()?.suggestion()?;
-        Some(with_name(self.text, place, name))
+        let found = found_at(self.text, place, expected);
+        let name = found.help?.suggestion()?;
+        Some(with_name(self.text, place, found.piece, name))
     }
 }
 
@@ -203,6 +204,7 @@ pub(crate) struct Found<'a> {
 pub(crate) fn found_at(text: &str, place: usize, expected: Expected) -> Found<'_>
     requires { IsCharBoundary text.now place }
     ensures piece { chars result.piece.now ≡ first_piece (ahead text.now place) }
+    ensures bytes { result.piece.now ≡ encode_utf8_all (first_piece (ahead text.now place)) }
     ensures unknown { result.is_unknown_unit
         ≡ is_unknown_unit expected (first_piece (ahead text.now place)) }
     ensures help { result.help
@@ -226,14 +228,13 @@ pub(crate) fn found_at(text: &str, place: usize, expected: Expected) -> Found<'_
     }
 }
 
-/// Returns the text with the name in place of what stands at the place.
-fn with_name<'a>(text: &'a str, place: usize, name: &'static str) -> Mended<'a>
-    requires { IsCharBoundary text.now place }
-    ensures { HasPieces (Some (with_name text.now place
-        (encode_utf8_all (first_piece (ahead text.now place))) name.now)) (Some result) }
+/// Returns the text with the name in place of the word, which stands at the place.
+fn with_name<'a>(text: &'a str, place: usize, word: &'a str, name: &'static str) -> Mended<'a>
+    requires boundary { IsCharBoundary text.now place }
+    requires word { word.now ≡ encode_utf8_all (first_piece (ahead text.now place)) }
+    ensures { HasPieces (Some (with_name text.now place word.now name.now)) (Some result) }
 {
     let ahead = range_from(text, place);
-    let word = first_piece(ahead);
     Mended {
         front: range_to(text, place),
         word,

@@ -130,9 +130,9 @@ impl<'a> Fault<'a> {
         }
     }
 
-    /// Returns the text with the name that the help suggests in place of the word that is no unit, or
-    /// `None` if the help suggests none. The word is quoted in the fault's line. It begins with the
-    /// token at the fault's place, and can be longer, such as `μs` with the Greek letter mu.
+    /// Returns the text with the name that the help suggests in place of the word that is no unit,
+    /// or `None` if the help suggests none. The word is quoted in the fault's line. It begins with
+    /// the token at the fault's place, and can be longer, such as `μs` with the Greek letter mu.
     ///
     /// ```
     /// use duration_str::{Options, parse_with};
@@ -144,11 +144,12 @@ impl<'a> Fault<'a> {
     /// ```
     #[must_use]
     pub fn mended(&self) -> Option<Mended<'a>> {
-        let Cause::Syntax { place, .. } = self.cause else {
+        let Cause::Syntax { place, expected } = self.cause else {
             return None;
         };
-        let name = self.help()?.suggestion()?;
-        Some(with_name(self.text, place, name))
+        let found = found_at(self.text, place, expected);
+        let name = found.help?.suggestion()?;
+        Some(with_name(self.text, place, found.piece, name))
     }
 }
 
@@ -203,10 +204,9 @@ pub(crate) fn found_at(text: &str, place: usize, expected: Expected) -> Found<'_
     }
 }
 
-/// Returns the text with the name in place of what stands at the place.
-fn with_name<'a>(text: &'a str, place: usize, name: &'static str) -> Mended<'a> {
+/// Returns the text with the name in place of the word, which stands at the place.
+fn with_name<'a>(text: &'a str, place: usize, word: &'a str, name: &'static str) -> Mended<'a> {
     let ahead = range_from(text, place);
-    let word = first_piece(ahead);
     Mended {
         front: range_to(text, place),
         word,

@@ -64,15 +64,11 @@ cut_piece bytes utf8 =
       are = are;
     }
 
-module _ (bytes piece : List ℕ) (utf8 : IsUtf8 bytes) (is_piece : IsUtf8 piece)
-    (is : chars piece ≡ first_piece (chars bytes)) where
-  pub spelled : encode_utf8_all (first_piece (chars bytes)) ≡ piece
-  spelled = ap encode_utf8_all (sym is) ∙ encodes-chars piece is_piece
-
-  pub piece_boundary : IsCharBoundary bytes (length piece)
-  piece_boundary =
-      let cut : IsCut bytes = cut_piece bytes utf8 in
-      IsCharBoundary-at_seam bytes piece (encode_utf8_all cut.rest) (rw spelled at cut.whole) cut.utf8
+pub piece_boundary : (bytes piece : List ℕ) → IsUtf8 bytes → piece ≡ encode_utf8_all (first_piece (chars bytes))
+    → IsCharBoundary bytes (length piece)
+piece_boundary bytes piece utf8 is =
+    let cut : IsCut bytes = cut_piece bytes utf8 in
+    IsCharBoundary-at_seam bytes piece (encode_utf8_all cut.rest) (rw is cut.whole) cut.utf8
 
 pub after_piece : (bytes : List ℕ) (utf8 : IsUtf8 bytes)
     → drop (length (encode_utf8_all (first_piece (chars bytes)))) bytes ≡ encode_utf8_all (cut_piece bytes utf8).rest
