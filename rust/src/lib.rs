@@ -105,8 +105,8 @@
 //! assert_eq!(fault.report(), format!("1m 3-5\n    ^\n{line}"));
 //! ```
 //!
-//! The line often ends with [`Help`], in parentheses. `help` returns it as a value, and `mended` the
-//! text with the name that it suggests, if it does. So a program can say everything in its own
+//! The line often ends with [`Help`], in parentheses. `help` returns it as a value, and `mended`
+//! the text with the name that it suggests, if it does. So a program can say everything in its own
 //! words, or in another language, and need not look into the line:
 //!
 //! ```

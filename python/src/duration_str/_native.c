@@ -182,8 +182,8 @@ static int read_str(struct state *state, PyObject *given, uint32_t options, uint
         return is_read;
     PyObject *report = report_of(text, options, &answer);
     struct help help;
-    help.number = duration_str_help(
-        text.bytes, text.length, options, help.suggestion, &help.word_length);
+    help.number =
+        duration_str_help(text.bytes, text.length, options, help.suggestion, &help.word_length);
     raise_error(state, report, PyUnicode_FromObject(given), &answer, text.bytes, index, help);
     return -1;
 }
