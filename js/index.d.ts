@@ -218,12 +218,14 @@ interface Refused {
     readonly expected: Expected;
     /** What the user may have meant, or should write instead. It is null if no help applies. */
     readonly help: Help | null;
-    /**
-     * The unit, such as `min` for `5 mins`, if the help is `DID_YOU_MEAN`, and otherwise null. To
-     * mend the text, write it in place of `found`, and if that is a Greek `μ`, also of the Latin
-     * letters after it.
-     */
+    /** The unit, such as `min` for `5 mins`, if the help is `DID_YOU_MEAN`, and otherwise null. */
     readonly suggestion: Suggestion | null;
+    /**
+     * The text with the suggestion in place of the word that is no unit, such as `5 min`, or null
+     * if there is no suggestion. If the mended text has a syntax fault under the same options, then
+     * only after the suggestion.
+     */
+    readonly mended: string | null;
 }
 
 /** The token at the place can't follow the text before it, or the text ends too early. */

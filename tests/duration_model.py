@@ -56,7 +56,7 @@ NUMBERS = ("12.5", ".5", "1e-05", "2.5E+3", "0.5e0", "\t3.0 ", "1e-9999999999999
 WORDS = """--to=ms --from=Hour --largest=µs --smallest=mon --units=y,d --style=long
 --round=up""".split()
 Refused = collections.namedtuple(
-    "Refused", "cause column expected found help suggestion message", defaults=[None] * 7
+    "Refused", "cause column expected found help suggestion mended message", defaults=[None] * 8
 )
 Said = collections.namedtuple("Said", "output errors status")
 quoted = json.JSONEncoder(ensure_ascii=False).encode
@@ -154,6 +154,7 @@ def read(data, options):
         found=answer.found or None,
         help=found.code() if found else None,
         suggestion=found.suggestion if found else None,
+        mended=reference.mended(text, answer),
         message=reference.one_line(text, answer),
     )
 

@@ -357,40 +357,42 @@ struct helped {
     const char *text;
     uint32_t options, help;
     const char *suggestion;
+    size_t word_length;
 };
 
 static void check_help(void) {
     static const struct helped rows[] = {
-        {"5 mins", 0, DURATION_STR_HELP_DID_YOU_MEAN, "min"},
-        {"1h 5 usecs", 0, DURATION_STR_HELP_DID_YOU_MEAN, "us"},
-        {"2 hrs", 0, DURATION_STR_HELP_DID_YOU_MEAN, "h"},
-        {"3 mos", DURATION_STR_OPTION_MORE_NAMES, DURATION_STR_HELP_DID_YOU_MEAN, "mon"},
-        {"5 parsecs", 0, DURATION_STR_HELP_UNITS, ""},
-        {"1.5s", 0, DURATION_STR_HELP_FRACTION, ""},
-        {"1,000s", 0, DURATION_STR_HELP_DIGITS_ONLY, ""},
-        {"1:30", 0, DURATION_STR_HELP_CLOCK_TIME, ""},
-        {"-5m", 0, DURATION_STR_HELP_NEGATIVE, ""},
-        {"+5m", 0, DURATION_STR_HELP_LEADING_PLUS, ""},
-        {"PT5M", 0, DURATION_STR_HELP_ISO_8601, ""},
-        {"1h, 30m", 0, DURATION_STR_HELP_ONE_DURATION, ""},
-        {"5 min.", 0, DURATION_STR_HELP_NO_POINT, ""},
-        {"(1h + 30m) * 2", 0, DURATION_STR_HELP_BRACKETS, ""},
-        {"1h / 2", 0, DURATION_STR_HELP_DIVISION, ""},
-        {"'5m'", 0, DURATION_STR_HELP_QUOTATION_MARKS, ""},
-        {"1h 90", DURATION_STR_OPTION_REQUIRE_UNIT, DURATION_STR_HELP_MISSING_UNIT, ""},
-        {"0", DURATION_STR_OPTION_REQUIRE_UNIT, DURATION_STR_HELP_ZERO, ""},
-        {"1700000000000000000", 0, DURATION_STR_HELP_LARGE_NUMBER, ""},
+        {"5 mins", 0, DURATION_STR_HELP_DID_YOU_MEAN, "min", 4},
+        {"1h 5 usecs", 0, DURATION_STR_HELP_DID_YOU_MEAN, "us", 5},
+        {"2 hrs", 0, DURATION_STR_HELP_DID_YOU_MEAN, "h", 3},
+        {"3 mos", DURATION_STR_OPTION_MORE_NAMES, DURATION_STR_HELP_DID_YOU_MEAN, "mon", 3},
+        {"2h 5\xce\xbcseconds 3x", 0, DURATION_STR_HELP_DID_YOU_MEAN, "us", 9},
+        {"5 parsecs", 0, DURATION_STR_HELP_UNITS, "", 0},
+        {"1.5s", 0, DURATION_STR_HELP_FRACTION, "", 0},
+        {"1,000s", 0, DURATION_STR_HELP_DIGITS_ONLY, "", 0},
+        {"1:30", 0, DURATION_STR_HELP_CLOCK_TIME, "", 0},
+        {"-5m", 0, DURATION_STR_HELP_NEGATIVE, "", 0},
+        {"+5m", 0, DURATION_STR_HELP_LEADING_PLUS, "", 0},
+        {"PT5M", 0, DURATION_STR_HELP_ISO_8601, "", 0},
+        {"1h, 30m", 0, DURATION_STR_HELP_ONE_DURATION, "", 0},
+        {"5 min.", 0, DURATION_STR_HELP_NO_POINT, "", 0},
+        {"(1h + 30m) * 2", 0, DURATION_STR_HELP_BRACKETS, "", 0},
+        {"1h / 2", 0, DURATION_STR_HELP_DIVISION, "", 0},
+        {"'5m'", 0, DURATION_STR_HELP_QUOTATION_MARKS, "", 0},
+        {"1h 90", DURATION_STR_OPTION_REQUIRE_UNIT, DURATION_STR_HELP_MISSING_UNIT, "", 0},
+        {"0", DURATION_STR_OPTION_REQUIRE_UNIT, DURATION_STR_HELP_ZERO, "", 0},
+        {"1700000000000000000", 0, DURATION_STR_HELP_LARGE_NUMBER, "", 0},
         {"600", DURATION_STR_OPTION_DEFAULT_UNIT(DURATION_STR_UNIT_YEAR),
-            DURATION_STR_HELP_LARGE_NUMBER, ""},
+            DURATION_STR_HELP_LARGE_NUMBER, "", 0},
         {"1700000000000", DURATION_STR_OPTION_DEFAULT_UNIT(DURATION_STR_UNIT_MILLISECOND),
-            DURATION_STR_HELP_NONE, ""},
-        {"1m+", 0, DURATION_STR_HELP_NONE, ""},
-        {"600y", 0, DURATION_STR_HELP_NONE, ""},
-        {"", 0, DURATION_STR_HELP_NONE, ""},
-        {"5\xff", 0, DURATION_STR_HELP_NONE, ""},
-        {"5 mins", DURATION_STR_OPTION_MORE_NAMES << 1, DURATION_STR_HELP_NONE, ""},
-        {"5 mins", DURATION_STR_OPTION_MORE_NAMES, DURATION_STR_HELP_NONE, ""},
-        {"90", 0, DURATION_STR_HELP_NONE, ""},
+            DURATION_STR_HELP_NONE, "", 0},
+        {"1m+", 0, DURATION_STR_HELP_NONE, "", 0},
+        {"600y", 0, DURATION_STR_HELP_NONE, "", 0},
+        {"", 0, DURATION_STR_HELP_NONE, "", 0},
+        {"5\xff", 0, DURATION_STR_HELP_NONE, "", 0},
+        {"5 mins", DURATION_STR_OPTION_MORE_NAMES << 1, DURATION_STR_HELP_NONE, "", 0},
+        {"5 mins", DURATION_STR_OPTION_MORE_NAMES, DURATION_STR_HELP_NONE, "", 0},
+        {"90", 0, DURATION_STR_HELP_NONE, "", 0},
     };
     for (size_t at = 0; at < sizeof rows / sizeof *rows; at++) {
         const struct helped *row = &rows[at];
@@ -398,16 +400,19 @@ static void check_help(void) {
         char suggestion[DURATION_STR_SUGGESTION_BUFFER_SIZE + 4], untouched[sizeof suggestion];
         memset(suggestion, '#', sizeof suggestion);
         memset(untouched, '#', sizeof untouched);
-        expect(duration_str_help(row->text, length, row->options, suggestion) == row->help,
-            "the help");
+        size_t word_length = 7;
+        const uint32_t help =
+            duration_str_help(row->text, length, row->options, suggestion, &word_length);
+        expect(help == row->help, "the help");
+        expect(word_length == row->word_length, "the length of the word");
         expect(strcmp(suggestion, row->suggestion) == 0, "the suggestion");
         expect(memcmp(suggestion + end, untouched, sizeof suggestion - end) == 0,
             "what follows the suggestion is unchanged");
-        expect(duration_str_help(row->text, length, row->options, NULL) == row->help,
+        expect(duration_str_help(row->text, length, row->options, NULL, NULL) == row->help,
             "the help without a suggestion");
     }
-    expect(
-        duration_str_help(NULL, 0, 0, NULL) == DURATION_STR_HELP_NONE, "the help for a null text");
+    expect(duration_str_help(NULL, 0, 0, NULL, NULL) == DURATION_STR_HELP_NONE,
+        "the help for a null text");
 }
 
 int main(void) {

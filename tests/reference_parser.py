@@ -778,6 +778,15 @@ def help_of(text, answer):
     return name and Help(name)
 
 
+def mended(text, answer):
+    """The text with the suggested name in place of the word, or None."""
+    found = help_of(text, answer)
+    if not (found and found.suggestion):
+        return None
+    word = piece_at(text, answer.place)
+    return text[: answer.place] + found.suggestion + text[answer.place + len(word) :]
+
+
 def expected_in_line(expected):
     kinds = [
         ("unit", "a unit"),

@@ -56,7 +56,7 @@ def refusals():
     """The rows of refusals, each with what the reference parser has for it, and with its line."""
     rows = tables()
     for row in rows["refused"]:
-        text, names, *_, line, spaces, code, suggestion = row
+        text, names, *_, line, _, _, _, _ = row
         answer = Choice.named(names).answer(text)
         place = None if answer.place is None else len(text[: answer.place].encode())
         kinds = [kind for kind in KINDS if kind in answer.expected]
@@ -66,6 +66,7 @@ def refusals():
             found = reference_parser.help_of(text, answer)
             wanted += [reference_parser.one_line(text, answer), spaces_of(text, answer)]
             wanted += [found.code(), found.suggestion] if found else [None, None]
+            wanted.append(reference_parser.mended(text, answer))
         yield row, wanted, line
     for row in rows["refused_numbers"]:
         unit, number, line = row

@@ -21,11 +21,7 @@ function complete(text) {
 function mend(text, options) {
     const { fault } = tryParseNs(text, options);
     if (fault?.help === "ZERO") return "0s";
-    if (!fault?.suggestion) return text;
-    const { index, found, suggestion } = fault;
-    // The letters after a Greek mu are not in `found`, but belong to the word.
-    const [word] = /^μ[A-Za-z]*/.exec(text.slice(index)) ?? [found];
-    return mend(text.slice(0, index) + suggestion + text.slice(index + word.length), options);
+    return fault?.mended ? mend(fault.mended, options) : text;
 }
 
 /** The options, and then those with changes by which more texts are read. Of two that both read a

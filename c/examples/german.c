@@ -9,7 +9,7 @@ static const char *const causes[] = {[DURATION_STR_CAUSE_EMPTY] = "leere Eingabe
     [DURATION_STR_CAUSE_OVERFLOW] = "mehr als 584 Jahre",
     [DURATION_STR_CAUSE_MIXED] = "Summe und Produkt gemischt",
     [DURATION_STR_CAUSE_NOT_TEXT] = "kein UTF-8"};
-static const char *const helps[] = {[DURATION_STR_HELP_DID_YOU_MEAN] = "besser ",
+static const char *const helps[] = {
     [DURATION_STR_HELP_UNITS] = "Einheiten: y, q, mon, w, d, h, min, s, ms, us, ns",
     [DURATION_STR_HELP_FRACTION] = "Zahlen haben nur Ziffern: 1500ms statt 1.5s",
     [DURATION_STR_HELP_DIGITS_ONLY] = "Zahlen haben nur Ziffern",
@@ -29,14 +29,18 @@ static const char *const kinds[] = {"einer Zahl", "einer Einheit", "+ oder *", "
 /* A later version can have more causes and helps. */
 #define WORDS(list, at) ((at) < sizeof list / sizeof *list && list[at] ? list[at] : "")
 
+/* On a terminal, other characters can hide the line or change its order. */
+static void put(const char *text, size_t length) {
+    for (size_t at = 0; at < length; at++)
+        putchar(text[at] >= ' ' && text[at] <= '~' ? text[at] : '?');
+}
+
 static void say_syntax(const char *text, const struct duration_str_answer *answer) {
     size_t column = 1;
     for (size_t at = 0; at < answer->place; at++)
         column += ((unsigned char)text[at] & 0xc0) != 0x80; /* the first byte of a character */
     printf("Spalte %zu: %s", column, answer->found_length ? "„" : "das Ende");
-    /* On a terminal, other characters can hide the line or change its order. */
-    for (const char *at = text + answer->place, *end = at + answer->found_length; at < end; at++)
-        putchar(*at >= ' ' && *at <= '~' ? *at : '?');
+    put(text + answer->place, answer->found_length);
     fputs(answer->found_length ? "“" : "", stdout);
     for (unsigned bit = 0; bit < sizeof kinds / sizeof *kinds; bit++)
         if (answer->expected & 1u << bit)
@@ -46,14 +50,23 @@ static void say_syntax(const char *text, const struct duration_str_answer *answe
 int main(int count, char **words) {
     for (int at = 1; at < count; at++) {
         struct duration_str_answer answer;
+        const size_t length = strlen(words[at]);
         char unit[DURATION_STR_SUGGESTION_BUFFER_SIZE];
-        const uint32_t help = duration_str_help(words[at], strlen(words[at]), 0, unit);
-        duration_str_parse_with(words[at], strlen(words[at]), 0, &answer);
+        size_t replaced;
+        const uint32_t help = duration_str_help(words[at], length, 0, unit, &replaced);
+        duration_str_parse_with(words[at], length, 0, &answer);
         fputs(WORDS(causes, answer.cause), stdout);
         if (answer.cause == DURATION_STR_CAUSE_SYNTAX)
             say_syntax(words[at], &answer);
-        if (help != DURATION_STR_HELP_NONE)
-            printf(" (%s%s)", WORDS(helps, help), unit);
+        if (help == DURATION_STR_HELP_DID_YOU_MEAN) {
+            fputs(" (besser „", stdout);
+            put(words[at], answer.place);
+            fputs(unit, stdout);
+            put(words[at] + answer.place + replaced, length - answer.place - replaced);
+            fputs("“)", stdout);
+        } else if (help != DURATION_STR_HELP_NONE) {
+            printf(" (%s)", WORDS(helps, help));
+        }
         putchar('\n');
     }
 }

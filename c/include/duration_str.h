@@ -463,14 +463,14 @@ size_t duration_str_report(
  * returns DURATION_STR_HELP_NONE, which is 0.
  *
  * For DURATION_STR_HELP_DID_YOU_MEAN, writes the name of a unit to the start of
- * `suggestion`, such as `min` for `5 mins`. The user should write this name in
- * place of the token that was found, and if that is a Greek mu, also in place of
- * the Latin letters after it. Otherwise writes the empty text. `suggestion` has
- * DURATION_STR_SUGGESTION_BUFFER_SIZE bytes. It may be null if you want only the
- * help. */
+ * `suggestion`, such as `min` for `5 mins`, and to `*word_length` the length of
+ * the word that is no unit, in bytes. The user should write the name in place of
+ * that word, which begins at the place of the fault. Otherwise writes the empty
+ * text and 0. `suggestion` has DURATION_STR_SUGGESTION_BUFFER_SIZE bytes. Each of
+ * the two pointers may be null. */
 uint32_t duration_str_help(
     const char *text, size_t length, uint32_t options,
-    char suggestion[DURATION_STR_SUGGESTION_BUFFER_SIZE]);
+    char suggestion[DURATION_STR_SUGGESTION_BUFFER_SIZE], size_t *word_length);
 
 /* Finds a unit by its name, such as `h`, `ms` or `minutes`. Returns the unit's
  * number in `enum duration_str_time_unit`, or -1 if no unit has this name or if

@@ -148,10 +148,13 @@ unsafe extern "C" fn duration_str_help(
     len: usize,
     bits: u32,
     out: Option<&mut MaybeUninit<[u8; 4]>>,
+    word_length: Option<&mut MaybeUninit<usize>>,
 ) -> u32 {
     let (text, mut number) = (unsafe { bytes(text, len) }, 0);
+    let mut unwanted = MaybeUninit::uninit();
+    let word_length = word_length.unwrap_or(&mut unwanted).write(0);
     written(out.unwrap_or(&mut MaybeUninit::zeroed()), |buffer| {
-        number = help::duration_str_help(text, bits, buffer);
+        number = help::duration_str_help(text, bits, buffer, word_length);
         buffer.iter().take_while(|byte| **byte != 0).count()
     });
     number

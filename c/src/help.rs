@@ -4,7 +4,7 @@
 use crate::answer::Answer;
 use crate::message::refusal_of;
 use crate::put;
-use duration_str_core::{Help, MAX_SUGGESTION_LEN};
+use duration_str_core::{Fault, Help, MAX_SUGGESTION_LEN};
 
 /// The size of the buffer that `duration_str_help` writes a name into.
 pub const SUGGESTION_BUFFER_SIZE: usize = MAX_SUGGESTION_LEN + 1;
@@ -13,17 +13,32 @@ pub const SUGGESTION_BUFFER_SIZE: usize = MAX_SUGGESTION_LEN + 1;
 /// returns the number of the help for its refusal, as `Help::number` gives it. The number is 0 if
 /// there is no help, or if the text is read. Writes to the start of the buffer the name that the
 /// help says to write, with a zero byte after it. If the help names none, the name is empty. The
-/// rest of the buffer is unchanged.
+/// rest of the buffer is unchanged. Writes to `word_length` how many bytes of the text, from the
+/// fault's place on, the name replaces. It is 0 if the help names none.
 pub fn duration_str_help(
     text: &[u8],
     options: u32,
     suggestion: &mut [u8; SUGGESTION_BUFFER_SIZE],
+    word_length: &mut usize,
 ) -> u32 {
     let mut answer = Answer::value(0);
     match refusal_of(text, options, &mut answer) {
-        Ok(fault) => show_help(fault.help(), suggestion),
-        Err(_) => show_help(None, suggestion),
+        Ok(fault) => {
+            *word_length = word_length_of(&fault);
+            show_help(fault.help(), suggestion)
+        }
+        Err(_) => {
+            *word_length = 0;
+            show_help(None, suggestion)
+        }
     }
+}
+
+fn word_length_of(fault: &Fault<'_>) -> usize {
+    let Some(mended) = fault.mended() else {
+        return 0;
+    };
+    mended.word.len()
 }
 
 fn show_help(help: Option<Help>, suggestion: &mut [u8; SUGGESTION_BUFFER_SIZE]) -> u32 {

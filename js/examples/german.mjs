@@ -13,7 +13,7 @@ const CAUSES = {
     NOT_TEXT: "kein UTF-8",
 };
 const HELPS = {
-    DID_YOU_MEAN: "besser „SUGGESTION“",
+    DID_YOU_MEAN: "besser „MENDED“",
     UNITS: `Einheiten: ${UNITS}`,
     FRACTION: "Zahlen haben nur Ziffern: 1500ms statt 1.5s",
     DIGITS_ONLY: "Zahlen haben nur Ziffern",
@@ -31,10 +31,12 @@ const HELPS = {
     LARGE_NUMBER: "mit Einheit, etwa ns",
 };
 
+// On a terminal, other characters can hide the line or change its order.
+const isPrintable = (text) => !/[\p{C}\p{Z}]/u.test(text.replaceAll(" ", ""));
+
 function shown(token) {
     if (token === null) return "das Ende";
-    // On a terminal, these characters can hide the line or change its order.
-    return /[\p{C}\p{Z}]/u.test(token) ? "etwas anderes" : `„${token}“`;
+    return isPrintable(token) ? `„${token}“` : "etwas anderes";
 }
 
 function problem({ code, text, index, found, expected }) {
@@ -46,9 +48,10 @@ function problem({ code, text, index, found, expected }) {
 }
 
 export function inGerman(fault) {
-    const { help, suggestion } = fault;
+    const { help, suggestion, mended } = fault;
     // Later versions may have more helps.
     const words = HELPS[help];
     if (words === undefined) return problem(fault);
-    return `${problem(fault)} (${words.replace("SUGGESTION", suggestion)})`;
+    const better = isPrintable(mended ?? "") ? mended : suggestion;
+    return `${problem(fault)} (${words.replace("MENDED", () => better)})`;
 }

@@ -10,7 +10,8 @@ const LONE_SURROGATE = /[\ud800-\udfff]/u;
 
 // After the module's own memory come a `struct Answer` and the text to read. These are the offsets
 // of the struct's other fields: the nanoseconds are at 0.
-const PLACE = 8, FOUND_LENGTH = 12, CAUSE = 16, EXPECTED = 20, HELP = 24, UNIT = 28, REPORT = 32;
+const PLACE = 8, FOUND_LENGTH = 12, CAUSE = 16, EXPECTED = 20, HELP = 24, UNIT = 28;
+const WORD_LENGTH = 32, REPORT = 36;
 /** The longest report fits. */
 const REPORT_SIZE = 867;
 /** The offset of the text. The struct's size is a multiple of 8. */
@@ -74,6 +75,10 @@ function faultOf(text, reportLength) {
         fault.index = indexAt(text, place);
         const end = indexAt(text, place + number(FOUND_LENGTH));
         fault.found = text.slice(fault.index, end) || null;
+        if (fault.suggestion) {
+            const rest = text.slice(indexAt(text, place + number(WORD_LENGTH)));
+            fault.mended = text.slice(0, fault.index) + fault.suggestion + rest;
+        }
     }
     return fault;
 }

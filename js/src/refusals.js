@@ -22,6 +22,7 @@ export class Fault {
         };
         this.help = HELPS[help - 1] ?? null;
         this.suggestion = UNITS[unit - 1]?.replace("µ", "u") ?? null;
+        this.mended = null;
         this.message = report.slice(report.lastIndexOf("\n") + 1);
         this.#report = report;
     }
@@ -55,6 +56,7 @@ export class DurationError extends Error {
         const { message, ...cause } = fault;
         hideLong(cause, "text");
         hideLong(cause, "found");
+        hideLong(cause, "mended");
         super(message, { cause });
         this.#report = fault.report;
     }
@@ -93,6 +95,10 @@ export class DurationError extends Error {
 
     get suggestion() {
         return this.cause.suggestion;
+    }
+
+    get mended() {
+        return this.cause.mended;
     }
 
     toJSON() {

@@ -374,12 +374,12 @@ for (const { DurationError, formatNs, tryParseNs } of [compiled, plain]) {
         }
     }
     for (const [text, names, ...row] of VECTORS.refused) {
-        const [code, place, found, , line, , help, suggestion] = row;
+        const [code, place, found, , line, , help, suggestion, mended] = row;
         const error = new DurationError(tryParseNs(text, optionsOf(names)).fault);
         const copy = structuredClone(error.toJSON());
         const got = [copy.code, copy.place, copy.found, copy.help, copy.suggestion, copy.message];
-        got.push(structuredClone(error).message);
-        const wanted = [code, place, found, help, suggestion, line, line];
+        got.push(structuredClone(error).message, copy.mended);
+        const wanted = [code, place, found, help, suggestion, line, line, mended];
         if (got.join() !== wanted.join()) wrong.push(text);
     }
     for (const [text, limits, short] of VECTORS.printed) {

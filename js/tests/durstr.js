@@ -1,7 +1,7 @@
 // `node durstr.js [OPTION..]` answers each line of the standard input. It writes the nanoseconds
-// and the printed duration, or why the line is refused, and after a tab the help's number and the
-// suggestion. Options are named as in vectors.json, such as `no_calc` or `default_unit=ms`. The
-// status is 0 if all lines are read, and otherwise 1.
+// and the printed duration, or why the line is refused, and after a tab the help's number, the
+// suggestion and the mended text. Options are named as in vectors.json, such as `no_calc` or
+// `default_unit=ms`. The status is 0 if all lines are read, and otherwise 1.
 //
 // `node durstr.js rounded` prints durations that are rounded down, to the nearest and up. Each line
 // has the nanoseconds, the number of a set of units, and the greatest number of parts.
@@ -26,9 +26,10 @@ function answer(line) {
     return ok ? [`${value} ${formatNs(value)}`, true] : [lineAndHelp(fault), false];
 }
 
-function lineAndHelp({ message, help, suggestion }) {
+function lineAndHelp({ message, help, suggestion, mended }) {
     if (help === null) return message;
-    return `${message}\t${HELPS.indexOf(help) + 1} ${suggestion ?? ""}`.trimEnd();
+    const told = `${message}\t${HELPS.indexOf(help) + 1}`;
+    return mended === null ? told : `${told} ${suggestion} ${mended}`;
 }
 
 function rounded(line) {

@@ -23,7 +23,7 @@ function errorOf(text, options) {
 
 test("tells all of a refusal", () => {
     for (const [text, names, ...row] of VECTORS.refused) {
-        const [code, place, found, kinds, line, spaces, help, suggestion] = row;
+        const [code, place, found, kinds, line, spaces, help, suggestion, mended] = row;
         const options = optionsOf(names);
         const error = errorOf(text, options);
         const before = Buffer.from(text).subarray(0, place ?? 0).toString();
@@ -40,15 +40,17 @@ test("tells all of a refusal", () => {
         );
         const { fault } = tryParseNs(text, options);
         assert.deepEqual([error.message, fault.message, String(fault)], [line, line, line]);
-        assert.deepEqual([error.help, error.suggestion], [help, suggestion], text);
-        assert.deepEqual([fault.help, fault.suggestion], [help, suggestion], text);
+        for (const told of [error, fault]) {
+            assert.deepEqual([told.help, told.suggestion], [help, suggestion], text);
+            assert.equal(told.mended, mended, text);
+        }
         const report = spaces === null ? line : `${text}\n${" ".repeat(spaces)}^\n${line}`;
         assert.deepEqual([error.report, fault.report], [report, report]);
     }
 });
 
 test("gives each help", () => {
-    const given = new Set(VECTORS.refused.map((row) => row.at(-2)));
+    const given = new Set(VECTORS.refused.map((row) => row.at(-3)));
     assert.deepEqual(given, new Set([null, ...HELPS]));
 });
 
@@ -83,7 +85,7 @@ test("refuses lone surrogates, wherever they stand", () => {
             const error = errorOf(text, options);
             assert.deepEqual([error.code, error.text], ["NOT_TEXT", text]);
             assert.deepEqual([error.index, error.place, error.found], [index, null, null]);
-            assert.deepEqual([error.help, error.suggestion], [null, null]);
+            assert.deepEqual([error.help, error.suggestion, error.mended], [null, null, null]);
             const line = `not UTF-8: a lone surrogate at index ${index}`;
             assert.deepEqual([error.message, error.report], [line, line]);
         }
@@ -176,6 +178,7 @@ test("survives a structured clone and JSON, with all that is wrong", () => {
     const { fault } = tryParseNs("5 mins");
     const { message, ...cause } = fault;
     assert.deepEqual([cause.help, cause.suggestion], ["DID_YOU_MEAN", "min"]);
+    assert.equal(cause.mended, "5 min");
     const clone = structuredClone(error);
     assert.deepEqual(
         [clone.message, clone.cause, structuredClone(fault)],
@@ -193,12 +196,13 @@ test("is told without an error by tryParse", () => {
     for (const text of ["", "1m 3-5", "5 mins", "600y", "\ud800"]) {
         const { ok, fault } = tryParseNs(text);
         const error = errorOf(text);
-        const { code, index, place, found, expected, help, suggestion, message, report } = error;
+        const { code, index, place, found, expected, help, message, report } = error;
+        const { suggestion, mended } = error;
         assert.deepEqual(
             [ok, { ...fault }, fault.report],
             [
                 false,
-                { code, text, index, place, found, expected, help, suggestion, message },
+                { code, text, index, place, found, expected, help, suggestion, mended, message },
                 report,
             ],
         );

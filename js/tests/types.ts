@@ -68,7 +68,8 @@ try {
     const expected: Expected = error.expected;
     const any: boolean = expected.number || expected.unit || expected.operator || expected.end;
     const texts: (string | null)[] = [
-        error.found, error.report, error.text, error.message, cause.text,
+        error.found, error.report, error.text, error.message, cause.text, error.mended,
+        cause.mended,
     ];
     const help: Help | null = error.help;
     const suggestion: Suggestion | null = cause.suggestion;

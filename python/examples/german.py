@@ -19,7 +19,7 @@ CAUSES = {
     Cause.NOT_TEXT: "kein UTF-8",
 }
 HELPS = {
-    Help.DID_YOU_MEAN: "besser „SUGGESTION“",
+    Help.DID_YOU_MEAN: "besser „MENDED“",
     Help.UNITS: f"Einheiten: {UNITS}",
     Help.FRACTION: "Zahlen haben nur Ziffern: 1500ms statt 1.5s",
     Help.DIGITS_ONLY: "Zahlen haben nur Ziffern",
@@ -57,4 +57,6 @@ def in_german(error):
     words = HELPS.get(error.help)
     if words is None:
         return problem(error)
-    return f"{problem(error)} ({words.replace('SUGGESTION', error.suggestion or '')})"
+    mended = error.mended or ""
+    better = mended if mended.isprintable() else error.suggestion
+    return f"{problem(error)} ({words.replace('MENDED', better)})"

@@ -20,7 +20,7 @@ class JobError(DurationError):
 class Errors(unittest.TestCase):
     def test_tells_what_is_wrong(self):
         for row in VECTORS["refused"]:
-            text, names, cause, place, found, expected, line, spaces, code, suggestion = row
+            text, names, cause, place, found, expected, line, spaces, code, suggestion, mended = row
             with self.subTest(text=text):
                 error = error_of(text, **words_of(names))
                 self.assertIsInstance(error, ValueError)
@@ -34,10 +34,10 @@ class Errors(unittest.TestCase):
                 above = "" if spaces is None else f"{text}\n{' ' * spaces}^\n"
                 self.assertEqual((str(error), error.report), (line, above + line))
                 self.assertIs(error.help, code and Help[code])
-                self.assertEqual(error.suggestion, suggestion)
+                self.assertEqual((error.suggestion, error.mended), (suggestion, mended))
 
     def test_has_each_help(self):
-        codes = {code for *_, code, _ in VECTORS["refused"]}
+        codes = {code for *_, code, _, _ in VECTORS["refused"]}
         self.assertEqual({None, *(each.name for each in Help)}, codes)
 
     def test_reports_nothing_unsafe(self):
@@ -65,7 +65,7 @@ class Errors(unittest.TestCase):
                     )
                     line = f"not UTF-8: a lone surrogate at index {place}"
                     self.assertEqual((str(error), error.report), (line, line))
-                    self.assertEqual((error.help, error.suggestion), (None, None))
+                    self.assertEqual((error.help, error.suggestion, error.mended), (None,) * 3)
 
     def test_tells_of_a_long_text_in_a_short_line(self):
         line = "expected a number, '+', '*' or the end at column 100003, found \"x\""

@@ -366,14 +366,16 @@ class Models(unittest.TestCase):
             )
             place = {"cause": "SYNTAX", "place": 2, "pos": 2, "found": "mins"}
             place["expected"] = ["unit", "operator", "end"]
-            self.assertEqual(error["ctx"], place | {"help": "DID_YOU_MEAN", "suggestion": "min"})
+            place |= {"help": "DID_YOU_MEAN", "suggestion": "min", "mended": "5 min"}
+            self.assertEqual(error["ctx"], place)
             self.assertEqual(raised.exception.json().count("did you mean"), 1)
         with self.assertRaises(self.pydantic.ValidationError) as raised:
             self.model(timeout="1µs …")
         place = {"cause": "SYNTAX", "place": 5, "pos": 4, "found": "…"}
         place["expected"] = ["number", "operator", "end"]
         self.assertEqual(
-            raised.exception.errors()[0]["ctx"], place | {"help": None, "suggestion": None}
+            raised.exception.errors()[0]["ctx"],
+            place | {"help": None, "suggestion": None, "mended": None},
         )
         with self.assertRaises(self.pydantic.ValidationError) as raised:
             self.model(timeout="600y")

@@ -1,7 +1,7 @@
 use crate::fault::Fault;
 use alloc::string::{String, ToString};
 use core::fmt;
-use duration_str_core::{Cause, Expected, Help, Options};
+use duration_str_core::{Cause, Expected, Help, Mended, Options};
 
 /// A [`Fault`] that owns its text. Calls such as [`parse_duration`](crate::parse_duration) return
 /// this error.
@@ -111,6 +111,17 @@ impl DurationError {
     #[must_use]
     pub fn help(&self) -> Option<Help> {
         self.as_fault().help()
+    }
+
+    /// Returns the text with the name that the help suggests, as [`Fault::mended`] does.
+    ///
+    /// ```
+    /// let error = duration_str::parse_duration("5 mins").unwrap_err();
+    /// assert_eq!(error.mended().unwrap().to_string(), "5 min");
+    /// ```
+    #[must_use]
+    pub fn mended(&self) -> Option<Mended<'_>> {
+        self.as_fault().mended()
     }
 
     /// Returns the report for a terminal, as [`Fault::report`] does.

@@ -2,7 +2,9 @@ use crate::derror::DError;
 use crate::error::DurationError;
 use alloc::string::{String, ToString};
 use core::fmt;
-use duration_str_core::{self as proved, Cause, Expected, Help, ONE_LINE_BUFFER_SIZE, Options};
+use duration_str_core::{
+    self as proved, Cause, Expected, Help, Mended, ONE_LINE_BUFFER_SIZE, Options,
+};
 
 /// Why a text is refused, and often where.
 ///
@@ -110,9 +112,7 @@ impl<'a> Fault<'a> {
     /// Returns the help for the fault: what a user may have meant, or should write instead. It is
     /// `None` if no help applies. The line ends with the help in words.
     ///
-    /// If the help suggests a name, the user should write it in place of the token that
-    /// [`found`](Self::found) returns, and if that is a Greek `μ`, also of the Latin letters after
-    /// it.
+    /// If the help suggests a name, [`mended`](Self::mended) has the text with that name.
     ///
     /// ```
     /// use duration_str::{Help, Options, TimeUnit, parse_with};
@@ -124,6 +124,25 @@ impl<'a> Fault<'a> {
     #[must_use]
     pub fn help(&self) -> Option<Help> {
         self.fault.help()
+    }
+
+    /// Returns the text with the name that the help suggests in place of the word that is no unit.
+    /// It is `None` if the help suggests none.
+    ///
+    /// The mended text displays as a whole, and its fields are the pieces. If it is refused for a
+    /// syntax fault by the same rules, that is not before the end of the name.
+    ///
+    /// ```
+    /// use duration_str::{Options, parse_with};
+    ///
+    /// let mended = |text| parse_with(text, Options::off()).unwrap_err().mended();
+    /// let one = mended("2h 5 mins").unwrap();
+    /// assert_eq!((one.to_string(), one.word, one.name), ("2h 5 min".to_string(), "mins", "min"));
+    /// assert_eq!(mended("5 foo"), None);
+    /// ```
+    #[must_use]
+    pub fn mended(&self) -> Option<Mended<'a>> {
+        self.fault.mended()
     }
 
     /// Writes the line to the start of a buffer, and returns it. The call allocates nothing.

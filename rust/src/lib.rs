@@ -105,14 +105,16 @@
 //! assert_eq!(fault.report(), format!("1m 3-5\n    ^\n{line}"));
 //! ```
 //!
-//! The line often ends with [`Help`], in parentheses. `help` returns it as a value. So a program
-//! can say everything in its own words, or in another language, and need not look into the line:
+//! The line often ends with [`Help`], in parentheses. `help` returns it as a value, and `mended`
+//! the text with the name that it suggests, if it does. So a program can say everything in its own
+//! words, or in another language, and need not look into the line:
 //!
 //! ```
 //! use duration_str::{Help, parse_duration};
 //!
 //! let refusal = parse_duration("5 mins").unwrap_err();
 //! assert_eq!(refusal.help().and_then(Help::suggestion), Some("min"));
+//! assert_eq!(refusal.mended().unwrap().to_string(), "5 min");
 //! assert_eq!(parse_duration("1:30").unwrap_err().help(), Some(Help::ClockTime));
 //! ```
 //!
@@ -224,7 +226,7 @@ pub use derror::{DError, DResult};
 #[doc(inline)]
 pub use duration_str_core::{
     Breakdown, Cause, CondUnit, Expected, FORMAT_BUFFER_SIZE, Format, HUMAN_BUFFER_SIZE, Help,
-    ONE_LINE_BUFFER_SIZE, Options, Rounding, Rules, Style, TimeUnit, Units, UnknownStyle,
+    Mended, ONE_LINE_BUFFER_SIZE, Options, Rounding, Rules, Style, TimeUnit, Units, UnknownStyle,
     UnknownUnit, write_format, write_human, write_rounded,
 };
 // `MAX_LONG_LEN`, `MAX_PRINTED_LEN`, `UNITS` and `round_to`, below, are hidden, since programs that

@@ -1,7 +1,7 @@
 //! For tests/compare: prints the value and the duration of each line of the input, or the line of
-//! the refusal, and after a tab the help's number and what it suggests. The words are those of the
-//! program durstr, `more_names`, `require_unit`, and a default unit, such as `default_unit=ms`. The
-//! status is 0 if all lines are read, and 1 if some are refused.
+//! the refusal, and after a tab the help's number, the suggestion and the mended text. The words
+//! are those of the program durstr, `more_names`, `require_unit`, and a default unit, such as
+//! `default_unit=ms`. The status is 0 if all lines are read, and 1 if some are refused.
 //!
 //! With the word `rounded` it prints durations that are rounded down, to the nearest and up. Each
 //! line has the nanoseconds, the number of a set of units, and the greatest number of parts.
@@ -33,8 +33,8 @@ fn line_and_help(fault: Fault<'_>) -> String {
     let Some(help) = fault.help() else {
         return fault.to_string();
     };
-    match help.suggestion() {
-        Some(name) => format!("{fault}\t{} {name}", help.number()),
+    match fault.mended() {
+        Some(mended) => format!("{fault}\t{} {} {mended}", help.number(), mended.name),
         None => format!("{fault}\t{}", help.number()),
     }
 }

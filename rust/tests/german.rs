@@ -26,7 +26,6 @@ fn problem(fault: &Fault<'_>) -> String {
 
 fn words(help: Help) -> String {
     let words = match help {
-        Help::DidYouMean(_) => "besser ",
         Help::Units => "Einheiten: y, q, mon, w, d, h, min, s, ms, us, ns",
         Help::Fraction => "Zahlen haben nur Ziffern: 1500ms statt 1.5s",
         Help::DigitsOnly => "Zahlen haben nur Ziffern",
@@ -44,13 +43,17 @@ fn words(help: Help) -> String {
         Help::LargeNumber => "mit Einheit, etwa ns",
         _ => "", // A later version can have more.
     };
-    format!(" ({words}{})", help.suggestion().unwrap_or_default())
+    format!(" ({words})")
 }
 
 fn main() {
     for text in std::env::args().skip(1) {
         if let Err(fault) = parse_with(&text, Options::off()) {
-            let help = fault.help().map_or(String::new(), words);
+            let mended = fault
+                .mended()
+                .map(|it| it.to_string().escape_debug().to_string());
+            let offer = mended.map(|mended| format!(" (besser „{mended}“)"));
+            let help = offer.or(fault.help().map(words)).unwrap_or_default();
             println!("{}{help}", problem(&fault));
         }
     }

@@ -12,8 +12,9 @@ pub struct Refusal {
     cause: &'static str,
     place: Option<usize>,
     expected: Option<Expected>,
-    found: Option<String>,
+    found: Option<Box<str>>,
     help: Option<Help>,
+    mended: Option<Box<str>>,
 }
 
 impl Refusal {
@@ -50,6 +51,7 @@ impl Refusal {
             ("found", json!(self.found)),
             ("help", json!(help)),
             ("suggestion", json!(self.help.and_then(Help::suggestion))),
+            ("mended", json!(self.mended)),
             ("message", json!(self.message)),
         ];
         let fields = fields.map(|(name, value)| format!("{name:?}:{value}"));
@@ -65,8 +67,9 @@ impl From<Fault<'_>> for Refusal {
             cause: name_of(fault.cause()),
             place: fault.expected().and(fault.place()),
             expected: fault.expected(),
-            found: fault.found().map(str::to_string),
+            found: fault.found().map(Box::from),
             help: fault.help(),
+            mended: fault.mended().map(|mended| mended.to_string().into()),
         }
     }
 }

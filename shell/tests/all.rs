@@ -82,13 +82,13 @@ fn gives_programs_all_that_a_message_says() {
         concat!(
             r#"{"text":"5 mins","argument":1,"cause":"SYNTAX","column":3,"#,
             r#""expected":["unit","operator","end"],"found":"mins","#,
-            r#""help":"DID_YOU_MEAN","suggestion":"min","#,
+            r#""help":"DID_YOU_MEAN","suggestion":"min","mended":"5 min","#,
             r#""message":"unknown unit \"mins\" at column 3 (did you mean \"min\"?)"}"#,
         ),
         concat!(
             r#"{"text":"2h*3m+1","argument":2,"cause":"MIXED","column":null,"#,
             r#""expected":[],"found":null,"help":null,"suggestion":null,"#,
-            r#""message":"sum and product mixed in \"2h*3m+1\""}"#,
+            r#""mended":null,"message":"sum and product mixed in \"2h*3m+1\""}"#,
         ),
     ];
     assert_eq!(json.lines().collect::<Vec<_>>(), wanted);
@@ -98,7 +98,8 @@ fn gives_programs_all_that_a_message_says() {
 fn names_the_cause_of_what_is_no_text() {
     let lines = [&b"1\xff\n"[..], &[b'9'; (1 << 20) + 1]].concat();
     let json = run(&["--json"], &lines).1;
-    let fields = r#""column":null,"expected":[],"found":null,"help":null,"suggestion":null,"#;
+    let fields =
+        r#""column":null,"expected":[],"found":null,"help":null,"suggestion":null,"mended":null,"#;
     let not_text = [
         r#"{"text":"1�","line":1,"cause":"NOT_TEXT","#,
         fields,

@@ -29,8 +29,8 @@ struct given {
 
 /* What the calls return and write, and bytes that nothing may write */
 struct memory {
-    uint64_t said[TEXTS], is_read, is_read_with, help, unit, is_broken_down, unwritten, nanos[2],
-        rest[2], counts[DURATION_STR_UNIT_COUNT + 2];
+    uint64_t said[TEXTS], is_read, is_read_with, help, word, unit, is_broken_down, unwritten,
+        nanos[2], rest[2], counts[DURATION_STR_UNIT_COUNT + 2];
     struct duration_str_answer answers[4];
     char texts[TEXTS][DURATION_STR_REPORT_BUFFER_SIZE + 32];
 };
@@ -39,7 +39,10 @@ static void call_all(
     const char *text, size_t length, uint32_t bits, struct given of, struct memory *to) {
     to->said[LINE] = duration_str_one_line(text, length, bits, &to->answers[0], to->texts[LINE]);
     to->said[REPORT] = duration_str_report(text, length, bits, &to->answers[1], to->texts[REPORT]);
-    to->help = duration_str_help(text, length, bits, to->texts[HELP]);
+    size_t word_length;
+    to->help = duration_str_help(text, length, bits, to->texts[HELP], &word_length);
+    to->word = word_length;
+    HOLDS(word_length <= length);
     to->said[HELP] = strnlen(to->texts[HELP], rooms[HELP]);
     to->said[FORMAT] = duration_str_format(of.nanos, to->texts[FORMAT]);
     to->said[FORMAT_WITH] = duration_str_format_with(

@@ -1,6 +1,6 @@
 -- Rows of clauses of laws that no caller in `uses` needs: what follows from each in one case. A
 -- clause that said less would be refused here.
-use Rattle.std.specs.Prelude.{◌≡◌, ◌≢◌, ℕ, ◌<◌, List, [], ◌∷◌, map, None, Some, codes, true, IsTrue, ◌≤◌}
+use Rattle.std.specs.Prelude.{◌≡◌, ◌≢◌, ℕ, ◌+◌, ◌<◌, ◌≤◌, List, [], ◌∷◌, ◌++◌, chars, length, map, None, Some, codes, true}
 use Rattle.std.specs.Duration.{FitsDuration}
 use Rattle.duration_str.specs.Laws.{HasNoChinese, OlderTexts, OneRounding, OptionsIdle, PlaceAndKinds}
 use Rattle.duration_str.specs.Mended.{MendedTexts}
@@ -16,11 +16,17 @@ use Rattle.duration_str.specs.Rounding.{IsRounded, IsRoundedDown, IsRoundedUp, P
 use Rattle.duration_str.specs.Rules.{Rules, rules_of, rules_with}
 use Rattle.duration_str.specs.declared.format.Format.{Format}
 use Rattle.std.proofs.Common.{refl}
+use Rattle.duration_str.specs.Meaning.{meaning_of}
+use Rattle.duration_str.specs.OneLine.{mended_of, Pieces}
+use Rattle.duration_str.specs.declared.cause.Cause.{Cause}
 use Rattle.duration_str.specs.declared.cause.Cause.TheVariants.{Syntax}
 use Rattle.duration_str.specs.declared.cause.Expected.{Expected}
-use Rattle.duration_str.specs.declared.unit.TimeUnit.TheVariants.{Minute}
+use Rattle.duration_str.specs.declared.rules.Rules.{Rules as CodeRules}
+use Rattle.duration_str.specs.declared.table.UnitTable.TheVariants.{Own}
+use Rattle.duration_str.specs.declared.unit.TimeUnit.TheVariants.{Second}
 use Rattle.duration_str.specs.declared.operator.CondUnit.TheVariants.{Plus, Star}
 use Rattle.duration_str.specs.declared.rounding.Rounding.TheVariants.{Nearest, Up}
+use lib.Utf8.{encode}
 
 abbrev one_part : Format
 one_part = record whole_format { parts = 1 }
@@ -79,8 +85,14 @@ pub older_sentence_is_a_sentence : (lexemes : List (List ℕ)) → OlderTexts
     → IsSentenceOf (older_rules off) lexemes (codes "1m") → IsSentenceOf (rules_of off) lexemes (codes "1m")
 older_sentence_is_a_sentence lexemes law = law.sentence off lexemes (codes "1m")
 
-pub text_with_min_fails_after_it : (later : ℕ) (expected others : Expected) → MendedTexts → IsTrue expected.unit_word
-    → IsRefused (rules_of off) (codes "5 mins 3 hrs") (Syntax 2 expected)
-    → IsRefused (rules_of off) (codes "5 min 3 hrs") (Syntax later others) → 5 ≤ later
-text_with_min_fails_after_it later expected others law unit refused again =
-    law (rules_of off) (codes "5 ") (codes "mins") (codes " 3 hrs") Minute expected refl refl unit refused later others again
+abbrev own_rules : CodeRules
+own_rules = record { table = Own; default_unit = Some Second; options = off }
+
+pub mended_text_fails_after_the_name : (new : Pieces) (later : ℕ) (cause : Cause) (others : Expected) → MendedTexts
+    → IsRefused (meaning_of own_rules) (chars (codes "5 mins 3 hrs")) cause
+    → mended_of (codes "5 mins 3 hrs") cause ≡ Some new
+    → IsRefused (meaning_of own_rules) (chars (new.front ++ (new.name ++ new.rest))) (Syntax later others)
+    → length new.front + length new.name ≤ later
+unfolding encode
+mended_text_fails_after_the_name new later cause others law refused is =
+    law own_rules (codes "5 mins 3 hrs") cause new (codes "5 mins 3 hrs", (refl, refl)) refused is later others

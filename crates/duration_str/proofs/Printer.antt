@@ -10,4 +10,5 @@ pub mod FormatLemmas
 pub mod BreakdownLemmas
 pub mod SetLemmas
 pub mod SpacedLemmas
+pub mod MendedLemmas
 pub mod NearLemmas

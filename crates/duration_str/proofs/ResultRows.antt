@@ -12,6 +12,8 @@ use Rattle.duration_str.specs.Breakdown.{AreParts, ArePartsRounded, nanos_left, 
 use Rattle.duration_str.specs.Dates.{IsCivilDay, IsDateFault, last_instant}
 use Rattle.duration_str.specs.Iteration.{cut_place, IsCutAt, source, YieldsNextToken}
 use Rattle.duration_str.specs.Messages.{IsErrorOf}
+use Rattle.duration_str.specs.OneLine.{HasPieces, Pieces}
+use Rattle.duration_str.specs.declared.help.Mended.{Mended}
 use Rattle.duration_str.specs.Options.{off}
 use Rattle.duration_str.specs.OtherResults.{ReachesPlace}
 use Rattle.duration_str.specs.Reading.{IsRefused}
@@ -107,3 +109,10 @@ has_its_parts_if_not_rounded format shown parts (is, are) = rw is at are
 pub rounded_up_has_the_parts_of_two_seconds : (format : Format) (parts : List (TimeUnit × ℕ))
     → ArePartsRounded (Some Up) format 1_500_000_000 2_000_000_000 parts → AreParts format 2_000_000_000 parts
 rounded_up_has_the_parts_of_two_seconds format parts (is, are) = are
+
+pub no_pieces : (pieces : Option Pieces) → HasPieces pieces None → pieces ≡ None
+no_pieces pieces is = is
+
+pub has_these_pieces : (pieces : Option Pieces) (new : Mended) → HasPieces pieces (Some new)
+    → pieces ≡ Some (record { front = new.front.now; word = new.word.now; name = new.name.now; rest = new.rest.now })
+has_these_pieces pieces new is = is

@@ -1,6 +1,6 @@
 -- Examples that were worked out by hand, and are computed here, such as the values of texts, the
 -- causes for which others are refused, and the texts of durations.
-use Rattle.duration_str.proofs.Common.{[], ALL, answer, arith, Bool, Cause, codes, Compact, counts_of, Empty, encode_utf8_all, Err, Expected, false, flat_map, if◌then◌else◌, inl, inr, length, List, Long, map, MAX_LONG_LEN, MAX_PRINTED_LEN, message_of, Mixed, nanos_of, nat_lt, None, nonzero, NumberTooLarge, off, Ok, older_row_of, older_rules, Options, OutOfRange, Overflow, Plus, printed_counts, Quarter, refl, replicate, Result, row_of, rules_of, rules_with, Short, Some, Star, Style, Syntax, TimeUnit, true, unit_lengths, unit_of_word, units, units_within, ℕ, ◌++◌, ◌∷◌, ◌≡◌, more_names, more_row_of, more_rules}
+use Rattle.duration_str.proofs.Common.{[], ALL, answer, arith, Bool, Cause, codes, Compact, counts_of, Empty, encode_utf8_all, Err, Expected, false, flat_map, if◌then◌else◌, inl, inr, length, List, Long, map, MAX_LONG_LEN, MAX_PRINTED_LEN, message_of, Mixed, nanos_of, nat_lt, None, nonzero, NumberTooLarge, off, Ok, older_row_of, older_rules, Option, Options, OutOfRange, Overflow, Plus, printed_counts, Quarter, refl, replicate, Result, row_of, rules_of, rules_with, Short, Some, Star, Style, Syntax, TimeUnit, true, unit_lengths, unit_of_word, units, units_within, ℕ, ◌++◌, ◌∷◌, ◌≡◌, more_names, more_row_of, more_rules}
 use Rattle.duration_str.specs.declared.format.Format.{Format}
 use Rattle.duration_str.specs.declared.unit.TimeUnit.TheVariants.{Day, Hour, MicroSecond, MilliSecond, Minute, Month, NanoSecond, Second, Week, Year}
 use Rattle.duration_str.proofs.LawProofs.Rounding.{near_own, nearest_up, none_above, only_zero, rounded_down, rounded_up, zero_above}
@@ -8,7 +8,7 @@ use Rattle.duration_str.specs.Breakdown.{sum_of_parts}
 use Rattle.duration_str.specs.Rounding.{IsNearest, IsRoundedDown, IsRoundedUp, NoneAbove}
 use Rattle.duration_str.specs.Format.{chosen, intersection, counts_within, down_to, is_in, lengths_within, set_of, shorter_units, text_within, up_to, whole_format, without_unit}
 use Rattle.duration_str.specs.Humantime.{humantime_row_of, humantime_rules}
-use Rattle.duration_str.specs.OneLine.{help_number, is_letter, is_plain, one_line_of, suggestion_of}
+use Rattle.duration_str.specs.OneLine.{help_number, is_letter, is_plain, mended_of, one_line_of, Pieces, suggestion_of}
 use Rattle.duration_str.specs.declared.help.Help.{Help}
 use Rattle.duration_str.specs.declared.help.Help.TheVariants.{Brackets, ClockTime, DidYouMean, DigitsOnly, Division, Fraction, Iso8601, LargeNumber, LeadingPlus, MissingUnit, Negative, NoPoint, OneDuration, QuotationMarks, Units as UnitsHelp, Zero}
 use Rattle.duration_str.specs.Report.{report_of}
@@ -660,6 +660,35 @@ pub record Helps : Type 0 where
 pub helps : Helps
 unfolding encode
 helps = assumption
+
+-- ---- Mended texts
+
+abbrev pieces : List ℕ → List ℕ → List ℕ → List ℕ → Option Pieces
+pieces front old name rest = Some (record { front = front; word = old; name = name; rest = rest })
+
+pub record MendedRows : Type 0 where
+  pub mended-minutes : mended_of (codes "5 mins") (Syntax 2 after_number)
+      ≡ pieces (codes "5 ") (codes "mins") (codes "min") []
+  pub mended-greek : mended_of (encode_utf8_all (codes "5 μseconds")) (Syntax 2 after_number)
+      ≡ pieces (codes "5 ") (encode_utf8_all (codes "μseconds")) (codes "us") []
+  pub mended-greek_between : mended_of (encode_utf8_all (codes "1µs 5μsecs×")) (Syntax 6 after_number)
+      ≡ pieces (encode_utf8_all (codes "1µs 5")) (encode_utf8_all (codes "μsecs")) (codes "us") (encode_utf8_all (codes "×"))
+  pub mended-later : mended_of (codes "2h 5 mins") (Syntax 5 after_number)
+      ≡ pieces (codes "2h 5 ") (codes "mins") (codes "min") []
+  pub mended-between : mended_of (codes "1m 5 MINS 3x") (Syntax 5 after_number)
+      ≡ pieces (codes "1m 5 ") (codes "MINS") (codes "min") (codes " 3x")
+  pub mended-before_a_digit : mended_of (codes "5mos7") (Syntax 1 after_number)
+      ≡ pieces (codes "5") (codes "mos") (codes "mon") (codes "7")
+  pub mended-minus : mended_of (codes "-5m") (Syntax 0 number_alone) ≡ None
+  pub mended-far : mended_of (codes "5 foo") (Syntax 2 after_number) ≡ None
+  pub mended-after_a_unit : mended_of (codes "5m mins") (Syntax 3 after_unit) ≡ None
+  pub mended-no_word : mended_of (codes "5") (Syntax 1 unit_alone) ≡ None
+  pub mended-overflow : mended_of (codes "600y") (Overflow (Some 0)) ≡ None
+  pub mended-large_number : mended_of (codes "18446744074") (Overflow (Some 0)) ≡ None
+
+pub mended_rows : MendedRows
+unfolding chars digits encode
+mended_rows = assumption
 
 -- ---- Characters
 

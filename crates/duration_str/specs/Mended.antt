@@ -1,21 +1,20 @@
--- The law about a text in which the name of a unit stands in place of what is no unit.
-use Rattle.std.specs.Prelude.{◌≡◌, ℕ, ◌+◌, ◌≤◌, ◌++◌, Some, IsTrue, false}
+-- The law about a text in which the name that a help suggests stands in place of the word.
+use Rattle.std.specs.Prelude.{◌≡◌, ℕ, ◌+◌, ◌≤◌, ◌++◌, Some, IsUtf8, chars, length}
+use Rattle.duration_str.specs.declared.cause.Cause.{Cause}
 use Rattle.duration_str.specs.declared.cause.Cause.TheVariants.{Syntax}
 use Rattle.duration_str.specs.declared.cause.Expected.{Expected}
-use Rattle.duration_str.specs.declared.unit.TimeUnit.{TimeUnit}
-use Rattle.duration_str.specs.OneLine.{begins_with_letter, help_name}
+use Rattle.duration_str.specs.declared.rules.Rules.{Rules as CodeRules}
+use Rattle.duration_str.specs.Meaning.{meaning_of}
+use Rattle.duration_str.specs.OneLine.{mended_of, Pieces}
 use Rattle.duration_str.specs.Reading.{IsRefused}
-use Rattle.duration_str.specs.Rules.{Rules, unit_of_word}
-use Rattle.duration_str.specs.Text.{Characters, byte_len}
+use Rattle.duration_str.specs.Text.{Bytes}
 
--- A text is refused for a syntax fault, at whose place a unit could stand. In place of what was
--- found there, up to some character that is no letter, the name is written that a help gives for a
--- unit, and that names the unit by these rules. If the new text has a syntax fault, then not before
--- the end of that name.
+-- A text is refused, and its help suggests a name. If the text with that name in place of the word,
+-- read by the same rules, has a syntax fault, then not before the end of the name.
 abbrev pub MendedTexts : Type 0
 MendedTexts =
-    (r : Rules) (front found rest : Characters) (u : TimeUnit) (expected : Expected)
-    → unit_of_word r (help_name u) ≡ Some u → begins_with_letter rest ≡ false → IsTrue expected.unit_word
-    → IsRefused r (front ++ (found ++ rest)) (Syntax (byte_len front) expected)
-    → (later : ℕ) (others : Expected) → IsRefused r (front ++ (help_name u ++ rest)) (Syntax later others)
-    → byte_len front + byte_len (help_name u) ≤ later
+    (s : CodeRules) (text : Bytes) (cause : Cause) (new : Pieces) → IsUtf8 text
+    → IsRefused (meaning_of s) (chars text) cause → mended_of text cause ≡ Some new
+    → (later : ℕ) (others : Expected)
+    → IsRefused (meaning_of s) (chars (new.front ++ (new.name ++ new.rest))) (Syntax later others)
+    → length new.front + length new.name ≤ later

@@ -1,6 +1,6 @@
 -- The help for a fault, and the fault in one line: what is wrong, for a syntax fault at which
 -- column, and what stands there, and then the words of the help.
-use Rattle.std.specs.Prelude.{ℕ, ◌+◌, ◌-◌, Bool, false, not, ◌&&◌, ◌||◌, List, [], ◌∷◌, ◌++◌, Option, Some, None, unwrap_or, if◌then◌else◌, ◌==◌, nat_le, decimal, encode_utf8_all, map, take, drop, length, slice_index, option_map, chars, bytes_eq, codes}
+use Rattle.std.specs.Prelude.{◌≡◌, ℕ, ◌+◌, ◌-◌, Bool, false, not, ◌&&◌, ◌||◌, List, [], ◌∷◌, ◌++◌, Option, Some, None, unwrap_or, if◌then◌else◌, ◌==◌, nat_le, decimal, encode_utf8_all, map, take, drop, length, slice_index, option_map, chars, bytes_eq, codes}
 use Rattle.std.specs.Char.{is_ascii_alphabetic, is_control, to_ascii_lowercase}
 use Rattle.std.specs.Char.Escape.{escape_default}
 use Rattle.std.specs.Int.{is_in_range}
@@ -9,6 +9,7 @@ use Rattle.duration_str.specs.declared.cause.Expected.{Expected}
 use Rattle.duration_str.specs.declared.cause.Cause.{Cause}
 use Rattle.duration_str.specs.declared.cause.Cause.TheVariants.{Empty, Syntax, NumberTooLarge, Overflow, Mixed}
 use Rattle.duration_str.specs.declared.help.Help.{Help}
+use Rattle.duration_str.specs.declared.help.Mended.{Mended}
 use Rattle.duration_str.specs.declared.help.Help.TheVariants.{DidYouMean, Units, Fraction, DigitsOnly, ClockTime, Negative, LeadingPlus, Iso8601, OneDuration, NoPoint, Brackets, Division, QuotationMarks, MissingUnit, Zero, LargeNumber}
 use Rattle.duration_str.specs.declared.unit.TimeUnit.{TimeUnit}
 use Rattle.duration_str.specs.declared.unit.TimeUnit.TheVariants.{Month, MicroSecond}
@@ -188,6 +189,41 @@ help_of text cause = None
 abbrev pub suggestion_of : Help → Option Bytes
 suggestion_of (DidYouMean unit) = Some (encode_utf8_all (help_name unit))
 suggestion_of help = None
+
+-- the bytes of the name that a help suggests, if there is a help and it suggests one
+abbrev pub suggested : Option Help → Option Bytes
+suggested (Some help) = suggestion_of help
+suggested None = None
+
+-- The refused text is the front, the word and the rest. The mended text is the front, the name and
+-- the rest.
+pub record Pieces : Type 0 where
+  pub front : Bytes
+  pub word : Bytes
+  pub name : Bytes
+  pub rest : Bytes
+
+-- the text with this name in place of the piece at byte `place`
+abbrev pub with_name : Bytes → ℕ → Bytes → Bytes → Pieces
+with_name text place piece name = record {
+  front = take place text;
+  word = piece;
+  name = name;
+  rest = drop (length piece) (drop place text);
+}
+
+-- the refused text with the name that its help suggests in place of the word, if it suggests one
+abbrev pub mended_of : Bytes → Cause → Option Pieces
+mended_of text (Syntax place expected) =
+    let piece = first_piece (chars (drop place text)) in
+    option_map (with_name text place (encode_utf8_all piece)) (suggested (syntax_help text place expected piece))
+mended_of text cause = None
+
+-- The result has these pieces, or is `None` if there are none.
+abbrev pub HasPieces : Option Pieces → Option Mended → Type 0
+HasPieces pieces None = pieces ≡ None
+HasPieces pieces (Some new) =
+    pieces ≡ Some (record { front = new.front.now; word = new.word.now; name = new.name.now; rest = new.rest.now })
 
 -- the number of a help for programs in other languages
 abbrev pub help_number : Help → ℕ

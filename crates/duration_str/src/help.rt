@@ -5,7 +5,7 @@ ghost use Rattle.std.specs.List.{list_all};
 ghost use Rattle.std.specs.Str.{chars, bytes_eq, IsCharBoundary};
 ghost use Rattle.duration_str.specs.Text.{is_blank, is_digit};
 ghost use Rattle.duration_str.specs.Internal.Positions.{ahead};
-ghost use Rattle.duration_str.specs.OneLine.{is_letter, is_like, first_piece, begins_with_letter, near_unit, unit_help, first_help, digit_help, sign_help, help_at, help_name, missing_unit_help, is_unknown_unit, syntax_help, overflow_help, help_of, suggestion_of, help_number};
+ghost use Rattle.duration_str.specs.OneLine.{is_letter, is_like, first_piece, begins_with_letter, near_unit, unit_help, first_help, digit_help, sign_help, help_at, help_name, missing_unit_help, is_unknown_unit, syntax_help, overflow_help, help_of, suggestion_of, help_number, with_name, mended_of, HasPieces};
 ghost use Rattle.duration_str.specs.declared.help.TheConstants.{MAX_SUGGESTION_LEN};
 
 use crate::cause::{Cause, Expected};
@@ -125,7 +125,7 @@ impl Help {
     }
 }
 
-impl Fault<'_> {
+impl<'a> Fault<'a> {
     /// Returns the help for the fault, if any. The line of `write_one_line` ends with its words.
     ///
     /// ```
@@ -144,6 +144,51 @@ impl Fault<'_> {
             _ => None,
         }
     }
+
+    /// Returns the text with the name that the help suggests in place of the word that is no unit,
+    /// or `None` if the help suggests none. The word is quoted in the fault's line. It begins with
+    /// the token at the fault's place, and can be longer, such as `μs` with the Greek letter mu.
+    ///
+    /// ```
+    /// use duration_str::{Options, parse_with};
+    ///
+    /// let fault = parse_with("2h 5 mins 3s", Options::off()).unwrap_err();
+    /// let mended = fault.mended().unwrap();
+    /// assert_eq!([mended.front, mended.word, mended.name], ["2h 5 ", "mins", "min"]);
+    /// assert_eq!(mended.rest, " 3s");
+    /// ```
+    #[must_use]
+    pub fn mended(&self) -> Option<Mended<'a>>
+        ensures { HasPieces (mended_of self.now.text.now self.now.cause) result }
+    {
+        let Cause::Syntax { place, expected } = self.cause else {
+            return None;
+        };
+        let found = found_at(self.text, place, expected);
+        let name = found.help?.suggestion()?;
+        Some(with_name(self.text, place, found.piece, name))
+    }
+}
+
+/// A refused text in which a help suggests a name in place of a word. The refused text is `front`,
+/// `word` and `rest`, and the mended text is `front`, `name` and `rest`.
+///
+/// ```
+/// use duration_str::{Options, parse_with};
+///
+/// let mended = parse_with("5 μseconds", Options::off()).unwrap_err().mended().unwrap();
+/// assert_eq!([mended.front, mended.word, mended.name], ["5 ", "μseconds", "us"]);
+/// ```
+#[derive(Clone, Copy, Debug, PartialEq, Eq, Hash)]
+pub struct Mended<'a> {
+    /// The text before the word.
+    pub front: &'a str,
+    /// The word that is no unit.
+    pub word: &'a str,
+    /// The name to write in place of the word.
+    pub name: &'static str,
+    /// The text after the word.
+    pub rest: &'a str,
 }
 
 /// What stands at the place of a syntax fault.
@@ -159,6 +204,7 @@ pub(crate) struct Found<'a> {
 pub(crate) fn found_at(text: &str, place: usize, expected: Expected) -> Found<'_>
     requires { IsCharBoundary text.now place }
     ensures piece { chars result.piece.now ≡ first_piece (ahead text.now place) }
+    ensures bytes { result.piece.now ≡ encode_utf8_all (first_piece (ahead text.now place)) }
     ensures unknown { result.is_unknown_unit
         ≡ is_unknown_unit expected (first_piece (ahead text.now place)) }
     ensures help { result.help
@@ -179,6 +225,21 @@ pub(crate) fn found_at(text: &str, place: usize, expected: Expected) -> Found<'_
         piece,
         is_unknown_unit,
         help: far_help(is_unknown_unit, expected, text, help),
+    }
+}
+
+/// Returns the text with the name in place of the word, which stands at the place.
+fn with_name<'a>(text: &'a str, place: usize, word: &'a str, name: &'static str) -> Mended<'a>
+    requires boundary { IsCharBoundary text.now place }
+    requires word { word.now ≡ encode_utf8_all (first_piece (ahead text.now place)) }
+    ensures { HasPieces (Some (with_name text.now place word.now name.now)) (Some result) }
+{
+    let ahead = range_from(text, place);
+    Mended {
+        front: range_to(text, place),
+        word,
+        name,
+        rest: range_from(ahead, word.len()),
     }
 }
 

@@ -167,9 +167,10 @@ pub fn more_names()
     ensures { MoreNames }
 {}
 
-/// If a text is refused where a unit could stand, and the name that a help gives for a unit is
-/// written in place of what was found there, a syntax fault of the new text is not before the end of
-/// that name. So `5 mins 3 hrs` is refused at its third byte, and `5 min 3 hrs` at its ninth one.
+/// If a text is refused with a help that suggests a name, and the name is written in place of the
+/// word, a syntax fault of the new text is not before the end of the name. So `5 mins 3 hrs` is
+/// refused at its third byte, and `5 min 3 hrs` at its ninth one. The texts are read by the same
+/// rules, which have any of the tables.
 #[tactic(auto, using(crate::proofs::LawProofs::Mended::mended_texts_hold))]
 pub fn mended_texts()
     ensures { MendedTexts }

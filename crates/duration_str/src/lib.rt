@@ -37,7 +37,7 @@ pub use breakdown::Breakdown;
 pub use error::{DError, DResult};
 pub use ext::HumanFormat;
 pub use format::{Format, Style, Units};
-pub use help::{Help, MAX_SUGGESTION_LEN};
+pub use help::{Help, MAX_SUGGESTION_LEN, Mended};
 pub use one_line::{MAX_ONE_LINE_LEN, ONE_LINE_BUFFER_SIZE};
 pub use parser::{
     Cause, Expected, Fault, parse, parse_by, parse_looked, parse_nanos, parse_nanos_specialized,

@@ -45,11 +45,11 @@ said_short bits (inr (inr (inl (known, utf8, nanos, read, is)))) h = omega (arit
 said_short bits (inr (inr (inr (known, utf8, cause, refused, none)))) h = absurd none
 
 pub said_helped : (bits number : ℕ) (bytes line old new : List ℕ) → IsSaidOf bits bytes line
-    → IsHelpShown None old number new → ShowsHelp bits bytes old number new
-said_helped bits number bytes line old new (inl (unknown, is)) h = inl (unknown, h)
-said_helped bits number bytes line old new (inr (inl (known, no_text, is))) h = inr (inl (known, no_text, h))
+    → IsHelpShown None old number new → ShowsHelp bits bytes old number new 0
+said_helped bits number bytes line old new (inl (unknown, is)) h = inl (unknown, (h, refl))
+said_helped bits number bytes line old new (inr (inl (known, no_text, is))) h = inr (inl (known, no_text, (h, refl)))
 said_helped bits number bytes line old new (inr (inr (inl (known, utf8, nanos, read, is)))) h =
-    inr (inr (inl (known, utf8, nanos, read, h)))
+    inr (inr (inl (known, utf8, nanos, read, (h, refl))))
 said_helped bits number bytes line old new (inr (inr (inr (known, utf8, cause, refused, none)))) h = absurd none
 
 none_at : (us : List TimeUnit) (i : ℕ) → length us ≤ i → None ≡ slice_get us i

@@ -1,6 +1,6 @@
 -- Rows of definitions that say what calls return: what follows from each in one case. A definition
 -- that said less would be refused here.
-use Rattle.std.specs.Prelude.{◌≡◌, ◌≤◌, ◌⊎◌, ℕ, ◌+◌, ◌^◌, ◌∷◌, ◌++◌, [], Any, List, None, Some, codes}
+use Rattle.std.specs.Prelude.{◌≡◌, ◌≤◌, ◌⊎◌, ℕ, ◌+◌, ◌^◌, ◌∷◌, ◌++◌, [], Any, length, List, None, Some, codes}
 use Rattle.std.specs.Duration.{FitsDuration}
 use Rattle.std.specs.Str.{chars}
 use Rattle.std.proofs.Common.{arith, inl, inr, refl}
@@ -8,6 +8,7 @@ use Rattle.duration_str.proofs.Sentences.AnswerLemmas.{answer_refused, one_readi
 use Rattle.duration_str.specs.Answer.{expected_at_start}
 use Rattle.duration_str.specs.Breakdown.{ArePartsRounded, sum_of_parts}
 use Rattle.duration_str.specs.Format.{IsPrintedWithin, whole_format}
+use Rattle.duration_str.specs.OneLine.{Pieces}
 use Rattle.duration_str.specs.Reading.{IsRead, IsRefused}
 use Rattle.duration_str.specs.Rounding.{NoneAbove}
 use Rattle.duration_str.specs.declared.cause.Cause.{Cause}
@@ -18,7 +19,7 @@ use Rattle.duration_str.specs.declared.unit.TimeUnit.TheVariants.{Minute}
 use Rattle.duration_str_c.specs.Answers.{rules_of_bits}
 use Rattle.duration_str_c.specs.Breakdown.{counts_of, IsBrokenDown, IsTooLarge}
 use Rattle.duration_str_c.specs.Format.{IsFormatted}
-use Rattle.duration_str_c.specs.Help.{IsHelpShown, ShowsHelp}
+use Rattle.duration_str_c.specs.Help.{IsHelpShown, ShowsHelp, word_length}
 use Rattle.duration_str_c.specs.Messages.{IsShown}
 use Rattle.duration_str_c.specs.Rounding.{AreRight, NoneRounded}
 use lib.Utf8.{encode}
@@ -53,21 +54,23 @@ minus_not_read nanos read =
     one_reading_holds.not_both (rules_of_bits 0) (chars (codes "-5m")) nanos (Syntax 0 expected_at_start) read
     ((answer_refused (rules_of_bits 0) (chars (codes "-5m")) (Syntax 0 expected_at_start)).0 refl)
 
-pub help_is_that_of_the_text : (number : ℕ) (new : List ℕ) → ShowsHelp 0 (codes "-5m") (codes "????") number new
-    → number ≡ 6
-unfolding chars encode
-help_is_that_of_the_text number new (inl (unknown, shown)) = absurd (unknown refl)
-help_is_that_of_the_text number new (inr (inl (known, no_text, shown))) = absurd (no_text (codes "-5m", (refl, refl)))
-help_is_that_of_the_text number new (inr (inr (inl (known, utf8, nanos, read, shown)))) = absurd (minus_not_read nanos read)
-help_is_that_of_the_text number new (inr (inr (inr (known, utf8, cause, refused, shown)))) =
-    rw (minus cause refused) at shown.0
+module _ (number len : ℕ) (new : List ℕ) where
+  pub help_is_that_of_the_text : ShowsHelp 0 (codes "-5m") (codes "????") number new len → (number ≡ 6) × (len ≡ 0)
+  unfolding chars encode
+  help_is_that_of_the_text (inl (unknown, shown)) = absurd (unknown refl)
+  help_is_that_of_the_text (inr (inl (known, no_text, shown))) = absurd (no_text (codes "-5m", (refl, refl)))
+  help_is_that_of_the_text (inr (inr (inl (known, utf8, nanos, read, shown)))) = absurd (minus_not_read nanos read)
+  help_is_that_of_the_text (inr (inr (inr (known, utf8, cause, refused, shown)))) =
+      (rw (minus cause refused) at shown.0.0, rw (minus cause refused) at shown.1)
 
-pub unknown_option_has_no_help : (number : ℕ) (new : List ℕ) → ShowsHelp 32 (codes "-5m") (codes "????") number new
-    → number ≡ 0
-unknown_option_has_no_help number new (inl (unknown, shown)) = shown.0
-unknown_option_has_no_help number new (inr (inl (known, no_text, shown))) = cc
-unknown_option_has_no_help number new (inr (inr (inl (known, utf8, nanos, read, shown)))) = cc
-unknown_option_has_no_help number new (inr (inr (inr (known, utf8, cause, refused, shown)))) = cc
+  pub unknown_option_has_no_help : ShowsHelp 32 (codes "-5m") (codes "????") number new len → (number ≡ 0) × (len ≡ 0)
+  unknown_option_has_no_help (inl (unknown, shown)) = (shown.0.0, shown.1)
+  unknown_option_has_no_help (inr (inl (known, no_text, shown))) = absurd cc
+  unknown_option_has_no_help (inr (inr (inl (known, utf8, nanos, read, shown)))) = absurd cc
+  unknown_option_has_no_help (inr (inr (inr (known, utf8, cause, refused, shown)))) = absurd cc
+
+pub word_is_replaced : (mended : Pieces) (len : ℕ) → len ≡ word_length (Some mended) → len ≡ length mended.word
+word_is_replaced mended len is = is
 
 -- ---- A message in a buffer
 

@@ -1,7 +1,8 @@
--- The help for a refused text: its number, and in a caller's buffer the name that it says to write.
+-- The help for a refused text: its number, in a caller's buffer the name that it says to write, and
+-- the length of the word in whose place to write it.
 use Rattle.std.specs.Prelude.{◌≡◌, ℕ, ◌+◌, List, [], ◌∷◌, ◌++◌, length, drop, Option, Some, None, unwrap_or}
 use Rattle.duration_str.specs.declared.help.Help.{Help}
-use Rattle.duration_str.specs.OneLine.{help_number, help_of, suggestion_of}
+use Rattle.duration_str.specs.OneLine.{help_number, help_of, mended_of, Pieces, suggestion_of}
 use Rattle.duration_str_c.specs.Answers.{IsTold}
 
 -- the number of a help, or 0 if there is none
@@ -20,9 +21,15 @@ abbrev pub IsHelpShown : Option Help → List ℕ → ℕ → List ℕ → Type 
 IsHelpShown help old number new =
     (number ≡ number_of help) × (new ≡ name_of help ++ (0 ∷ drop (length (name_of help) + 1) old))
 
--- The number and the buffer show the help for the case that applies. There is none if an option is
--- unknown, if the bytes are not UTF-8, or if they are read.
-abbrev pub ShowsHelp : ℕ → List ℕ → List ℕ → ℕ → List ℕ → Type 0
-ShowsHelp bits bytes old number new =
-    IsTold (IsHelpShown None old number new) (IsHelpShown None old number new) (λ nanos. IsHelpShown None old number new)
-    (λ cause. IsHelpShown (help_of bytes cause) old number new) bits bytes
+-- how many bytes the word has in whose place a name is to be written, or 0 if there is no such word
+abbrev pub word_length : Option Pieces → ℕ
+word_length (Some mended) = length mended.word
+word_length None = 0
+
+-- The number, the buffer and the length show the help for the case that applies. There is none if
+-- an option is unknown, if the bytes are not UTF-8, or if they are read.
+abbrev pub ShowsHelp : ℕ → List ℕ → List ℕ → ℕ → List ℕ → ℕ → Type 0
+ShowsHelp bits bytes old number new len =
+    IsTold (IsHelpShown None old number new × (len ≡ 0)) (IsHelpShown None old number new × (len ≡ 0))
+    (λ nanos. IsHelpShown None old number new × (len ≡ 0))
+    (λ cause. IsHelpShown (help_of bytes cause) old number new × (len ≡ word_length (mended_of bytes cause))) bits bytes

@@ -15,6 +15,7 @@ use Rattle.duration_str.specs.declared.format.Units.{Units}
 use Rattle.duration_str_js.specs.Printing.{IsCounted, units_among, with_counts}
 use Rattle.duration_str_js.specs.Reading.{IsReported, rules_of_bits}
 use Rattle.duration_str_js.specs.declared.reading.Refusal.{Refusal}
+use lib.Utf8.{encode}
 
 abbrev after_number : Expected
 after_number = record { number = false; unit_word = true; operator = true; text_end = true }
@@ -29,8 +30,8 @@ one_cause cause refused =
     ((answer_refused (rules_of_bits 0) (chars (codes "5 mins")) mins).0 refl)
 
 pub what_is_said_of_mins : (refusal : Refusal) (report : List ℕ) → IsReported 0 (codes "5 mins") refusal report
-    → refusal ≡ record { place = pos 2; found_length = 4; cause = 2; expected = 14; help = 1; unit = 7 }
-unfolding chars
+    → refusal ≡ record { place = pos 2; found_length = 4; cause = 2; expected = 14; help = 1; unit = 7; word_length = 4 }
+unfolding chars encode
 what_is_said_of_mins refusal report (cause, refused, same, is) = rw (one_cause cause refused) at same
 
 pub report_of_mins : (refusal : Refusal) (report : List ℕ) → IsReported 0 (codes "5 mins") refusal report

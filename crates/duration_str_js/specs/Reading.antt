@@ -1,5 +1,5 @@
 -- How a text is read by the rules that bits stand for, and what is said of a refused one.
-use Rattle.std.specs.Prelude.{◌≡◌, ℕ, ◌+◌, ◌-◌, ◌/◌, ◌^◌, ◌==◌, Bool, not, List, slice_get, ℤ, pos, negsuc, Option, Some, None, if◌then◌else◌}
+use Rattle.std.specs.Prelude.{◌≡◌, ℕ, ◌+◌, ◌-◌, ◌/◌, ◌^◌, ◌==◌, Bool, not, List, length, slice_get, ℤ, pos, negsuc, Option, Some, None, if◌then◌else◌}
 use Rattle.std.specs.Int.Bits.{bit_and}
 use Rattle.std.specs.Str.{chars}
 use Rattle.duration_str.specs.declared.cause.Cause.{Cause}
@@ -12,7 +12,7 @@ use Rattle.duration_str.specs.declared.unit.TimeUnit.{TimeUnit}
 use Rattle.duration_str.specs.declared.unit.TimeUnit.TheVariants.{Second}
 use Rattle.duration_str.specs.Faults.{found_token, place_of}
 use Rattle.duration_str.specs.MoreNames.{more_rules}
-use Rattle.duration_str.specs.OneLine.{help_number, help_of}
+use Rattle.duration_str.specs.OneLine.{help_number, help_of, mended_of, Pieces}
 use Rattle.duration_str.specs.Reading.{IsRefused}
 use Rattle.duration_str.specs.Report.{report_of}
 use Rattle.duration_str.specs.Rules.{Rules, rules_with}
@@ -80,6 +80,11 @@ abbrev pub unit_number : Option Help → ℕ
 unit_number (Some (DidYouMean unit)) = rank_of unit + 1
 unit_number help = 0
 
+-- how many bytes the word has in whose place a name is to be written, or 0 if there is no such word
+abbrev pub length_of_word : Option Pieces → ℕ
+length_of_word (Some mended) = length mended.word
+length_of_word None = 0
+
 -- what is said of these bytes if they are refused for this cause
 abbrev pub refusal_of : Options → List ℕ → Cause → Refusal
 refusal_of o bytes cause = record {
@@ -89,6 +94,7 @@ refusal_of o bytes cause = record {
   expected = expected_bits cause;
   help = number_of (help_of bytes cause);
   unit = unit_number (help_of bytes cause);
+  word_length = length_of_word (mended_of bytes cause);
 }
 
 -- The bytes are refused, and these are what is said of the cause, and the report.

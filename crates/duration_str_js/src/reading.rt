@@ -4,7 +4,8 @@ ghost use Rattle.std.specs.Str.{chars};
 ghost use Rattle.duration_str.specs.Faults.{found_token, place_of};
 ghost use Rattle.duration_str.specs.Meaning.{meaning_of};
 ghost use Rattle.duration_str.specs.Reading.{IsRead};
-ghost use Rattle.duration_str_js.specs.Reading.{IsReported, bits_of, cause_number, default_unit_of_bits, expected_bits, number_of, options_of_bits, place_number, refusal_of, rules_of_bits, token_length, unit_number};
+ghost use Rattle.duration_str_js.specs.Reading.{IsReported, bits_of, cause_number, default_unit_of_bits, expected_bits, number_of, options_of_bits, place_number, refusal_of, rules_of_bits, token_length, unit_number, length_of_word};
+ghost use Rattle.duration_str.specs.OneLine.{mended_of};
 
 use duration_str::{
     Cause, Expected, Fault, Help, Options, REPORT_BUFFER_SIZE, Rules, TimeUnit, UNITS,
@@ -56,6 +57,9 @@ pub struct Refusal {
     pub help: u32,
     /// The index in `UNITS` of the unit that the help names, plus 1, or 0 if it names none.
     pub unit: u32,
+    /// The length in bytes of the word at the place that the unit's name replaces, or 0 if the help
+    /// names none.
+    pub word_length: usize,
 }
 
 /// Reads a text by the rules that the bits stand for, and returns its value in nanoseconds.
@@ -129,6 +133,7 @@ fn refusal_of(fault: &Fault<'_>, options: Options) -> Refusal
         expected: expected_bits(cause),
         help: number_of(help),
         unit: unit_number(help),
+        word_length: word_length(fault),
     }
 }
 
@@ -151,6 +156,15 @@ fn found_length(fault: &Fault<'_>, options: Options) -> usize
         Some(token) => token.len(),
         None => 0,
     }
+}
+
+fn word_length(fault: &Fault<'_>) -> usize
+    ensures { result ≡ length_of_word (mended_of fault.now.text.now fault.now.cause) }
+{
+    let Some(mended) = fault.mended() else {
+        return 0;
+    };
+    mended.word.len()
 }
 
 fn cause_number(cause: Cause) -> u32

@@ -1,12 +1,12 @@
 //! What a prompt shows where a text can't be read yet.
 #![tactic(auto)]
 
-ghost use Rattle.std.specs.Prelude.{◌≡◌, ◌↔◌, ◌&&◌, ℕ, false, length, Some, IsTrue, chars};
+ghost use Rattle.std.specs.Prelude.{◌≡◌, ◌↔◌, ◌&&◌, ◌+◌, ◌++◌, ◌≤◌, ℕ, false, length, IfSome, Some, IsTrue, chars};
 ghost use Rattle.uses.specs.Common.{Syntax, Expected as Kinds, IsRefused};
 ghost use Rattle.duration_str.specs.Meaning.{meaning_of};
 
-use duration_str::laws::{one_sentence, place_and_kinds};
-use duration_str::{Cause, Rules, parse_by};
+use duration_str::laws::{mended_texts, one_sentence, place_and_kinds};
+use duration_str::{Cause, Mended, Rules, parse_by};
 
 /// Returns whether a text has a syntax fault at its end, so that a prompt should wait for more.
 ///
@@ -51,5 +51,25 @@ pub fn needs_letters(text: &str, rules: Rules) -> Option<bool>
             Cause::Syntax { expected, .. } => Some(expected.unit_word),
             _ => None,
         },
+    }
+}
+
+/// Returns what a prompt offers in place of a refused text: the text with the name that its help
+/// suggests. If the offer has a syntax fault by the same rules, then only after that name. So the
+/// prompt can put the cursor there.
+///
+/// ```text
+/// offered("5 mins 3x", Rules::of(Options::off())) // `5 `, `min` and ` 3x`
+/// ```
+pub fn offered(text: &str, rules: Rules) -> Option<Mended<'_>>
+    ensures { IfSome result (λ new. (place : ℕ) (expected : Kinds)
+        → IsRefused (meaning_of rules) (chars (new.front.now ++ (new.name.now ++ new.rest.now)))
+        (Syntax place expected)
+        → length new.front.now + length new.name.now ≤ place) }
+{
+    mended_texts();
+    match parse_by(text, rules) {
+        Ok(_) => None,
+        Err(fault) => fault.mended(),
     }
 }

@@ -51,6 +51,9 @@ pub struct Refusal {
     pub help: u32,
     /// The index in `UNITS` of the unit that the help names, plus 1, or 0 if it names none.
     pub unit: u32,
+    /// The length in bytes of the word at the place that the unit's name replaces, or 0 if the help
+    /// names none.
+    pub word_length: usize,
 }
 
 /// Reads a text by the rules that the bits stand for, and returns its value in nanoseconds.
@@ -111,6 +114,7 @@ fn refusal_of(fault: &Fault<'_>, options: Options) -> Refusal {
         expected: expected_bits(cause),
         help: number_of(help),
         unit: unit_number(help),
+        word_length: word_length(fault),
     }
 }
 
@@ -128,6 +132,13 @@ fn found_length(fault: &Fault<'_>, options: Options) -> usize {
         Some(token) => token.len(),
         None => 0,
     }
+}
+
+fn word_length(fault: &Fault<'_>) -> usize {
+    let Some(mended) = fault.mended() else {
+        return 0;
+    };
+    mended.word.len()
 }
 
 fn cause_number(cause: Cause) -> u32 {

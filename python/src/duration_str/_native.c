@@ -108,10 +108,11 @@ struct text {
 };
 
 /* The help for a refused text: a number of `enum duration_str_help_kind`, and the name of the unit
- * that it suggests, if it does. */
+ * that it suggests, if it does, with the length of the word to replace. */
 struct help {
     uint32_t number;
     char suggestion[DURATION_STR_SUGGESTION_BUFFER_SIZE];
+    size_t word_length;
 };
 
 static PyObject *size_or_none(bool is_there, size_t size) {
@@ -124,10 +125,10 @@ static void raise_error(struct state *state, PyObject *report, PyObject *text,
     const struct duration_str_answer *answer, const char *bytes, Py_ssize_t index,
     struct help help) {
     const char *found = answer->found_length ? bytes + answer->place : NULL;
-    PyObject *error = PyObject_CallFunction(state->kept[ERROR], "NNINIz#NIs", report, text,
+    PyObject *error = PyObject_CallFunction(state->kept[ERROR], "NNINIz#NIsn", report, text,
         answer->cause, size_or_none(answer->has_place, answer->place), answer->expected, found,
         (Py_ssize_t)answer->found_length, size_or_none(index >= 0, (size_t)index), help.number,
-        help.suggestion);
+        help.suggestion, (Py_ssize_t)help.word_length);
     if (error)
         PyErr_SetObject(state->kept[ERROR], error);
     Py_XDECREF(error);
@@ -181,7 +182,8 @@ static int read_str(struct state *state, PyObject *given, uint32_t options, uint
         return is_read;
     PyObject *report = report_of(text, options, &answer);
     struct help help;
-    help.number = duration_str_help(text.bytes, text.length, options, help.suggestion);
+    help.number =
+        duration_str_help(text.bytes, text.length, options, help.suggestion, &help.word_length);
     raise_error(state, report, PyUnicode_FromObject(given), &answer, text.bytes, index, help);
     return -1;
 }

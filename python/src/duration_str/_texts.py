@@ -83,12 +83,12 @@ class DurationError(ValueError):
     ... except duration_str.DurationError as error:
     ...     print(error.report)
     ...     print(error.cause.name, error.pos, error.found)
-    ...     print(error.help.name, error.suggestion)
+    ...     print(error.help.name, error.suggestion, repr(error.mended))
     3h 2 mins
          ^
     unknown unit "mins" at column 6 (did you mean "min"?)
     SYNTAX 5 mins
-    DID_YOU_MEAN min
+    DID_YOU_MEAN min '3h 2 min'
     """
 
     text: str
@@ -108,6 +108,10 @@ class DurationError(ValueError):
     suggestion: str | None
     """The name of a unit, such as `min` for `5 mins`, if the help is `Help.DID_YOU_MEAN`. Otherwise
     it is None."""
+    mended: str | None
+    """The text with the suggestion in place of the word that is no unit, such as `5 min` for `5
+    mins`. It is None if there is no suggestion. If the mended text is refused for a syntax fault by
+    the same options, then only after the suggestion."""
     index: int | None
     """The position of the text in its column, or None if it is in no column."""
     report: str
@@ -118,6 +122,7 @@ class DurationError(ValueError):
     def __init__(
         self, report: str, text: str, cause: int, place: int | None = None, expected: int = 0,
         found: str | None = None, index: int | None = None, help: int = 0, suggestion: str = "",
+        word_length: int = 0,
     ) -> None:  # fmt: skip
         above, feed, line = report.rpartition("\n")
         line = line if index is None else f"at index {index}: {line}"
@@ -130,10 +135,15 @@ class DurationError(ValueError):
         self.found = found
         self.index = index
         self.suggestion = suggestion or None
+        self.mended = None
         self._help = help
         self.pos = place
         if place is not None and not text.isascii():
             self.pos = len(text.encode()[:place].decode())
+        if suggestion and place is not None:
+            bytes = text.encode()
+            rest = bytes[place + word_length :]
+            self.mended = (bytes[:place] + suggestion.encode() + rest).decode()
 
     @property
     def help(self) -> "Help | None":

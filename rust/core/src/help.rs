@@ -112,7 +112,7 @@ impl Help {
     }
 }
 
-impl Fault<'_> {
+impl<'a> Fault<'a> {
     /// Returns the help for the fault, if any. The line of `write_one_line` ends with its words.
     ///
     /// ```
@@ -129,6 +129,50 @@ impl Fault<'_> {
             _ => None,
         }
     }
+
+    /// Returns the text with the name that the help suggests in place of the word that is no unit,
+    /// or `None` if the help suggests none. The word is quoted in the fault's line. It begins with
+    /// the token at the fault's place, and can be longer, such as `μs` with the Greek letter mu.
+    ///
+    /// ```
+    /// use duration_str::{Options, parse_with};
+    ///
+    /// let fault = parse_with("2h 5 mins 3s", Options::off()).unwrap_err();
+    /// let mended = fault.mended().unwrap();
+    /// assert_eq!([mended.front, mended.word, mended.name], ["2h 5 ", "mins", "min"]);
+    /// assert_eq!(mended.rest, " 3s");
+    /// ```
+    #[must_use]
+    pub fn mended(&self) -> Option<Mended<'a>> {
+        let Cause::Syntax { place, expected } = self.cause else {
+            return None;
+        };
+        let found = found_at(self.text, place, expected);
+        let name = found.help?.suggestion()?;
+        Some(with_name(self.text, place, found.piece, name))
+    }
+}
+
+/// A refused text in which a help suggests a name in place of a word. The refused text is `front`,
+/// `word` and `rest`, and the mended text is `front`, `name` and `rest`.
+///
+/// ```
+/// use duration_str::{Options, parse_with};
+///
+/// let mended = parse_with("5 μseconds", Options::off()).unwrap_err().mended().unwrap();
+/// assert_eq!([mended.front, mended.word, mended.name], ["5 ", "μseconds", "us"]);
+/// ```
+#[derive(Clone, Copy, Debug, PartialEq, Eq, Hash)]
+#[non_exhaustive]
+pub struct Mended<'a> {
+    /// The text before the word.
+    pub front: &'a str,
+    /// The word that is no unit.
+    pub word: &'a str,
+    /// The name to write in place of the word.
+    pub name: &'static str,
+    /// The text after the word.
+    pub rest: &'a str,
 }
 
 /// What stands at the place of a syntax fault.
@@ -157,6 +201,17 @@ pub(crate) fn found_at(text: &str, place: usize, expected: Expected) -> Found<'_
         piece,
         is_unknown_unit,
         help: far_help(is_unknown_unit, expected, text, help),
+    }
+}
+
+/// Returns the text with the name in place of the word, which stands at the place.
+fn with_name<'a>(text: &'a str, place: usize, word: &'a str, name: &'static str) -> Mended<'a> {
+    let ahead = range_from(text, place);
+    Mended {
+        front: range_to(text, place),
+        word,
+        name,
+        rest: range_from(ahead, word.len()),
     }
 }
 

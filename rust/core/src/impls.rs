@@ -4,6 +4,7 @@ use super::breakdown::Breakdown;
 use super::cause::Cause;
 use super::fault::Fault;
 use super::format::{Format, Style};
+use super::help::Mended;
 use super::options::Options;
 use super::token::Tokens;
 use super::unit::{TimeUnit, UNITS};
@@ -128,6 +129,15 @@ impl fmt::Display for UnknownStyle {
 }
 
 impl Error for UnknownStyle {}
+
+/// Prints the mended text.
+impl fmt::Display for Mended<'_> {
+    fn fmt(&self, f: &mut fmt::Formatter<'_>) -> fmt::Result {
+        [self.front, self.name, self.rest]
+            .into_iter()
+            .try_for_each(|piece| f.write_str(piece))
+    }
+}
 
 impl TimeUnit {
     /// The units, the longest first.

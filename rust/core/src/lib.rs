@@ -56,7 +56,7 @@ mod unit;
 
 pub use self::breakdown::Breakdown;
 pub use self::format::{Format, Style, Units};
-pub use self::help::{Help, MAX_SUGGESTION_LEN};
+pub use self::help::{Help, MAX_SUGGESTION_LEN, Mended};
 pub use self::one_line::{MAX_ONE_LINE_LEN, ONE_LINE_BUFFER_SIZE};
 pub use self::parser::{
     Cause, Expected, Fault, parse, parse_by, parse_looked, parse_nanos, parse_nanos_specialized,

@@ -51,7 +51,19 @@ fn checks_message(text: &str, options: Options, place: Option<usize>, line: &str
 #[test]
 fn tells_all_of_a_refusal() {
     for row in &vectors().refused {
-        let Refused(text, names, cause, place, found, kinds, line, spaces, help, suggestion) = row;
+        let Refused(
+            text,
+            names,
+            cause,
+            place,
+            found,
+            kinds,
+            line,
+            spaces,
+            help,
+            suggestion,
+            mended,
+        ) = row;
         let options = options_of(names);
         let rules = rules_of(options, names);
         let fault = parse_by(text, rules).expect_err(text);
@@ -67,6 +79,12 @@ fn tells_all_of_a_refusal() {
             assert_eq!(same.as_ref(), Err(&error), "{text}");
         }
         assert_eq!(error.help(), fault.help(), "{text}");
+        assert_eq!(error.mended(), fault.mended(), "{text}");
+        let pieces = fault.mended();
+        assert_eq!(pieces.map(|it| it.to_string()), *mended, "{text}");
+        let before = pieces.map_or(text.clone(), |it| [it.front, it.word, it.rest].concat());
+        assert_eq!(before, *text);
+        assert!(pieces.is_none_or(|it| line.contains(&format!("\"{}\"", it.word))));
         assert_eq!([fault.to_string(), error.to_string()], [&line[..]; 2]);
         let above = spaces.map_or(String::new(), |spaces| {
             format!("{text}\n{}^\n", " ".repeat(spaces))

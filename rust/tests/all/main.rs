@@ -142,6 +142,7 @@ struct Refused(
     Option<usize>,
     Option<String>,
     Option<String>,
+    Option<String>,
 );
 
 /// A duration's text, or its seconds and nanoseconds as in `1 s 1 ns`, how it is printed, the

@@ -1,9 +1,17 @@
 -- The text with a name of a unit in place of what stands where a unit could stand.
 use Rattle.duration_str.proofs.Common.{[], and_from, and_parts, ap, append-nil, append_assoc, AreTokens, arith, BeginsSentence, byte_len, add-zero, CanFollow, early, EndsRun, Expected, expected_after, is_digit, is_unit_letter, IsLexeme, IsRefused, IsRefusedAt, IsTrue, last_of, late, length, length-append, lexemes_of, List, list_all, map, map-append, None, number, operator, Option, Options, other, refl, rules, Rules, Some, start_after, suc, sym, Syntax, syntax_fault, take, Terminal, terminal_of, terminals_of, TimeUnit, Token, tokens_from, tokens_of, true, width, word, zero, ℕ, ⊤, ◌++◌, ◌+◌, ◌∙◌, ◌∷◌, ◌≡◌, ◌≤◌, Cause, drop-nil}
 use Rattle.duration_str.proofs.Common.{allows, Bool, cases_Bool, front_after, front_of, le_of_suc-le-suc, suc-le-suc, ◌↔◌, chinese_letters, eqb-true, false, false_from_ne_true, inl, inr, is_ascii_alphabetic, is_chinese, list_any, or_cases, unit_of_word, ◌&&◌, ◌==◌}
-use Rattle.duration_str.proofs.Characters.UnitLemmas.{each_unit}
+use Rattle.duration_str.proofs.Characters.UnitLemmas.{all_units, each_unit, named_passes, same_length}
+use Rattle.duration_str.proofs.Common.{ahead, bytes_eq, chars, chars-append, chars-encodes, comparison_form, drop, encode_utf8_all, eqb, find, Humantime, if◌then◌else◌, is_named, IsUtf8, IsUtf8-drop, IsUtf8-take, leb, leb-true, length-take-le, Mixed, More, more_names, more_rules, meaning_of, nanos_of, nat_tests, NotText, NumberTooLarge, off, option_map, OutOfRange, Overflow, Own, scalars, table_of, take-append-drop, to_ascii_lowercase, units, UnitTable, Empty}
+use Rattle.duration_str.specs.declared.help.Help.{Help}
+use Rattle.duration_str.specs.declared.rules.Rules.{Rules as CodeRules}
 use Rattle.duration_str.specs.Mended.{MendedTexts}
-use Rattle.duration_str.specs.OneLine.{begins_with_letter, help_name, is_letter}
+use Rattle.duration_str.specs.OneLine.{begins_with_letter, digit_help, first_help, first_piece, help_at, help_name, is_letter, is_unknown_unit, missing_unit_help, near_unit, Pieces, sign_help, small_words, suggested, syntax_help, unit_help, with_micro_sign, with_name}
+use Rattle.duration_str.proofs.Characters.PackedLemmas.{no_long_name}
+use Rattle.duration_str.proofs.LawProofs.NearWords.{advised_small, found_among}
+use Rattle.duration_str.proofs.OnePass.PlaceLemmas.{byte_count, fault_placed}
+use Rattle.duration_str.proofs.Printer.MendedLemmas.{after_piece, cut_piece, IsCut, piece_stops}
+use Rattle.duration_str.proofs.Sentences.AnswerLemmas.{answer_refused}
 use Rattle.duration_str.proofs.Characters.CharacterLemmas.{byte_len-append, digit-not_letter, letter-not_digit, width_some}
 use Rattle.duration_str.proofs.Cutting.TokenLemmas.{blanks_no_token, tokens_are, tokens_step}
 use Rattle.duration_str.proofs.Cutting.SortLemmas.{terminal_cases}
@@ -326,5 +334,195 @@ mends r front found rest (c ∷ cs) u expected (letter, lexeme, names) read ends
     unit_written r front found rest cs c u expected refused unit letter lexeme (names ∙ ap word read)
     (ends_word r.options c cs rest letter ends) later others again
 
+-- ---- The suggested name by the rules that the code has
+
+found_some : (test : TimeUnit → Bool) (us : List TimeUnit) (u : TimeUnit) → test u ≡ true
+    → list_any (λ v. eqb (nanos_of v) (nanos_of u)) us ≡ true → (v : TimeUnit) × (find test us ≡ Some v)
+found_some test [] u h there = cc
+found_some test (v ∷ us) u h there = elim (cases_Bool (test v)) [
+  | inl e ↦ (v, rw e refl)
+  | inr e ↦ elim (or_cases (eqb (nanos_of v) (nanos_of u)) _ there) [
+    | inl same ↦ cc (rw (same_length v u (eqb-true (nanos_of v) (nanos_of u) same), h) at e)
+    | inr later ↦ let (w, found) = found_some test us u h later in (w, rw e found)
+  ]
+]
+
+in_table : (table : UnitTable) (u : TimeUnit) → list_any (bytes_eq (help_name u)) (table_of table u).names ≡ true
+in_table Own = all_units (λ u. list_any (bytes_eq (help_name u)) (table_of Own u).names) refl
+in_table More = all_units (λ u. list_any (bytes_eq (help_name u)) (table_of More u).names) refl
+in_table Humantime = all_units (λ u. list_any (bytes_eq (help_name u)) (table_of Humantime u).names) refl
+
+same_form : (o : Options) (u : TimeUnit) → comparison_form o (help_name u) ≡ help_name u
+same_form o u = elim (cases_Bool o.lowercase) [ inl on ↦ rw on refl | inr off ↦ rw off (advised_small u) ]
+
+named : (s : CodeRules) (u : TimeUnit) → is_named (meaning_of s) (help_name u) u ≡ true
+named s u = rw (same_form s.options u, in_table s.table u) refl
+
+names_some : (s : CodeRules) (u : TimeUnit) → (v : TimeUnit) × (unit_of_word (meaning_of s) (help_name u) ≡ Some v)
+names_some s u = found_some (is_named (meaning_of s) (help_name u)) units u (named s u)
+    (all_units (λ u. list_any (λ v. eqb (nanos_of v) (nanos_of u)) units) refl u)
+
+-- ---- The word
+
+length-lower : (test : ℕ → ℕ) (cs : List ℕ) → length (map test cs) ≡ length cs
+length-lower test [] = refl
+length-lower test (c ∷ cs) = rw (length-lower test cs) refl
+
+length-le-bytes : (cs : List ℕ) → length cs ≤ byte_len cs
+length-le-bytes [] = omega arith
+length-le-bytes (c ∷ cs) = omega (arith, width_some c, length-le-bytes cs)
+
+short_small : (cs : List ℕ) → list_any (bytes_eq cs) small_words ≡ true → length cs ≤ 12
+short_small cs small = leb-true (length cs) 12 (named_passes (λ w. leb (length w) 12) cs small_words refl small)
+
+short_added : (u : TimeUnit) → list_all (λ name. leb (length name) 12) (more_names u) ≡ true
+short_added = all_units (λ u. list_all (λ name. leb (length name) 12) (more_names u)) refl
+
+abbrev own_more : CodeRules
+own_more = record { table = More; default_unit = None; options = off }
+
+short_greek : (cs : List ℕ) (u : TimeUnit) → unit_of_word (more_rules off None) (with_micro_sign cs) ≡ Some u
+    → length cs ≤ 12
+short_greek cs u names = elim (cases_Bool (leb (byte_len (with_micro_sign cs)) 12)) [
+  | inl short ↦ omega (arith, leb-true _ _ short, length-le-bytes (with_micro_sign cs), length-lower (λ c. if c == 0x3BC then 0xB5 else c) cs)
+  | inr long ↦
+      let clash : None ≡ Some u = no_long_name own_more (with_micro_sign cs) (grind (arith, nat_tests)) ∙ names in
+      absurd (cc clash)
+]
+
+near_short : (cs : List ℕ) (u : TimeUnit) → near_unit cs ≡ Some u → length cs ≤ 12
+near_short cs u near = elim (cases_Bool (list_any (bytes_eq cs) small_words)) [
+  | inl small ↦ short_small cs small
+  | inr large ↦ elim (cases_Bool (list_any (λ c. c == 0x3BC) cs)) [
+    | inl greek ↦ short_greek cs u (rw (large, greek) at near)
+    | inr latin ↦
+        let found = found_among (map to_ascii_lowercase cs) units u (rw (large, latin) at near) in
+        let short = leb-true _ _ (named_passes (λ w. leb (length w) 12) (map to_ascii_lowercase cs) (more_names u) (short_added u) found) in
+        omega (arith, short, length-lower to_ascii_lowercase cs)
+  ]
+]
+
+-- ---- Which help suggests a name
+
+chosen : (b : Bool) (x y : Option Help) → suggested x ≡ None → suggested y ≡ None
+    → suggested (if b then x else y) ≡ None
+chosen true x y first second = first
+chosen false x y first second = second
+
+sign_none : (piece : List ℕ) → suggested (sign_help piece) ≡ None
+sign_none piece = search (rules, chosen)
+
+first_none : (piece : List ℕ) (next : ℕ) → suggested (first_help piece next) ≡ None
+first_none piece next = search (rules, chosen, sign_none)
+
+digit_none : (piece : List ℕ) (next : ℕ) → suggested (digit_help piece next) ≡ None
+digit_none piece next = search (rules, chosen, sign_none)
+
+place_none : (expected : Expected) (text : List ℕ) (place : ℕ) (piece : List ℕ)
+    → suggested (help_at expected text place piece) ≡ None
+place_none expected text place piece = search (rules, chosen, first_none, digit_none, sign_none)
+
+missing_none : (expected : Expected) (text : List ℕ) (help : Option Help) → suggested help ≡ None
+    → suggested (missing_unit_help expected text help) ≡ None
+missing_none expected text (Some help) none = none
+missing_none expected text None none = search (rules, chosen)
+
+unit_none : (help : Option Help) → suggested help ≡ None → suggested (Some (unit_help None help)) ≡ None
+unit_none (Some help) none = none
+unit_none None none = refl
+
+record IsNear (expected : Expected) (piece name : List ℕ) : Type 0 where
+  unit : TimeUnit
+  unknown : is_unknown_unit expected piece ≡ true
+  near : near_unit piece ≡ Some unit
+  is : encode_utf8_all (help_name unit) ≡ name
+
+near_by : (expected : Expected) (piece name : List ℕ) (help : Option Help) (unit : Option TimeUnit) → suggested help ≡ None
+    → near_unit piece ≡ unit → is_unknown_unit expected piece ≡ true
+    → suggested (Some (unit_help unit help)) ≡ Some name → IsNear expected piece name
+near_by expected piece name help None none near unknown some = absurd (cc (unit_none help none, some))
+near_by expected piece name help (Some u) none near unknown some =
+    record { unit = u; unknown = unknown; near = near; is = cc }
+
+suggests : (text : List ℕ) (place : ℕ) (expected : Expected) (piece name : List ℕ)
+    → suggested (syntax_help text place expected piece) ≡ Some name → IsNear expected piece name
+suggests text place expected piece name some =
+    let none = place_none expected text place (encode_utf8_all piece) in
+    elim (cases_Bool (is_unknown_unit expected piece)) [
+      | inl unknown ↦ near_by expected piece name _ (near_unit piece) none refl unknown (rw unknown at some)
+      | inr known ↦ absurd (cc (missing_none expected text _ none, rw known at some))
+    ]
+
+-- ---- The bytes of the new text
+
+name_scalars : (u : TimeUnit) → scalars (help_name u) ≡ true
+name_scalars = all_units (λ u. scalars (help_name u)) refl
+
+name_bytes : (u : TimeUnit) → length (encode_utf8_all (help_name u)) ≡ byte_len (help_name u)
+unfolding lib.Utf8.encode
+name_bytes = each_unit (λ u. length (encode_utf8_all (help_name u)) ≡ byte_len (help_name u)) assumption
+
+joined_chars : (front name rest : List ℕ) → IsUtf8 front → scalars name ≡ true → scalars rest ≡ true
+    → chars (front ++ (encode_utf8_all name ++ encode_utf8_all rest)) ≡ chars front ++ (name ++ rest)
+joined_chars front name rest utf8 are more =
+    chars-append front (encode_utf8_all name ++ encode_utf8_all rest) utf8
+    ∙ ap (λ (cs : List ℕ). chars front ++ cs) (chars-append (encode_utf8_all name) (encode_utf8_all rest) (name, (are, refl))
+    ∙ rw (chars-encodes name are, chars-encodes rest more) refl)
+
+mends_at : (s : CodeRules) (text : List ℕ) (place : ℕ) (expected : Expected) (name : List ℕ) → IsUtf8 text
+    → IsRefused (meaning_of s) (chars text) (Syntax place expected)
+    → suggested (syntax_help text place expected (first_piece (ahead text place))) ≡ Some name
+    → (later : ℕ) (others : Expected)
+    → IsRefused (meaning_of s) (chars (take place text ++ (name ++ drop (length (encode_utf8_all (first_piece (ahead text place)))) (drop place text)))) (Syntax later others)
+    → length (take place text) + length name ≤ later
+mends_at s text place expected name utf8 refused some later others again =
+    let r = meaning_of s in
+    let boundary = fault_placed r text utf8 ((answer_refused r (chars text) (Syntax place expected)).1 refused) place refl in
+    let front_utf8 = IsUtf8-take text place utf8 boundary in
+    let back_utf8 = IsUtf8-drop text place utf8 boundary in
+    let front = chars (take place text) in
+    let piece = first_piece (ahead text place) in
+    let cut : IsCut (drop place text) = cut_piece (drop place text) back_utf8 in
+    let parts : chars text ≡ front ++ ahead text place =
+    rw take-append-drop at (chars-append (take place text) (drop place text) front_utf8) in
+    let bytes : byte_len front ≡ place = byte_count (take place text) front_utf8 ∙ length-take-le place text boundary.0 in
+    let is : IsNear expected piece name = suggests text place expected piece name some in
+    let u = is.unit in
+    let both = and_parts expected.unit_word (begins_with_letter piece) is.unknown in
+    let (v, read) = names_some s u in
+    let short = near_short piece u is.near in
+    let stops : begins_with_letter cut.rest ≡ false =
+    rw cut.same (piece_stops (ahead text place) both.1 (omega (arith, short))) in
+    let before : IsRefused r (front ++ (piece ++ cut.rest)) (Syntax (byte_len front) expected) =
+    rw (bytes, ← cut.parts, ← parts) refused in
+    let back = drop (length (encode_utf8_all piece)) (drop place text) in
+    let named : chars (take place text ++ (name ++ back)) ≡ chars (take place text ++ (encode_utf8_all (help_name u) ++ back)) =
+    ap (λ (bs : List ℕ). chars (take place text ++ (bs ++ back))) (sym is.is) in
+    let new : chars (take place text ++ (name ++ back)) ≡ front ++ (help_name u ++ cut.rest) =
+    named
+    ∙ rw (after_piece (drop place text) back_utf8) (joined_chars (take place text) (help_name u) cut.rest front_utf8 (name_scalars u) cut.are) in
+    let least = mends r front piece cut.rest (help_name u) v expected (written r u) read stops both.0 before later others (rw new at again) in
+    let wide : length name ≡ byte_len (help_name u) = ap length (sym is.is) ∙ name_bytes u in
+    omega (arith, least, wide, byte_count (take place text) front_utf8)
+
+mends_by : (s : CodeRules) (text : List ℕ) (place : ℕ) (expected : Expected) (new : Pieces) (name : Option (List ℕ))
+    → IsUtf8 text → IsRefused (meaning_of s) (chars text) (Syntax place expected)
+    → suggested (syntax_help text place expected (first_piece (ahead text place))) ≡ name
+    → option_map (with_name text place (encode_utf8_all (first_piece (ahead text place)))) name ≡ Some new
+    → (later : ℕ) (others : Expected)
+    → IsRefused (meaning_of s) (chars (new.front ++ (new.name ++ new.rest))) (Syntax later others)
+    → length new.front + length new.name ≤ later
+mends_by s text place expected new None utf8 refused some is later others again = cc
+mends_by s text place expected new (Some name) utf8 refused some is later others again =
+    let same : with_name text place (encode_utf8_all (first_piece (ahead text place))) name ≡ new = cc in
+    rw (← same) (mends_at s text place expected name utf8 refused some later others (rw (← same) at again))
+
 pub mended_texts_hold : MendedTexts
-mended_texts_hold r front found rest u expected = mends r front found rest (help_name u) u expected (written r u)
+mended_texts_hold s text (Syntax place expected) new utf8 refused is later others again =
+    mends_by s text place expected new _ utf8 refused refl is later others again
+mended_texts_hold s text Empty new utf8 refused is later others again = cc
+mended_texts_hold s text (NumberTooLarge place) new utf8 refused is later others again = cc
+mended_texts_hold s text (Overflow place) new utf8 refused is later others again = cc
+mended_texts_hold s text (Mixed first next) new utf8 refused is later others again = cc
+mended_texts_hold s text OutOfRange new utf8 refused is later others again = cc
+mended_texts_hold s text (NotText optional) new utf8 refused is later others again = cc

@@ -27,7 +27,7 @@ unread_among : (o : Options) (word : List ℕ) (words : List (List ℕ)) → are
     → list_any (bytes_eq (map to_ascii_lowercase word)) words ≡ true → None ≡ unit_of_word (rules_of o) word
 unread_among o word words apart among = no_name (rules_of o) word (is_apart words) apart (rw (lower_form o word, among) refl)
 
-found_among : (small : List ℕ) (us : List TimeUnit) (u : TimeUnit)
+pub found_among : (small : List ℕ) (us : List TimeUnit) (u : TimeUnit)
     → find (λ v. list_any (bytes_eq small) (more_names v)) us ≡ Some u → list_any (bytes_eq small) (more_names u) ≡ true
 found_among small [] u e = absurd cc
 found_among small (v ∷ us) u e = elim (cases_Bool (list_any (bytes_eq small) (more_names v))) [
@@ -52,7 +52,7 @@ unread o word u near = elim (cases_Bool (list_any (bytes_eq word) small_words)) 
   ]
 ]
 
-advised_small : (u : TimeUnit) → map to_ascii_lowercase (help_name u) ≡ help_name u
+pub advised_small : (u : TimeUnit) → map to_ascii_lowercase (help_name u) ≡ help_name u
 advised_small = each_unit (λ u. map to_ascii_lowercase (help_name u) ≡ help_name u) assumption
 
 advised_named : (u : TimeUnit) → list_any (bytes_eq (help_name u)) (row_of u).names ≡ true

@@ -1,4 +1,4 @@
-use Rattle.duration_str.proofs.Common.{ahead, ap, cases_Bool, chars, encodes-chars, inl, inr, refl, sym, ◌∙◌, ◌≡◌}
+use Rattle.duration_str.proofs.Common.{ahead, ap, cases_Bool, chars, encode_utf8_all, encodes-chars, inl, inr, refl, sym, ◌∙◌, ◌≡◌}
 use Rattle.duration_str.specs.OneLine.{first_piece}
 use Rattle.duration_str.proofs.Printer.NearLemmas.{near_if_none, near_if_some}
 use Rattle.duration_str.proofs.help.found_at.Goals.{After-first_piece-piece}
@@ -10,6 +10,17 @@ same c = c.first_piece-piece.ensures.piece ∙ ap (λ bytes. first_piece (chars 
 
 pub returns-in-Some-clause-piece : goal.returns-in-Some-clause-piece
 returns-in-Some-clause-piece c = same (goal.at.returns-in-Some-clause-piece c).After-first_piece-piece
+
+bytes : (c : After-first_piece-piece)
+    → c.first_piece-piece.result.now ≡ encode_utf8_all (first_piece (ahead c.args.text.now c.args.place))
+bytes c =
+    sym (encodes-chars c.first_piece-piece.result.now c.first_piece-piece.utf8) ∙ ap encode_utf8_all (same c)
+
+pub returns-in-Some-clause-bytes : goal.returns-in-Some-clause-bytes
+returns-in-Some-clause-bytes c = bytes (goal.at.returns-in-Some-clause-bytes c).After-first_piece-piece
+
+pub returns-clause-bytes : goal.returns-clause-bytes
+returns-clause-bytes c = bytes (goal.at.returns-clause-bytes c).After-first_piece-piece
 
 pub returns-in-Some-clause-unknown : goal.returns-in-Some-clause-unknown
 returns-in-Some-clause-unknown c =
