@@ -195,14 +195,15 @@ fn says_in_json_which_fields_are_refused() {
     let words = "-d, --field 2 --to s --json-errors".split(' ');
     let words: Vec<_> = words.collect();
     let input = b"a,\"1h*1m+1\"\nb,1h\nc";
-    let no_more = r#""column":null,"expected":[],"found":null,"help":null,"suggestion":null,"#;
+    let none = ["found", "help", "suggestion", "mended"].map(|name| format!("{name:?}:null,"));
+    let no_more = format!(r#""column":null,"expected":[],{}"#, none.concat());
     let wanted = [
         r#"{"text":"1h*1m+1","line":1,"cause":"MIXED","#,
-        no_more,
+        &no_more,
         r#""message":"sum and product mixed in \"1h*1m+1\""}"#,
         "\n",
         r#"{"text":"c","line":3,"cause":"NO_FIELD","#,
-        no_more,
+        &no_more,
         r#""message":"no such field"}"#,
         "\n",
     ];
