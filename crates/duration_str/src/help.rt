@@ -1,5 +1,5 @@
 //! The help for a refusal: what a user may have meant, or should write instead.
-ghost use Rattle.std.specs.Prelude.{◌≡◌, ◌≤◌, ◌+◌, ◌-◌, ◌==◌, ◌||◌, slice_index, length, map, encode_utf8_all, IfSome, IfNone, None, Some, if◌then◌else◌};
+ghost use Rattle.std.specs.Prelude.{◌≡◌, ◌≤◌, ◌++◌, ◌+◌, ◌-◌, ◌==◌, ◌||◌, slice_index, length, map, encode_utf8_all, IfSome, IfNone, None, Some, if◌then◌else◌};
 ghost use Rattle.std.specs.Char.{to_ascii_lowercase};
 ghost use Rattle.std.specs.List.{list_all};
 ghost use Rattle.std.specs.Str.{chars, bytes_eq, IsCharBoundary};
@@ -159,7 +159,9 @@ impl<'a> Fault<'a> {
     /// ```
     #[must_use]
     pub fn mended(&self) -> Option<Mended<'a>>
-        ensures { HasPieces (mended_of self.now.text.now self.now.cause) result }
+        ensures pieces { HasPieces (mended_of self.now.text.now self.now.cause) result }
+        ensures whole { IfSome result (λ new.
+            self.now.text.now ≡ new.front.now ++ (new.word.now ++ new.rest.now)) }
     {
         let Cause::Syntax { place, expected } = self.cause else {
             return None;
@@ -232,7 +234,8 @@ pub(crate) fn found_at(text: &str, place: usize, expected: Expected) -> Found<'_
 fn with_name<'a>(text: &'a str, place: usize, word: &'a str, name: &'static str) -> Mended<'a>
     requires boundary { IsCharBoundary text.now place }
     requires word { word.now ≡ encode_utf8_all (first_piece (ahead text.now place)) }
-    ensures { HasPieces (Some (with_name text.now place word.now name.now)) (Some result) }
+    ensures pieces { HasPieces (Some (with_name text.now place word.now name.now)) (Some result) }
+    ensures whole { text.now ≡ result.front.now ++ (result.word.now ++ result.rest.now) }
 {
     let ahead = range_from(text, place);
     Mended {
