@@ -126,6 +126,9 @@ class Reading(unittest.TestCase):
         masked = masked.astype(object)
         to_timedelta(masked)
         self.assertEqual(masked.data.tolist(), ["1s", "x", "1m"])
+        # `ravel` of a matrix has two dimensions.
+        masked = numpy.ma.array(masked.data.view(numpy.matrix), mask=masked.mask)
+        self.assertEqual(numbers(to_timedelta(masked)[0]), [SECOND, None, MINUTE])
 
     def test_knows_missing_values_without_pandas(self):
         program = (
@@ -520,6 +523,9 @@ class Printing(unittest.TestCase):
         masked = numpy.ma.array([1, 2], mask=[True, False])
         self.assertEqual(format_many(masked).tolist(), [None, "2ns"])
         self.assertEqual(format_many(masked.astype("timedelta64[s]")).tolist(), [None, "2s"])
+        masked = numpy.ma.array(numpy.array([1, 2]).view(numpy.matrix), mask=[[True, False]])
+        self.assertEqual(format_many(masked).tolist(), [[None, "2ns"]])
+        self.assertEqual(format_many(masked.astype("timedelta64[s]")).tolist(), [[None, "2s"]])
         self.assertEqual(format_many([]), [])
 
     def test_prints_one_value_of_numpy(self):

@@ -91,7 +91,7 @@ def timedeltas_of(column: Any) -> Any:
     import numpy
 
     is_masked = isinstance(column, numpy.ma.MaskedArray)
-    return column.filled(numpy.timedelta64("NaT")) if is_masked else numpy.asarray(column)
+    return numpy.asarray(column.filled(numpy.timedelta64("NaT")) if is_masked else column)
 
 
 def values_of(column: Any, kind: Kind) -> list[Any]:
@@ -111,10 +111,13 @@ def values_of(column: Any, kind: Kind) -> list[Any]:
     import numpy
 
     # `tolist` makes None of masked values. NumPy would make floats of pandas' Int64 with a gap.
-    if not isinstance(column, numpy.ma.MaskedArray):
-        is_plain = isinstance(column, numpy.ndarray)
-        column = numpy.asarray(column, dtype=None if is_plain else object)
-    values: list[Any] = column.ravel().tolist()
+    # A matrix becomes an array here, masked or not, since its `ravel` still has two dimensions.
+    is_plain = isinstance(column, numpy.ndarray)
+    flat = numpy.asarray(column, dtype=None if is_plain else object)
+    masked: Any = numpy.ma  # Its calls have no types.
+    if isinstance(column, masked.MaskedArray):
+        flat = masked.array(flat, mask=masked.getmaskarray(column))
+    values: list[Any] = flat.ravel().tolist()
     return values
 
 
