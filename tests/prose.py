@@ -378,9 +378,9 @@ def misspelt():
 
 
 def problems():
-    # Those of the last commit, too: documents may still name a folder that is removed.
+    # Those of the last commit, if there is one, too: documents may still name a removed folder.
     words = ["git", "ls-tree", "-d", "--name-only", "HEAD"]
-    listed = subprocess.run(words, cwd=ROOT, capture_output=True, text=True, check=True)
+    listed = subprocess.run(words, cwd=ROOT, capture_output=True, text=True)
     folders = {*listed.stdout.split(), "proofs", "specs", "src"}
     folders |= {name.split("/")[0] for name in tracked_files("*/**")}
     for name in tracked_files("*.md"):
