@@ -254,6 +254,8 @@ install install-library: installable
 	    put_text $(libdir)/pkgconfig/duration_str.pc
 	$(foreach file,$(cmake_files),$(call filled,$(notdir $(file)),duration_str_prefix,$(cmake_up)) | \
 	    put_text $(libdir)/$(file);)
+	# An earlier commit can have had calls with other names.
+	rm -f "$$DESTDIR$(mandir)"/man3/duration_str_*.3
 	$(call page,c/duration_str.3.in) | put_text $(mandir)/man3/duration_str.3
 	for call in $(calls); do echo '.so man3/duration_str.3' | put_text "$(mandir)/man3/$$call.3"; done
 	for file in LICENSE NOTICE; do put "$$file" "$(docdir)/$$file"; done
