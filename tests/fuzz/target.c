@@ -91,17 +91,25 @@ static void check(char *const *texts, size_t length, uint32_t options, struct gi
 
 /* The first bytes of a text are also numbers, and its sum chooses options. */
 int LLVMFuzzerTestOneInput(const uint8_t *data, size_t size) {
-    char *texts[] = {malloc(size + !size), malloc(size + 1)};
+    char *texts[] = {malloc(size ? size : 1), malloc(size + 1)};
     struct given of = {0, 0, 0, 0, 0, 0};
     uint32_t sum = 0;
-    for (size_t at = 0; at < size; at++)
-        sum += (uint8_t)(texts[0][at] = texts[1][at] = (char)data[at]);
+    for (size_t at = 0; at < size; at++) {
+        texts[0][at] = (char)data[at];
+        texts[1][at] = (char)data[at];
+        sum += data[at];
+    }
     texts[1][size] = '7';
     memcpy(&of, data, size < sizeof of ? size : sizeof of);
     check(texts, size, of.units, of);
-    of.units %= DURATION_STR_UNITS_ALL + 2u, of.parts = sum % 13, of.rounding %= 5, of.style %= 4;
+    of.units %= DURATION_STR_UNITS_ALL + 2u;
+    of.parts = sum % 13;
+    of.rounding %= 5;
+    of.style %= 4;
     check(texts, size, sum % (2 * DURATION_STR_OPTION_MORE_NAMES), of);
-    of.nanos = memory->is_read ? *memory->nanos : of.nanos, of.secs >>= sum % 64;
+    if (memory->is_read)
+        of.nanos = *memory->nanos;
+    of.secs >>= sum % 64;
     check(texts, size, DURATION_STR_OPTION_DEFAULT_UNIT(sum % (DURATION_STR_UNIT_COUNT + 1)), of);
     free(texts[0]);
     free(texts[1]);
