@@ -4,7 +4,7 @@ documents. tests/repository compares the result with what stands there, and writ
 import re
 import textwrap
 
-from lists import found
+from lists import camel, found
 from prose import HEADER, read, section
 
 RATTLE = "crates/duration_str/src"
@@ -93,7 +93,7 @@ def options(descriptions, sentences):
 
 
 def options_in_javascript(descriptions, sentences):
-    names = {name: re.sub("_(.)", lambda found: found[1].upper(), name) for name in descriptions}
+    names = {name: camel(name) for name in descriptions}
     fields = {
         name: filled(f"{what} */", 100, "    /** ", "     * ") + f"\n    {names[name]}?: boolean"
         for name, what in sentences.items()

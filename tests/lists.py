@@ -44,6 +44,9 @@ HELPS = {
 }
 constants = found(r"^const (\w+): u32 = \d+;$", "duration_str_c/src/answer.rt")
 CAUSES = ["READ", *constants[: constants.index("UNKNOWN_OPTION") + 1]]
+# The options of reading, in the order of their bits
+constants = found(r"^const (\w+): u32 = \d+;$", "duration_str_js/src/reading.rt")
+OPTIONS = constants[: constants.index("DEFAULT_UNIT")]
 
 
 def quoted(words, between=", "):
@@ -52,6 +55,10 @@ def quoted(words, between=", "):
 
 def rows(texts):
     return "\n".join(f"    {json.dumps(text, ensure_ascii=False)}," for text in texts)
+
+
+def camel(name):
+    return re.sub("_(.)", lambda found: found[1].upper(), name.lower())
 
 
 def in_javascript():
@@ -63,6 +70,7 @@ def in_javascript():
     # JavaScript sets no bit of an unknown option, so it lacks the last cause.
     yield name, "const CODES = [", "];", quoted(CAUSES[:-1])
     yield name, "const HELPS = [\n", "\n];", "\n".join(f"    {each}" for each in divided_helps())
+    yield name, "const OPTIONS = [", "];", quoted(map(camel, OPTIONS))
     yield name, "const SENTENCES = [\n", "\n];", rows(SENTENCES)
     yield name, "const UNIT_PATTERNS = [\n", "\n];", rows(UNIT_PATTERNS)
     described = (f'    // {comment}\n    | "{help_code}"' for help_code, comment in HELPS.items())

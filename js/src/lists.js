@@ -28,6 +28,8 @@ export const HELPS = [
     "LEADING_PLUS", "ISO_8601", "ONE_DURATION", "NO_POINT", "BRACKETS", "DIVISION",
     "QUOTATION_MARKS", "MISSING_UNIT", "ZERO", "LARGE_NUMBER",
 ];
+/** The options for reading. Each has the bit `1 << index`, as in `enum duration_str_option`. */
+export const OPTIONS = ["noCalc", "lowercase", "cnUnit", "requireUnit", "moreNames"];
 /** Patterns of sentences: without options, with `noCalc`, with `requireUnit`, and with both. U
  * stands for a unit. */
 export const SENTENCES = [

@@ -1,7 +1,6 @@
-import { NAMES, UNITS } from "./lists.js";
+import { NAMES, OPTIONS, UNITS } from "./lists.js";
 
-/** Each has the bit `1 << index`, as in `enum duration_str_option`. */
-const OPTIONS = ["noCalc", "lowercase", "cnUnit", "requireUnit", "moreNames"];
+/** The bits of two options */
 const NO_CALC = 1;
 const REQUIRE_UNIT = 8;
 /** From this bit on, the options hold the default unit's number plus 1, or 0 for the second. */

@@ -5,7 +5,7 @@ import test from "node:test";
 import {
     breakdown, formatNs, format, parseNs, parse, parts, tryParseNs,
 } from "duration-str";
-import { near, VECTORS } from "./vectors.js";
+import { near, OPTION_NAMES, VECTORS } from "./vectors.js";
 
 const NAMES = ["y", "q", "mon", "w", "d", "h", "min", "s", "ms", "µs", "ns"];
 const TYPES = readFileSync(new URL("../index.d.ts", import.meta.url), "utf8");
@@ -306,12 +306,9 @@ test("knows whole names only", () => {
         }
     }
     const formats = ["units", "largest", "smallest", "parts", "rounding", "style"];
-    const options = [
-        "noCalc", "lowercase", "cnUnit", "moreNames", "requireUnit", "defaultUnit",
-    ];
-    for (const name of near([...formats, ...options])) {
+    for (const name of near([...formats, ...OPTION_NAMES])) {
         const words = { [name]: undefined };
-        if (!options.includes(name)) refuses("TypeError", words, () => parse("5", words));
+        if (!OPTION_NAMES.includes(name)) refuses("TypeError", words, () => parse("5", words));
         if (formats.includes(name)) continue;
         for (const call of [format, breakdown, parts]) {
             refuses("TypeError", words, () => call(5, words));

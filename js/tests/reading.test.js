@@ -3,7 +3,7 @@ import test from "node:test";
 import { runInNewContext } from "node:vm";
 
 import { DurationError, parseNs, parse, pattern, tryParse, tryParseNs } from "duration-str";
-import { choicesFor, holds, optionsOf, VECTORS } from "./vectors.js";
+import { choicesFor, holds, OPTION_NAMES, optionsOf, VECTORS } from "./vectors.js";
 
 const LARGEST = 2n ** 64n - 1n;
 const NO_UNITS = [
@@ -43,8 +43,7 @@ test("reads the vectors, and refuses them under the other options", () => {
 });
 
 test("reads as without options if they are left out or undefined", () => {
-    const names = ["noCalc", "lowercase", "cnUnit", "moreNames", "requireUnit", "defaultUnit"];
-    const none = Object.fromEntries(names.map((name) => [name, undefined]));
+    const none = Object.fromEntries(OPTION_NAMES.map((name) => [name, undefined]));
     for (const options of [undefined, {}, none, optionsOf([])]) {
         assert.equal(parseNs("1M*2", options), 120_000_000_000n);
         assert.throws(() => parseNs("1分", options), DurationError);

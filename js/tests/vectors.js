@@ -4,10 +4,16 @@ export const VECTORS = JSON.parse(
     readFileSync(new URL("../../rust/vectors.json", import.meta.url), "utf8"),
 );
 
+const camel = (name) => name.replace(/_(.)/, (_, letter) => letter.toUpperCase());
+
+/** The names of all options for reading */
+export const OPTION_NAMES = [
+    ...VECTORS.options.map(camel), "moreNames", "requireUnit", "defaultUnit",
+];
+
 /** Names are as in vectors.json, such as `no_calc` or `default_unit=ms`. With a default unit, the
  * other options are left out, since beside most units `noCalc` can't be false. */
 export function optionsOf(names) {
-    const camel = (name) => name.replace(/_(.)/, (_, letter) => letter.toUpperCase());
     const given = names.map((name) => name.split("="));
     const off = given.some(([name]) => name === "default_unit") ? [] : VECTORS.options;
     return Object.fromEntries([
