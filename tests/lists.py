@@ -61,6 +61,15 @@ def camel(name):
     return re.sub("_(.)", lambda found: found[1].upper(), name.lower())
 
 
+def describing_patterns(first, further, names):
+    """How a comment goes on that begins with `first`, which says what the list of patterns has."""
+    lowercase, cn_unit, more_names = names
+    text = f"{first}without options, with `{lowercase}`, with `{cn_unit}`, and with both. "
+    text += f"The last four are the same with `{more_names}`."
+    text += " */" if first.startswith("/**") else ""
+    return textwrap.fill(text, 100, subsequent_indent=further).removeprefix(first)
+
+
 def in_javascript():
     name = "js/src/lists.js"
     yield name, "const UNITS = [", "];", quoted(PRINTED)
@@ -72,6 +81,9 @@ def in_javascript():
     yield name, "const HELPS = [\n", "\n];", "\n".join(f"    {each}" for each in divided_helps())
     yield name, "const OPTIONS = [", "];", quoted(map(camel, OPTIONS))
     yield name, "const SENTENCES = [\n", "\n];", rows(SENTENCES)
+    before, names = "/** Patterns of units: ", ("lowercase", "cnUnit", "moreNames")
+    lines = describing_patterns(before, " * ", names)
+    yield name, before, "\nexport const UNIT_PATTERNS", lines
     yield name, "const UNIT_PATTERNS = [\n", "\n];", rows(UNIT_PATTERNS)
     described = (f'    // {comment}\n    | "{help_code}"' for help_code, comment in HELPS.items())
     yield "js/index.d.ts", "type Help =\n", ";", "\n".join(described)
@@ -122,6 +134,8 @@ def in_python():
     before = '"""What a user may have meant by a refused text, or should write instead."""\n\n'
     yield "python/src/duration_str/_help.py", before, "\n\n\n", "\n".join(lines)
     yield name, "\nSENTENCES = [\n", "\n]", rows(SENTENCES)
+    before, names = "#: Patterns of units: ", ("lowercase", "cn_unit", "more_names")
+    yield name, before, "\nUNIT_PATTERNS", describing_patterns(before, "#: ", names)
     yield name, "\nUNIT_PATTERNS = [\n", "\n]", rows(UNIT_PATTERNS)
 
 
@@ -147,7 +161,11 @@ def in_rust():
     for place in (name, "rust/tests/all/faults.rs"):
         yield place, "const HELPS: [&str; ", "\n];", f"{len(HELPS)}] = [\n{helps}"
     yield name, "const SENTENCES: [&str; 4] = [\n", "\n];", rows(SENTENCES)
-    yield name, "const UNIT_PATTERNS: [&str; 8] = [\n", "\n];", rows(UNIT_PATTERNS)
+    before, names = "/// Patterns of units: ", ("--lowercase", "--cn-unit", "--more-names")
+    lines = describing_patterns(before, "/// ", names)
+    yield name, before, "\npub const UNIT_PATTERNS", lines
+    listed = f"{len(UNIT_PATTERNS)}] = [\n{rows(UNIT_PATTERNS)}"
+    yield name, "const UNIT_PATTERNS: [&str; ", "\n];", listed
 
 
 def in_the_schema():

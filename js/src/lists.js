@@ -38,8 +38,8 @@ export const SENTENCES = [
     "^[ \\t\\n\\r]*[0-9]+[ \\t\\n\\r]*U[ \\t\\n\\r]*(?:(?:[+*][ \\t\\n\\r]*)?[0-9]+[ \\t\\n\\r]*U[ \\t\\n\\r]*)*$",
     "^[ \\t\\n\\r]*(?:[0-9]+[ \\t\\n\\r]*U[ \\t\\n\\r]*)+$",
 ];
-/** Patterns of units: without options, with `lowercase`, with `cnUnit`, and with both. The last four
- * are the same with `moreNames`. */
+/** Patterns of units: without options, with `lowercase`, with `cnUnit`, and with both. The last
+ * four are the same with `moreNames`. */
 export const UNIT_PATTERNS = [
     "(?:[Yy](?:[Ee][Aa][Rr][Ss]?)?|[Qq](?:[Uu][Aa][Rr][Tt][Ee][Rr][Ss]?)?|[Mm](?:[Oo][Nn](?:[Tt][Hh][Ss]?)?|[Ii](?:[Nn](?:[Uu][Tt][Ee][Ss]?)?|[Ll][Ll][Ii][Ss][Ee][Cc][Oo][Nn][Dd][Ss]?|[Cc][Rr][Oo][Ss][Ee][Cc][Oo][Nn][Dd][Ss]?)|[Ss](?:[Ee][Cc])?)?|[Ww](?:[Ee][Ee][Kk][Ss]?)?|[Dd](?:[Aa][Yy][Ss]?)?|[Hh](?:[Rr]|[Oo][Uu][Rr][Ss]?)?|[Ss](?:[Ee][Cc](?:[Oo][Nn][Dd][Ss]?)?)?|[µUu][Ss](?:[Ee][Cc](?:[Oo][Nn][Dd])?)?|[Nn](?:[Ss](?:[Ee][Cc])?|[Aa][Nn][Oo][Ss][Ee][Cc][Oo][Nn][Dd][Ss]?))",
     "(?:y(?:ears?)?|q(?:uarters?)?|m(?:on(?:ths?)?|i(?:n(?:utes?)?|lliseconds?|croseconds?)|s(?:ec)?)?|w(?:eeks?)?|d(?:ays?)?|h(?:r|ours?)?|s(?:ec(?:onds?)?)?|[µu]s(?:ec(?:ond)?)?|n(?:s(?:ec)?|anoseconds?))",
