@@ -172,6 +172,9 @@ def as_columns(kind, values):
             yield from (plain, plain[::-1][::-1], pandas.array(plain, dtype=plain.dtype))
     if kind in ("integer", "float") and not any(gaps):
         yield from (array.array(plain.dtype.char, values), memoryview(plain))
+    names = {"object": "object", "text": "string", "integer": "int64", "float": "double"}
+    of_test = of_its_own(names.get(kind, "duration[ns]"), values)
+    yield from (of_test, pandas.Series(of_test), pandas.Index(of_test))
     names = {"object": object, "text": "string", "integer": "Int64", "float": "Float64"}
     series = first(lambda dtype: pandas.Series(values, dtype=dtype), names.get(kind, "m8[ns]"))
     if series is None:  # a timedelta is too long
@@ -180,6 +183,28 @@ def as_columns(kind, values):
     yield from (pandas.Categorical(series), pandas.CategoricalIndex(series))
     if kind in ("object", "float"):
         yield pandas.arrays.SparseArray(numpy.array(values, dtype=kind))
+
+
+def of_its_own(name, values):
+    """Returns an array of pandas with a type that only a test has. NumPy makes objects of it."""
+
+    class Type(pandas.api.extensions.ExtensionDtype):
+        type = object
+
+    class Array(pandas.api.extensions.ExtensionArray):
+        dtype = Type()
+
+        def __len__(self):
+            return len(values)
+
+        def __getitem__(self, at):
+            return values[at]
+
+        def copy(self):
+            return self
+
+    Type.name = name
+    return Array()
 
 
 class Column(list):
@@ -240,6 +265,15 @@ class Kinds(unittest.TestCase):
                 for column in as_columns(kind, values):
                     for words in [{}, {"default_unit": "ns"}, {"errors": "coerce"}]:
                         self.check_values(kind, column, values, words)
+
+    @unittest.skipUnless(numpy, "NumPy or pandas is missing")
+    def test_takes_no_value_apart(self):
+        values = [["1s", "2s"], ["3s", "4s"]]
+        for column in (of_its_own("object", values), pandas.Series(of_its_own("object", values))):
+            for words in [{}, {"default_unit": "ns"}, {"errors": "coerce"}]:
+                self.check_values("object", column, values, words)
+        tuples = pandas.MultiIndex.from_tuples([("1s", "2s")])
+        self.check_values("object", tuples, list(tuples), {"errors": "coerce"})
 
     def check_values(self, kind, column, values, words):
         for call in self.CALLS:

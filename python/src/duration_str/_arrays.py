@@ -34,10 +34,10 @@ _NAT = -(2**63)
 
 def _in_nanos(column: Any, kind: Kind) -> Any:
     """Returns a column of timedeltas as an array of timedelta64[ns]. Returns None if one of them
-    doesn't fit, and for a column of another kind."""
-    if kind != "timedelta":
+    doesn't fit, and for another column."""
+    given = timedeltas_of(column, kind)
+    if given is None:
         return None
-    given = timedeltas_of(column)
     step = nanos_a_step(given.dtype)
     # `abs` leaves the number that stands for NaT below zero.
     if step > 1 and step * int(abs(given.astype("int64")).max(initial=1)) >= 2**63:

@@ -86,18 +86,24 @@ def kind_of(column: Any, takes_timedeltas: bool = True) -> Kind:
     return kind
 
 
-def timedeltas_of(column: Any) -> Any:
-    """Returns a column of timedeltas as an array of timedelta64."""
+def timedeltas_of(column: Any, kind: Kind) -> Any:
+    """Returns a column of timedeltas as an array of timedelta64, and None for another column."""
+    if kind != "timedelta":
+        return None
     import numpy
 
     is_masked = isinstance(column, numpy.ma.MaskedArray)
-    return numpy.asarray(column.filled(numpy.timedelta64("NaT")) if is_masked else column)
+    given = numpy.asarray(column.filled(numpy.timedelta64("NaT")) if is_masked else column)
+    # A type with the name of Arrow's durations can be another library's. Its values are judged one
+    # by one.
+    return given if given.dtype.kind == "m" else None
 
 
 def values_of(column: Any, kind: Kind) -> list[Any]:
     """Returns the values, row by row. `is_missing` knows those that are missing."""
-    if kind == "timedelta":
-        return list(timedeltas_of(column).ravel())
+    timedeltas = timedeltas_of(column, kind)
+    if timedeltas is not None:
+        return list(timedeltas.ravel())
     if isinstance(column, memoryview):
         # `tolist` doesn't read formats that name an order of bytes, such as those of ctypes.
         return [value for (value,) in struct.iter_unpack(column.format, column.tobytes())]
@@ -114,6 +120,9 @@ def values_of(column: Any, kind: Kind) -> list[Any]:
     # A matrix becomes an array here, masked or not, since its `ravel` still has two dimensions.
     is_plain = isinstance(column, numpy.ndarray)
     flat = numpy.asarray(column, dtype=None if is_plain else object)
+    # NumPy takes values such as lists of equal length apart.
+    if flat.ndim != getattr(column, "ndim", 1):
+        return list(column)
     masked: Any = numpy.ma  # Its calls have no types.
     if isinstance(column, masked.MaskedArray):
         flat = masked.array(flat, mask=masked.getmaskarray(column))
