@@ -190,6 +190,8 @@ def of_its_own(name, values):
 
     class Type(pandas.api.extensions.ExtensionDtype):
         type = object
+        # pandas' and Arrow's own types have these, too.
+        subtype = ordered = fill_value = None
 
     class Array(pandas.api.extensions.ExtensionArray):
         dtype = Type()

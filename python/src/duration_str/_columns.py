@@ -33,13 +33,16 @@ _OWN_FORMATS: dict[str, Kind] = {**dict.fromkeys("uwZ", "text"), "O": "object"}
 
 
 def _kind_of_type(dtype: Any) -> tuple[Kind | None, str]:
-    """Also returns the name of the type."""
+    """Returns the kind of a type, or None if it is not read, and the name of the type."""
+    pandas: Any = sys.modules.get("pandas")
+    arrow: Any = sys.modules.get("pyarrow")
     dtype = getattr(dtype, "pyarrow_dtype", dtype)
-    if hasattr(dtype, "fill_value"):  # a sparse column
+    if pandas is not None and isinstance(dtype, pandas.SparseDtype):
         return _kind_of_type(dtype.subtype)
-    if hasattr(dtype, "ordered"):  # categories of Arrow or pandas
-        is_arrow = hasattr(dtype, "value_type")
-        return _kind_of_type(dtype.value_type if is_arrow else dtype.categories.dtype)
+    if pandas is not None and isinstance(dtype, pandas.CategoricalDtype):
+        return _kind_of_type(dtype.categories.dtype)
+    if arrow is not None and isinstance(dtype, arrow.DictionaryType):
+        return _kind_of_type(dtype.value_type)
     name = str(getattr(dtype, "name", dtype))
     dtype = getattr(dtype, "numpy_dtype", dtype)
     numpy: Any = sys.modules.get("numpy")
@@ -50,7 +53,8 @@ def _kind_of_type(dtype: Any) -> tuple[Kind | None, str]:
 
 
 def _kind_of_buffer(column: Any) -> tuple[Kind | None, str]:
-    """Also returns the name of the type. A sequence that is no buffer has objects."""
+    """Returns the kind of a buffer's items, or None if they are not read, and a name of the type. A
+    sequence that is no buffer has objects."""
     try:
         view = memoryview(column)
     except TypeError:
