@@ -332,8 +332,19 @@ class Reading(unittest.TestCase):
             ):
                 to_timedelta(["1s", value])
             self.assertEqual(numbers(to_timedelta(["1s", value], errors="coerce")), [SECOND, None])
-        with self.assertRaisesRegex(TypeError, "unit from weeks to nanoseconds"):
-            to_timedelta(numpy.array([1], dtype="timedelta64[Y]"))
+
+    def test_reads_no_timedelta_of_another_unit(self):
+        for unit in ("Y", "M", "ps", "generic"):
+            value = numpy.timedelta64(1, unit)
+            line = f"must be a str, not {re.escape(str(value.dtype))}$"
+            with self.subTest(unit=unit):
+                with self.assertRaisesRegex(DurationTypeError, f"^at index 1: .* {line}"):
+                    to_timedelta(["1s", value])
+                with self.assertRaisesRegex(DurationTypeError, line):
+                    to_timedelta(value)
+                values = [value, "1s"]
+                self.assertEqual(numbers(to_timedelta(values, errors="coerce")), [None, SECOND])
+                self.assertIs(to_timedelta(value, errors="coerce"), pandas.NaT)
 
     def test_keeps_the_longest_timedeltas(self):
         microsecond = datetime.timedelta(microseconds=1)
@@ -557,8 +568,8 @@ class Printing(unittest.TestCase):
             format_many(numpy.array([3], dtype="timedelta64[10ms]")).tolist(), ["30ms"]
         )
         for unit in ["Y", "M", "ps"]:
-            with self.assertRaisesRegex(TypeError, "not of timedelta64"):
-                format_many(numpy.array([1], dtype=f"timedelta64[{unit}]"))
+            with self.assertRaisesRegex(TypeError, "^at index 0: .*not of timedelta64"):
+                format_many([numpy.timedelta64(1, unit)])
 
     def test_names_the_position(self):
         rows = [(ValueError, -1), (OverflowError, 2**64 * SECOND)]

@@ -42,7 +42,6 @@ UNITS |= {"s": 10**9, "ms": 10**6, "us": 10**3, "ns": 1}
 LENGTHS = {f"timedelta64[{unit}]": nanos for unit, nanos in UNITS.items()}
 LENGTHS |= {f"duration[{unit}]": nanos for unit, nanos in UNITS.items()}
 OTHER_UNITS = ("Y", "M", "ps", "fs", "as")
-UNREADABLE = {"timedelta64", *(f"timedelta64[{unit}]" for unit in OTHER_UNITS)}
 IMPOSSIBLE = (AttributeError, ImportError, KeyError, NotImplementedError, TypeError, ValueError)
 IMPOSSIBLE += (Warning,)
 
@@ -210,11 +209,11 @@ def of_its_own(name, values):
 
 
 class Column(list):
-    """A column of a library that is not installed. Its type has only a name."""
+    """A column of a library that is not installed. Its type has only a name, or is one of NumPy."""
 
-    def __init__(self, name):
+    def __init__(self, dtype):
         super().__init__([1])
-        self.dtype = name
+        self.dtype = dtype
 
 
 class Kinds(unittest.TestCase):
@@ -335,15 +334,14 @@ class Kinds(unittest.TestCase):
     def test_judges_arrays_of_numpy(self):
         for values in of_numpy():
             name = values.dtype.name
-            if name in UNREADABLE:
-                line = f"not of {re.escape(name)}"
-                self.assertRaisesRegex(TypeError, line, to_timedelta, values)
-                continue
             nanos = LENGTHS.get(name, 10**6)
             self.check(name, values, nanos)
             self.check(name, numpy.ma.array(values), nanos)
-            # pandas makes mistakes with records and with the other order of bytes.
-            if values.dtype.isnative and values.dtype.kind != "V":
+            self.check(name, Column(values.dtype))
+            # pandas makes mistakes with records and with the other order of bytes, and gives
+            # timedeltas another unit than years.
+            is_same = values.dtype.kind != "m" or name in LENGTHS
+            if is_same and values.dtype.isnative and values.dtype.kind != "V":
                 for name, column in in_pandas(values):
                     self.check(name, column, nanos)
             view = first(memoryview, values)
@@ -384,7 +382,7 @@ class Kinds(unittest.TestCase):
             self.check_missing(categories.dtype.categories.dtype.name, categories)
         for values in of_numpy():
             dtype = values.dtype
-            if dtype.names or dtype.name in UNREADABLE:
+            if dtype.names:
                 continue
             self.check_missing(dtype.name, numpy.ma.array(values, mask=True))
             if dtype.kind == "f" or dtype.name.startswith(("datetime64[", "timedelta64[")):

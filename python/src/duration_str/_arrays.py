@@ -22,7 +22,7 @@ from ._columns import (
     values_of,
 )
 from ._lists import Rounding, Style, Unit
-from ._texts import UNNAMED, UNSAID, is_number, nanos_a_step, nanos_of, type_error_of
+from ._texts import NANOS, UNNAMED, UNSAID, is_number, nanos_a_step, nanos_of, type_error_of
 
 if TYPE_CHECKING:
     import numpy
@@ -60,13 +60,14 @@ def _like(values: Any, result: Any) -> Any:
 def _nanos_of_value(value: Any, index: int, raises: bool, takes_numbers: bool) -> int:
     """Returns the nanoseconds of a value that has no text. They stand for NaT if the value is
     missing, or if it is refused and `raises` is false. Even then it raises an error for a number if
-    `takes_numbers` is false, and for a timedelta64 whose unit `nanos_of` refuses, unless it is NaT.
-    """
+    `takes_numbers` is false."""
     import numpy
 
     if is_missing(value):
         return _NAT
-    is_kept = isinstance(value, (datetime.timedelta, numpy.timedelta64))
+    is_kept = isinstance(value, datetime.timedelta)
+    if isinstance(value, numpy.timedelta64):
+        is_kept = numpy.datetime_data(value.dtype)[0] in NANOS
     if is_kept and abs(nanos := nanos_of(value)) < 2**63:
         return nanos
     if raises and is_kept:
@@ -154,18 +155,18 @@ def to_timedelta(
     text or a number whose value is 2**63 nanoseconds or more, which is some
     292 years, since timedelta64 can't hold it. A number that `parse_ns`
     refuses, except NaN, raises an error of the same type. Any other value,
-    such as bytes, raises DurationTypeError. A timedelta of 2**63 nanoseconds
-    or more, in either direction, raises OverflowError. Both errors are raised
-    even if a text before the value is refused.
+    such as bytes or a timedelta64 of 5 years, raises DurationTypeError. A
+    timedelta of 2**63 nanoseconds or more, in either direction, raises
+    OverflowError. Both errors are raised even if a text before the value is
+    refused.
 
-    With `errors="coerce"` all these values become NaT. But three errors are
-    raised even then:
+    With `errors="coerce"` all these values become NaT. But DurationTypeError
+    is raised even then
 
-    - DurationTypeError for a number, if you name no default unit. (A number is
-      an int or a float, also of NumPy, but no bool.)
-    - DurationTypeError for a column of a type that is never read, such as
-      datetime64, whatever its values are.
-    - TypeError for a timedelta64 of a wrong unit, such as 5 years.
+    - for a number, if you name no default unit. (A number is an int or a
+      float, also of NumPy, but no bool.)
+    - for a column of a type that is never read, such as datetime64 or
+      timedelta64 in years, whatever its values are.
     """
     raises = raises_errors(errors)
     reading = _native.reading(

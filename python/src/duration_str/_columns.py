@@ -11,7 +11,7 @@ from typing import Any, Literal, SupportsIndex, overload
 
 from . import _native
 from ._lists import Unit
-from ._texts import UNNAMED, UNSAID, DurationTypeError, is_number, type_error_of
+from ._texts import NANOS, UNNAMED, UNSAID, DurationTypeError, is_number, type_error_of
 
 #: What to do with a refused value
 Errors = Literal["raise", "coerce"]
@@ -49,7 +49,8 @@ def _kind_of_type(dtype: Any) -> tuple[Kind | None, str]:
     if numpy is None or not isinstance(dtype, numpy.dtype):
         return _NAMES.get(name.lower()), name
     is_short = dtype.kind == "f" and dtype.itemsize != 8
-    return None if is_short else _NUMPY.get(dtype.kind), name
+    has_other_unit = dtype.kind == "m" and numpy.datetime_data(dtype)[0] not in NANOS
+    return None if is_short or has_other_unit else _NUMPY.get(dtype.kind), name
 
 
 def _kind_of_buffer(column: Any) -> tuple[Kind | None, str]:

@@ -32,8 +32,8 @@ UNSAID: "Any" = _Unsaid(0)
 
 
 #: The units of timedelta64 that are read, each with its length in nanoseconds
-_NANOS = {"W": 604_800 * 10**9, "D": 86_400 * 10**9, "h": 3_600 * 10**9, "m": 60 * 10**9}
-_NANOS |= {"s": 10**9, "ms": 10**6, "us": 1000, "ns": 1}
+NANOS = {"W": 604_800 * 10**9, "D": 86_400 * 10**9, "h": 3_600 * 10**9, "m": 60 * 10**9}
+NANOS |= {"s": 10**9, "ms": 10**6, "us": 1000, "ns": 1}
 
 
 class Cause(enum.IntEnum):
@@ -161,6 +161,8 @@ def type_error_of(value: "Any", takes_numbers: bool, index: int) -> DurationType
     """The index -1 stands for none."""
     where = "" if index < 0 else f"at index {index}: "
     what = type(value).__name__
+    if what == "timedelta64":
+        what = str(getattr(value, "dtype", what))  # It can be the unit that is not read.
     if takes_numbers:
         if isinstance(value, float):
             what = (
@@ -204,11 +206,11 @@ def nanos_a_step(dtype: "Any") -> int:
     is not one from weeks to nanoseconds."""
     numpy: Any = import_module("numpy")
     unit, count = numpy.datetime_data(dtype)
-    if unit not in _NANOS:
+    if unit not in NANOS:
         raise TypeError(
             f"a duration must be of a unit from weeks to nanoseconds, not of timedelta64[{unit}]"
         )
-    return int(count) * _NANOS[unit]
+    return int(count) * NANOS[unit]
 
 
 def nanos_of(value: "Any") -> int:
