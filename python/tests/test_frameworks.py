@@ -90,6 +90,18 @@ class Lines(unittest.TestCase):
         self.assertEqual(DurationType(default_unit="min")("1"), MINUTE)
         self.assertEqual(DurationType(more_names=True)("60 secs"), MINUTE)
 
+    def test_argparse_keeps_the_error(self):
+        from duration_str.argparse import DURATION
+
+        parser = argparse.ArgumentParser(exit_on_error=False)
+        parser.add_argument("--timeout", type=DURATION)
+        with self.assertRaises(argparse.ArgumentError) as refused:
+            parser.parse_args(["--timeout", "5 mins"])
+        wrong = refused.exception.__context__
+        self.assertIsInstance(wrong, argparse.ArgumentTypeError)
+        self.assertIsInstance(wrong.__cause__, duration_str.DurationError)
+        self.assertEqual(wrong.__cause__.suggestion, "min")
+
     @unittest.skipUnless(has("click"), "Click is missing")
     def test_click(self):
         self.assertEqual(run("wait.py", "--timeout", "1m"), (0, "0:01:00\n", ""))
@@ -114,6 +126,18 @@ class Lines(unittest.TestCase):
             self.assertRaisesRegex(ValueError, "default_unit", DurationParamType, **words)
         with self.assertRaisesRegex(click.BadParameter, "'1分': unknown unit"):
             DURATION("1分")
+
+    @unittest.skipUnless(has("click"), "Click is missing")
+    def test_click_keeps_the_error(self):
+        import click
+        from duration_str.click import DURATION
+
+        command = click.Command("wait", params=[click.Option(["--timeout"], type=DURATION)])
+        with self.assertRaises(click.BadParameter) as refused:
+            command.main(["--timeout", "5 mins"], standalone_mode=False)
+        self.assertEqual(refused.exception.param.name, "timeout")
+        self.assertIsInstance(refused.exception.__cause__, duration_str.DurationError)
+        self.assertEqual(refused.exception.__cause__.suggestion, "min")
 
     @unittest.skipUnless(has("click"), "Click is missing")
     def test_click_keeps_timedeltas(self):

@@ -12,7 +12,7 @@ from ._texts import DurationError
 
 class DurationType(WithOptions):
     """Reads a timedelta from a text, under these options. If a text is refused, argparse shows the
-    text and the error's line."""
+    text and the error's line. The DurationError is the `__cause__` of the ArgumentTypeError."""
 
     def __repr__(self) -> str:
         return "DURATION"
@@ -21,7 +21,7 @@ class DurationType(WithOptions):
         try:
             return parse(text, **self._options)
         except DurationError as error:
-            raise argparse.ArgumentTypeError(f"{text!r}: {error}") from None
+            raise argparse.ArgumentTypeError(f"{text!r}: {error}") from error
 
 
 DURATION = DurationType()

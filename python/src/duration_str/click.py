@@ -17,7 +17,8 @@ from ._texts import DurationError
 
 class DurationParamType(WithOptions, click.ParamType):
     """Reads a timedelta from a text, under these options. If a text is refused, Click shows the
-    text and the error's line. A default may also be a timedelta."""
+    text and the error's line. The DurationError is the `__cause__` of the BadParameter. A default
+    may also be a timedelta."""
 
     name = "duration"
 
@@ -32,7 +33,7 @@ class DurationParamType(WithOptions, click.ParamType):
         try:
             return parse(value, **self._options)
         except DurationError as error:
-            self.fail(f"{value!r}: {error}", param, ctx)
+            raise click.BadParameter(f"{value!r}: {error}", ctx, param) from error
 
 
 DURATION = DurationParamType()
