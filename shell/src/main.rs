@@ -178,13 +178,15 @@ impl Run<'_> {
         line: &mut Vec<u8>,
         is_header: bool,
     ) -> io::Result<()> {
-        let refused = match self.choices.refused() {
-            _ if is_header && !self.choices.sum => Refused::Keep,
-            refused => refused,
+        let refused = if is_header && !self.choices.sum {
+            Refused::Keep
+        } else {
+            self.choices.refused()
         };
-        let stays = refused == Refused::Keep;
         while !line.is_empty() && !line.ends_with(&[self.end]) {
-            self.output.write_all(if stays { line } else { b"" })?;
+            if refused == Refused::Keep {
+                self.output.write_all(line)?;
+            }
             self.next(input, line)?;
         }
         self.is_open = self.stays_open(line.is_empty());
