@@ -3,6 +3,7 @@
 
 use duration_str_core::{Cause, CondUnit, Expected, Fault, Options};
 
+// The numbers of causes.
 const EMPTY: u32 = 1;
 
 const SYNTAX: u32 = 2;
@@ -19,6 +20,7 @@ const NOT_TEXT: u32 = 7;
 
 const UNKNOWN_OPTION: u32 = 8;
 
+// The bits of what could stand at the place of a syntax fault.
 const NUMBER: u32 = 1;
 
 const UNIT: u32 = 2;

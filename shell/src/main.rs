@@ -124,7 +124,8 @@ impl Run<'_> {
         io::stderr().write_all(b"duration: sum of over 584 years\n")
     }
 
-    /// A line that ends as on Windows. A field is cut without the carriage return anyway.
+    /// Returns the line without the carriage return at its end, as lines end on Windows. A field is
+    /// cut without it anyway.
     fn without_return<'a>(&self, line: &'a [u8]) -> &'a [u8] {
         if self.choices.field.is_some() || self.end != b'\n' {
             return line;

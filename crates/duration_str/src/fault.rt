@@ -31,7 +31,7 @@ pub struct Fault<'a> {
 impl<'a> Fault<'a> {
     ghost use Rattle.duration_str.specs.Faults.{IsMissingAtEnd};
 
-    /// The whole refused text. For the cause `NotText` it is empty.
+    /// Returns the whole refused text. For the cause `NotText` it is empty.
     ///
     /// ```
     /// use duration_str::{Options, parse_with};
@@ -45,7 +45,7 @@ impl<'a> Fault<'a> {
         self.text
     }
 
-    /// Why the text is refused.
+    /// Returns why the text is refused.
     ///
     /// ```
     /// use duration_str::{Cause, Options, parse_with};

@@ -6,6 +6,7 @@ ghost use Rattle.duration_str_c.specs.Answers.{cause_number, bits_of, expected_b
 
 use duration_str::{Cause, CondUnit, Expected, Fault, Options};
 
+// The numbers of causes.
 const EMPTY: u32 = 1;
 
 const SYNTAX: u32 = 2;
@@ -22,6 +23,7 @@ const NOT_TEXT: u32 = 7;
 
 const UNKNOWN_OPTION: u32 = 8;
 
+// The bits of what could stand at the place of a syntax fault.
 const NUMBER: u32 = 1;
 
 const UNIT: u32 = 2;

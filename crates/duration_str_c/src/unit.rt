@@ -10,8 +10,8 @@ use duration_str::{Options, TimeUnit};
 
 /// Returns the number of the unit with this name: its index in `UNITS`, from 0 for the year to 10
 /// for the nanosecond. The name is read with all options off, so its ASCII letters may be capitals,
-/// and Chinese names are not known. If no unit has this name, or if the bytes are not UTF-8,
-/// returns -1.
+/// and the names that options add are not known, such as the Chinese ones and `mins`. If no unit
+/// has this name, or if the bytes are not UTF-8, returns -1.
 pub fn duration_str_unit(name: &[u8]) -> i32
     ensures unit { IsUtf8 name.now
         → result ≡ number_of (unit_of_word (rules_of off) (chars name.now)) }

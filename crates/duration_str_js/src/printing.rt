@@ -48,7 +48,7 @@ pub fn print(
 /// Counts the parts of a duration of this many nanoseconds, in the units and parts and with the
 /// rounding of `print`. Returns the set of the units that have a part. Writes their counts, each at
 /// the index of its unit in `UNITS`, and the nanoseconds that no part has. The other counts are
-/// unchanged. Of each number 64 bits are written.
+/// unchanged. The lowest 64 bits of each number are written.
 ///
 /// If the result is `None`, as that of `print`, nothing is written.
 pub fn count(

@@ -23,7 +23,7 @@ pub struct Fault<'a> {
 }
 
 impl<'a> Fault<'a> {
-    /// The whole refused text. For the cause `NotText` it is empty.
+    /// Returns the whole refused text. For the cause `NotText` it is empty.
     ///
     /// ```
     /// use duration_str_core::{Options, parse_with};
@@ -35,7 +35,7 @@ impl<'a> Fault<'a> {
         self.text
     }
 
-    /// Why the text is refused.
+    /// Returns why the text is refused.
     ///
     /// ```
     /// use duration_str_core::{Cause, Options, parse_with};
