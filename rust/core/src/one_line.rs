@@ -273,7 +273,7 @@ fn hex_digit(digit: u32) -> u8 {
     }
 }
 
-/// Returns how many digits a number below 2^24 has to the base 16.
+/// Returns how many digits a number below 2^20 has to the base 16.
 fn hex_len(n: u32) -> usize {
     if n < 0x10 {
         1
@@ -283,10 +283,8 @@ fn hex_len(n: u32) -> usize {
         3
     } else if n < 0x1_0000 {
         4
-    } else if n < 0x10_0000 {
-        5
     } else {
-        6
+        5
     }
 }
 
