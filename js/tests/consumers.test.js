@@ -329,7 +329,7 @@ function bundle(lines, ...words) {
     return runs("esbuild", "lines.mjs", "--bundle", "--log-level=error", ...words);
 }
 
-const PARTS = ["vectors", "refused", "allowed", "plain", "worker"];
+const PARTS = ["vectors", "refused", "allowed", "plain", "recipe", "worker"];
 const PAGE = `<script>
 const said = {};
 const hear = ({ data: [part, words] }) => {
@@ -352,6 +352,16 @@ for (const each of self.Temporal ? [counted, parts(0n)] : []) {
     said += \` \${Temporal.Duration.from(each)}\`;
 }
 self.onmessage = (event) => event.source.postMessage(["worker", said]);`;
+
+/** README's program for `Intl.DurationFormat`, which Node 20 lacks, and what it prints. */
+function recipe() {
+    const readme = readFileSync(join(PACKAGE, "README.md"), "utf8");
+    const blocks = /^```js DurationFormat\n(.*?)^```\n^```console\n\$ node intl\.mjs\n(.*?)^```/ms;
+    const [, program, printed] = readme.match(blocks);
+    const told = 'parent.postMessage(["recipe", lines.join("")], "*");';
+    const lines = program.replaceAll(/console\.log\((.*)\);/g, "lines.push($1, '\\n');");
+    return { program: `const lines = [];\n${lines}\n${told}`, printed };
+}
 
 const hourIn = (part, from) => `import { parseNs } from "${from}";
 let said = "started ";
@@ -408,6 +418,8 @@ function browserFiles() {
         "allowed.js": bundle(hourIn("allowed", "duration-str")),
         "plain.html": [frame("plain"), strict],
         "plain.js": bundle(hourIn("plain", "duration-str/plain")),
+        "recipe.html": frame("recipe"),
+        "recipe.js": bundle(recipe().program),
     };
 }
 
@@ -423,6 +435,7 @@ for (const [name, words] of Object.entries(BROWSERS)) {
         assert.match(said.refused, refused);
         const hour = "started 3600000000000";
         assert.deepEqual([said.allowed, said.plain], [hour, hour]);
+        assert.equal(said.recipe, recipe().printed);
         assert.match(said.worker, RegExp(`^${SAID} 1 hr, 30 min( PT1H30M PT0S)?$`));
     });
 }
