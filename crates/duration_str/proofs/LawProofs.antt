@@ -13,7 +13,15 @@ pub mod ReadsBack
 pub mod OlderTexts
 pub mod AllParts
 pub mod NearWords
+pub mod MendedTokens
+pub mod MendedNames
+pub mod MendedNumbers
+pub mod MendedHelp
+pub mod MendedBytes
+pub mod MendedPlaces
+pub mod MendedTerms
 pub mod Mended
+pub mod MendedFractions
 pub mod NeverMore
 pub mod Rounding
 pub mod PartsAndRest

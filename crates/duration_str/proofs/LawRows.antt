@@ -1,9 +1,9 @@
 -- Rows of clauses of laws that no caller in `uses` needs: what follows from each in one case. A
 -- clause that said less would be refused here.
-use Rattle.std.specs.Prelude.{◌≡◌, ◌≢◌, ℕ, ◌+◌, ◌<◌, ◌≤◌, List, [], ◌∷◌, ◌++◌, chars, length, map, None, Some, codes, true}
+use Rattle.std.specs.Prelude.{◌≡◌, ◌≢◌, ℕ, ◌*◌, ◌+◌, ◌<◌, ◌≤◌, List, [], ◌∷◌, ◌++◌, length, map, None, Some, codes, true}
 use Rattle.std.specs.Duration.{FitsDuration}
 use Rattle.duration_str.specs.Laws.{HasNoChinese, OlderTexts, OneRounding, OptionsIdle, PlaceAndKinds}
-use Rattle.duration_str.specs.Mended.{MendedTexts}
+use Rattle.duration_str.specs.Mended.{IsFraction, MendedFractions, MendedTexts}
 use Rattle.duration_str.specs.Options.{off}
 use Rattle.duration_str.specs.Reading.{IsRead, IsRefused}
 use Rattle.duration_str.specs.Answer.{last_of}
@@ -23,9 +23,10 @@ use Rattle.duration_str.specs.declared.cause.Cause.TheVariants.{Syntax}
 use Rattle.duration_str.specs.declared.cause.Expected.{Expected}
 use Rattle.duration_str.specs.declared.rules.Rules.{Rules as CodeRules}
 use Rattle.duration_str.specs.declared.table.UnitTable.TheVariants.{Own}
-use Rattle.duration_str.specs.declared.unit.TimeUnit.TheVariants.{Second}
+use Rattle.duration_str.specs.declared.unit.TimeUnit.TheVariants.{Hour, Second}
 use Rattle.duration_str.specs.declared.operator.CondUnit.TheVariants.{Plus, Star}
 use Rattle.duration_str.specs.declared.rounding.Rounding.TheVariants.{Nearest, Up}
+use Rattle.std.specs.Str.{chars}
 use lib.Utf8.{encode}
 
 abbrev one_part : Format
@@ -88,11 +89,32 @@ older_sentence_is_a_sentence lexemes law = law.sentence off lexemes (codes "1m")
 abbrev own_rules : CodeRules
 own_rules = record { table = Own; default_unit = Some Second; options = off }
 
-pub mended_text_fails_after_the_name : (new : Pieces) (later : ℕ) (cause : Cause) (others : Expected) → MendedTexts
-    → IsRefused (meaning_of own_rules) (chars (codes "5 mins 3 hrs")) cause
-    → mended_of (codes "5 mins 3 hrs") cause ≡ Some new
-    → IsRefused (meaning_of own_rules) (chars (new.front ++ (new.name ++ new.rest))) (Syntax later others)
-    → length new.front + length new.name ≤ later
+pub mended_text_fails_past_what_is_written : (new : Pieces) (later : ℕ) (cause : Cause) (others : Expected) → MendedTexts
+    → IsRefused (meaning_of own_rules) (chars (codes "1.5h 3 hrs")) cause
+    → mended_of (meaning_of own_rules) (codes "1.5h 3 hrs") cause ≡ Some new
+    → IsRefused (meaning_of own_rules) (chars (new.front ++ (new.written ++ new.rest))) (Syntax later others)
+    → length new.front + length new.written ≤ later
 unfolding encode
-mended_text_fails_after_the_name new later cause others law refused is =
-    law own_rules (codes "5 mins 3 hrs") cause new (codes "5 mins 3 hrs", (refl, refl)) refused is later others
+mended_text_fails_past_what_is_written new later cause others law refused is =
+    law own_rules (codes "1.5h 3 hrs") cause new (codes "1.5h 3 hrs", (refl, refl)) refused is later others
+
+hour_and_a_half : IsFraction own_rules (codes "1.50 h") (codes "1") (codes "50") Hour
+unfolding chars
+hour_and_a_half = record {
+  blanks = codes " ";
+  word = codes "h";
+  parts = refl;
+  whole_digits = refl;
+  decimal_digits = refl;
+  blank = refl;
+  means = refl;
+}
+
+pub mended_fraction_is_read_as_its_value : (new : Pieces) (cause : Cause) → MendedFractions
+    → IsRefused (meaning_of own_rules) (chars (codes "1.50 h")) cause
+    → mended_of (meaning_of own_rules) (codes "1.50 h") cause ≡ Some new
+    → (nanos : ℕ) × IsRead (meaning_of own_rules) (chars (new.front ++ (new.written ++ new.rest))) nanos
+    × (nanos * 100 ≡ 150 * 3_600_000_000_000)
+unfolding encode
+mended_fraction_is_read_as_its_value new cause law refused is =
+    law own_rules (codes "1.50 h") (codes "1") (codes "50") Hour cause new (codes "1.50 h", (refl, refl)) hour_and_a_half refused is

@@ -7,6 +7,7 @@ pub mod PrintingLemmas
 pub mod DigitLemmas
 pub mod PrintedBytesLemmas
 pub mod FormatLemmas
+pub mod FractionLemmas
 pub mod BreakdownLemmas
 pub mod SetLemmas
 pub mod SpacedLemmas

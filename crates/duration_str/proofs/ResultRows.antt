@@ -12,8 +12,8 @@ use Rattle.duration_str.specs.Breakdown.{AreParts, ArePartsRounded, nanos_left, 
 use Rattle.duration_str.specs.Dates.{IsCivilDay, IsDateFault, last_instant}
 use Rattle.duration_str.specs.Iteration.{cut_place, IsCutAt, source, YieldsNextToken}
 use Rattle.duration_str.specs.Messages.{IsErrorOf}
-use Rattle.duration_str.specs.OneLine.{HasPieces, Pieces}
-use Rattle.duration_str.specs.declared.help.Mended.{Mended}
+use Rattle.duration_str.specs.OneLine.{HasPieces, Pieces, suggestion_text}
+use Rattle.duration_str.specs.declared.mended.Mended.{Mended}
 use Rattle.duration_str.specs.Options.{off}
 use Rattle.duration_str.specs.OtherResults.{ReachesPlace}
 use Rattle.duration_str.specs.Reading.{IsRefused}
@@ -114,5 +114,10 @@ pub no_pieces : (pieces : Option Pieces) → HasPieces pieces None → pieces �
 no_pieces pieces is = is
 
 pub has_these_pieces : (pieces : Option Pieces) (new : Mended) → HasPieces pieces (Some new)
-    → pieces ≡ Some (record { front = new.front.now; word = new.word.now; name = new.name.now; rest = new.rest.now })
+    → pieces ≡ Some (record {
+      front = new.front.now;
+      replaced = new.replaced.now;
+      written = suggestion_text new.suggestion;
+      rest = new.rest.now;
+    })
 has_these_pieces pieces new is = is

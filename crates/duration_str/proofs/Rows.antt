@@ -8,7 +8,7 @@ use Rattle.duration_str.specs.Breakdown.{sum_of_parts}
 use Rattle.duration_str.specs.Rounding.{IsNearest, IsRoundedDown, IsRoundedUp, NoneAbove}
 use Rattle.duration_str.specs.Format.{chosen, intersection, counts_within, down_to, is_in, lengths_within, set_of, shorter_units, text_within, up_to, whole_format, without_unit}
 use Rattle.duration_str.specs.Humantime.{humantime_row_of, humantime_rules}
-use Rattle.duration_str.specs.OneLine.{help_number, is_letter, is_plain, mended_of, one_line_of, Pieces, suggestion_of}
+use Rattle.duration_str.specs.OneLine.{help_number, is_letter, is_plain, mended_of, one_line_of, Pieces}
 use Rattle.duration_str.specs.declared.help.Help.{Help}
 use Rattle.duration_str.specs.declared.help.Help.TheVariants.{Brackets, ClockTime, DidYouMean, DigitsOnly, Division, Fraction, Iso8601, LargeNumber, LeadingPlus, MissingUnit, Negative, NoPoint, OneDuration, QuotationMarks, Units as UnitsHelp, Zero}
 use Rattle.duration_str.specs.Report.{report_of}
@@ -482,160 +482,168 @@ ranges largest = each_unit (IsRange largest) (each_range largest)
 abbrev long_word : List ℕ
 long_word = replicate 41 0x1F600
 
+-- the line of a text that is refused with all options off
+abbrev line : List ℕ → Cause → List ℕ
+line text cause = one_line_of (rules_of off) text cause
+
 pub record Lines : Type 0 where
   -- ---- What is wrong with the text
-  pub line-empty : one_line_of [] Empty ≡ codes "empty text"
-  pub line-too_large : one_line_of (codes "  18446744073709551616s") (NumberTooLarge (Some 0))
+  pub line-empty : line [] Empty ≡ codes "empty text"
+  pub line-too_large : line (codes "  18446744073709551616s") (NumberTooLarge (Some 0))
       ≡ codes "number of 2^64 or more in \"  18446744073709551616s\""
-  pub line-overflow : one_line_of (codes "600y") (Overflow (Some 0)) ≡ codes "duration of over 584 years in \"600y\""
-  pub line-number_alone : one_line_of (codes " 1700000000000000000") (Overflow (Some 0))
+  pub line-overflow : line (codes "600y") (Overflow (Some 0)) ≡ codes "duration of over 584 years in \"600y\""
+  pub line-number_alone : line (codes " 1700000000000000000") (Overflow (Some 0))
       ≡ codes "duration of over 584 years in \" 1700000000000000000\" (write the number's unit, such as ns)"
-  pub line-step : one_line_of (codes "1ns*20000000000") (Overflow None)
+  pub line-step : line (codes "1ns*20000000000") (Overflow None)
       ≡ codes "step of over 584 years in \"1ns*20000000000\""
-  pub line-mixed : one_line_of (codes "2*1h 30m") (Mixed Star Plus) ≡ codes "sum and product mixed in \"2*1h 30m\""
-  pub line-date : one_line_of [] OutOfRange ≡ codes "date out of range"
+  pub line-mixed : line (codes "2*1h 30m") (Mixed Star Plus) ≡ codes "sum and product mixed in \"2*1h 30m\""
+  pub line-date : line [] OutOfRange ≡ codes "date out of range"
   -- ---- What was expected, and what stands there
-  pub line-sign_between : one_line_of (codes "3ms-2ms") (Syntax 3 after_unit)
+  pub line-sign_between : line (codes "3ms-2ms") (Syntax 3 after_unit)
       ≡ codes "expected a number, '+', '*' or the end at column 4, found \"-\""
-  pub line-end : one_line_of (codes "3+") (Syntax 2 number_alone) ≡ codes "expected a number at column 3, found the end"
-  pub line-digits : one_line_of (encode_utf8_all (codes "1µs 2 345")) (Syntax 7 after_number-no_calc)
+  pub line-end : line (codes "3+") (Syntax 2 number_alone) ≡ codes "expected a number at column 3, found the end"
+  pub line-digits : line (encode_utf8_all (codes "1µs 2 345")) (Syntax 7 after_number-no_calc)
       ≡ codes "expected a unit or the end at column 7, found \"345\""
-  pub line-digits_alone : one_line_of (codes "1 2x") (Syntax 2 after_number)
+  pub line-digits_alone : line (codes "1 2x") (Syntax 2 after_number)
       ≡ codes "expected a unit, '+', '*' or the end at column 3, found \"2\""
-  pub line-letters : one_line_of (encode_utf8_all (codes "1h 时x2")) (Syntax 3 after_unit-no_calc)
+  pub line-letters : line (encode_utf8_all (codes "1h 时x2")) (Syntax 3 after_unit-no_calc)
       ≡ encode_utf8_all (codes "expected a number or the end at column 4, found \"时x\"")
-  pub line-sign_beyond_ascii : one_line_of (encode_utf8_all (codes "1：30")) (Syntax 1 after_number)
+  pub line-sign_beyond_ascii : line (encode_utf8_all (codes "1：30")) (Syntax 1 after_number)
       ≡ encode_utf8_all (codes "expected a unit, '+', '*' or the end at column 2, found \"：\"")
   -- ---- Escapes, and what is cut off
-  pub line-escape : one_line_of (49 ∷ 27 ∷ []) (Syntax 1 after_number)
+  pub line-escape : line (49 ∷ 27 ∷ []) (Syntax 1 after_number)
       ≡ codes "expected a unit, '+', '*' or the end at column 2, found \"\\u{1b}\""
-  pub line-quote : one_line_of (codes "1m\"") (Syntax 2 after_unit)
+  pub line-quote : line (codes "1m\"") (Syntax 2 after_unit)
       ≡ codes "expected a number, '+', '*' or the end at column 3, found \"\\\"\""
-  pub line-hidden : one_line_of (encode_utf8_all (49 ∷ 0xAD ∷ [])) (Syntax 1 after_number)
+  pub line-hidden : line (encode_utf8_all (49 ∷ 0xAD ∷ [])) (Syntax 1 after_number)
       ≡ codes "expected a unit, '+', '*' or the end at column 2, found \"\\u{ad}\""
-  pub line-wide_blank : one_line_of (encode_utf8_all (49 ∷ 0x3000 ∷ codes "m")) (Syntax 1 after_number)
+  pub line-wide_blank : line (encode_utf8_all (49 ∷ 0x3000 ∷ codes "m")) (Syntax 1 after_number)
       ≡ codes "expected a unit, '+', '*' or the end at column 2, found \"\\u{3000}\""
-  pub line-blanks : one_line_of (9 ∷ 13 ∷ 10 ∷ codes "600y") (Overflow (Some 0))
+  pub line-blanks : line (9 ∷ 13 ∷ 10 ∷ codes "600y") (Overflow (Some 0))
       ≡ codes "duration of over 584 years in \"\\t\\r\\n600y\""
-  pub line-tags : one_line_of (encode_utf8_all (codes "585y" ++ replicate 5 0xE0041)) (Overflow (Some 0))
+  pub line-tags : line (encode_utf8_all (codes "585y" ++ replicate 5 0xE0041)) (Overflow (Some 0))
       ≡ codes "duration of over 584 years in \"585y\\u{e0041}\\u{e0041}\\u{e0041}\\u{e0041}\"..."
-  pub line-forty : one_line_of (replicate 40 57) (NumberTooLarge (Some 0))
+  pub line-forty : line (replicate 40 57) (NumberTooLarge (Some 0))
       ≡ codes "number of 2^64 or more in \"9999999999999999999999999999999999999999\""
-  pub line-longest : one_line_of (encode_utf8_all (49 ∷ long_word)) (Syntax 1 after_number)
+  pub line-longest : line (encode_utf8_all (49 ∷ long_word)) (Syntax 1 after_number)
       ≡ encode_utf8_all (codes "unknown unit \"" ++ replicate 40 0x1F600
       ++ codes "\"... at column 2 (write y, q, mon, w, d, h, min, s, ms, us or ns)")
   -- ---- Help with a unit
-  pub line-near : one_line_of (codes "1h 5 mins") (Syntax 5 after_number)
+  pub line-near : line (codes "1h 5 mins") (Syntax 5 after_number)
       ≡ codes "unknown unit \"mins\" at column 6 (did you mean \"min\"?)"
-  pub line-capitals : one_line_of (codes "2 MONS") (Syntax 2 after_number)
+  pub line-capitals : line (codes "2 MONS") (Syntax 2 after_number)
       ≡ codes "unknown unit \"MONS\" at column 3 (did you mean \"mon\"?)"
-  pub line-small_mo : one_line_of (codes "3mo") (Syntax 1 after_number)
+  pub line-small_mo : line (codes "3mo") (Syntax 1 after_number)
       ≡ codes "unknown unit \"mo\" at column 2 (did you mean \"mon\"?)"
-  pub line-small_mos : one_line_of (codes "3mos") (Syntax 1 after_number)
+  pub line-small_mos : line (codes "3mos") (Syntax 1 after_number)
       ≡ codes "unknown unit \"mos\" at column 2 (did you mean \"mon\"?)"
-  pub line-capital_mo : one_line_of (codes "3Mo") (Syntax 1 after_number)
+  pub line-capital_mo : line (codes "3Mo") (Syntax 1 after_number)
       ≡ codes "unknown unit \"Mo\" at column 2 (write y, q, mon, w, d, h, min, s, ms, us or ns)"
-  pub line-ascii : one_line_of (codes "5 micros") (Syntax 2 after_number)
+  pub line-ascii : line (codes "5 micros") (Syntax 2 after_number)
       ≡ codes "unknown unit \"micros\" at column 3 (did you mean \"us\"?)"
-  pub line-micro_sign : one_line_of (encode_utf8_all (codes "5 µsecs")) (Syntax 2 after_number)
+  pub line-micro_sign : line (encode_utf8_all (codes "5 µsecs")) (Syntax 2 after_number)
       ≡ encode_utf8_all (codes "unknown unit \"µsecs\" at column 3 (did you mean \"us\"?)")
-  pub line-greek_mu : one_line_of (encode_utf8_all (codes "5 μS")) (Syntax 2 after_number)
+  pub line-greek_mu : line (encode_utf8_all (codes "5 μS")) (Syntax 2 after_number)
       ≡ encode_utf8_all (codes "unknown unit \"μS\" at column 3 (did you mean \"us\"?)")
   -- ---- Help with a notation
-  pub line-point : one_line_of (codes "1.5h") (Syntax 1 after_number)
-      ≡ codes "expected a unit, '+', '*' or the end at column 2, found \".\" (numbers have digits only: write 1500ms for 1.5s)"
-  pub line-point_after_unit : one_line_of (codes "5 min.") (Syntax 5 after_unit)
+  pub line-fraction : line (codes "1.5h") (Syntax 1 after_number)
+      ≡ codes "expected a unit, '+', '*' or the end at column 2, found \".\" (fractions are not read: write 90min)"
+  pub line-fraction_of_any_unit : one_line_of (humantime_rules off) (codes "0.5y") (Syntax 1 unit_alone)
+      ≡ codes "expected a unit at column 2, found \".\" (fractions are not read: write 4383h)"
+  pub line-fraction_without_a_mend : line (codes "0.3ns") (Syntax 1 after_number)
+      ≡ codes "expected a unit, '+', '*' or the end at column 2, found \".\" (numbers have digits only)"
+  pub line-point_after_unit : line (codes "5 min.") (Syntax 5 after_unit)
       ≡ codes "expected a number, '+', '*' or the end at column 6, found \".\" (units have no point)"
-  pub line-point_after_chinese : one_line_of (encode_utf8_all (codes "1分.")) (Syntax 4 after_unit)
+  pub line-point_after_chinese : line (encode_utf8_all (codes "1分.")) (Syntax 4 after_unit)
       ≡ codes "expected a number, '+', '*' or the end at column 3, found \".\" (units have no point)"
-  pub line-point_alone : one_line_of (codes "5 .") (Syntax 2 after_number)
+  pub line-point_alone : line (codes "5 .") (Syntax 2 after_number)
       ≡ codes "expected a unit, '+', '*' or the end at column 3, found \".\""
-  pub line-point_after_a_blank : one_line_of (codes "5 .5h") (Syntax 2 after_number)
-      ≡ codes "expected a unit, '+', '*' or the end at column 3, found \".\" (numbers have digits only: write 1500ms for 1.5s)"
-  pub line-point_between : one_line_of (codes "5m.5s") (Syntax 2 after_unit)
+  pub line-point_after_a_blank : line (codes "5 .5h") (Syntax 2 after_number)
+      ≡ codes "expected a unit, '+', '*' or the end at column 3, found \".\" (numbers have digits only)"
+  pub line-point_between : line (codes "5m.5s") (Syntax 2 after_unit)
       ≡ codes "expected a number, '+', '*' or the end at column 3, found \".\" (units have no point)"
-  pub line-comma : one_line_of (codes "1,000ms") (Syntax 1 after_number)
+  pub line-comma : line (codes "1,000ms") (Syntax 1 after_number)
       ≡ codes "expected a unit, '+', '*' or the end at column 2, found \",\" (numbers have digits only)"
-  pub line-underscore : one_line_of (codes "1_000ms") (Syntax 1 after_number)
+  pub line-underscore : line (codes "1_000ms") (Syntax 1 after_number)
       ≡ codes "expected a unit, '+', '*' or the end at column 2, found \"_\" (numbers have digits only)"
-  pub line-apostrophe_between : one_line_of (codes "1'000ms") (Syntax 1 after_number)
+  pub line-apostrophe_between : line (codes "1'000ms") (Syntax 1 after_number)
       ≡ codes "expected a unit, '+', '*' or the end at column 2, found \"'\" (numbers have digits only)"
-  pub line-exponent : one_line_of (codes "1e3s") (Syntax 1 after_number)
+  pub line-exponent : line (codes "1e3s") (Syntax 1 after_number)
       ≡ codes "unknown unit \"e\" at column 2 (numbers have digits only)"
-  pub line-exponent_below_zero : one_line_of (codes "5e-3s") (Syntax 1 after_number-no_calc)
+  pub line-exponent_below_zero : line (codes "5e-3s") (Syntax 1 after_number-no_calc)
       ≡ codes "unknown unit \"e\" at column 2 (numbers have digits only)"
-  pub line-exponent_with_plus : one_line_of (codes "2E+5ms") (Syntax 1 after_number)
+  pub line-exponent_with_plus : line (codes "2E+5ms") (Syntax 1 after_number)
       ≡ codes "unknown unit \"E\" at column 2 (numbers have digits only)"
-  pub line-exponent_alone : one_line_of (codes "1e") (Syntax 1 after_number)
+  pub line-exponent_alone : line (codes "1e") (Syntax 1 after_number)
       ≡ codes "unknown unit \"e\" at column 2 (write y, q, mon, w, d, h, min, s, ms, us or ns)"
-  pub line-exponent_after_a_blank : one_line_of (codes "1 e3") (Syntax 2 after_number)
+  pub line-exponent_after_a_blank : line (codes "1 e3") (Syntax 2 after_number)
       ≡ codes "unknown unit \"e\" at column 3 (write y, q, mon, w, d, h, min, s, ms, us or ns)"
-  pub line-clock : one_line_of (codes "1:30") (Syntax 1 after_number)
+  pub line-clock : line (codes "1:30") (Syntax 1 after_number)
       ≡ codes "expected a unit, '+', '*' or the end at column 2, found \":\" (clock times are not read: write 1h 30m or 1m 30s)"
-  pub line-colon_alone : one_line_of (codes "1:") (Syntax 1 after_number)
+  pub line-colon_alone : line (codes "1:") (Syntax 1 after_number)
       ≡ codes "expected a unit, '+', '*' or the end at column 2, found \":\""
-  pub line-minus : one_line_of (codes " -5m") (Syntax 1 number_alone)
+  pub line-minus : line (codes " -5m") (Syntax 1 number_alone)
       ≡ codes "expected a number at column 2, found \"-\" (negative durations are not read)"
-  pub line-minus_point : one_line_of (codes "-.5s") (Syntax 0 number_alone)
+  pub line-minus_point : line (codes "-.5s") (Syntax 0 number_alone)
       ≡ codes "expected a number at column 1, found \"-\" (negative durations are not read)"
-  pub line-plus : one_line_of (codes "\t+1h") (Syntax 1 number_alone)
+  pub line-plus : line (codes "\t+1h") (Syntax 1 number_alone)
       ≡ codes "expected a number at column 2, found \"+\" (a leading \"+\" is not read)"
-  pub line-plus_point : one_line_of (codes "+.5s") (Syntax 0 number_alone)
+  pub line-plus_point : line (codes "+.5s") (Syntax 0 number_alone)
       ≡ codes "expected a number at column 1, found \"+\" (a leading \"+\" is not read)"
-  pub line-plus_blank : one_line_of (codes "+ 1h") (Syntax 0 number_alone)
+  pub line-plus_blank : line (codes "+ 1h") (Syntax 0 number_alone)
       ≡ codes "expected a number at column 1, found \"+\""
-  pub line-plus_later : one_line_of (codes "1++2") (Syntax 2 number_alone)
+  pub line-plus_later : line (codes "1++2") (Syntax 2 number_alone)
       ≡ codes "expected a number at column 3, found \"+\""
-  pub line-other_first : one_line_of (codes "*5m") (Syntax 0 number_alone)
+  pub line-other_first : line (codes "*5m") (Syntax 0 number_alone)
       ≡ codes "expected a number at column 1, found \"*\""
-  pub line-bracket : one_line_of (codes "(5m") (Syntax 0 number_alone)
+  pub line-bracket : line (codes "(5m") (Syntax 0 number_alone)
       ≡ codes "expected a number at column 1, found \"(\" (brackets are not read)"
-  pub line-bracket_later : one_line_of (codes "5m)") (Syntax 2 after_unit)
+  pub line-bracket_later : line (codes "5m)") (Syntax 2 after_unit)
       ≡ codes "expected a number, '+', '*' or the end at column 3, found \")\" (brackets are not read)"
-  pub line-slash : one_line_of (codes "1/2h") (Syntax 1 after_number)
+  pub line-slash : line (codes "1/2h") (Syntax 1 after_number)
       ≡ codes "expected a unit, '+', '*' or the end at column 2, found \"/\" (division is not read)"
-  pub line-slash_without_a_unit : one_line_of (codes "90 / 2") (Syntax 3 unit_alone)
+  pub line-slash_without_a_unit : line (codes "90 / 2") (Syntax 3 unit_alone)
       ≡ codes "expected a unit at column 4, found \"/\" (division is not read)"
-  pub line-quotation_mark : one_line_of (codes " \"5m\"") (Syntax 1 number_alone)
+  pub line-quotation_mark : line (codes " \"5m\"") (Syntax 1 number_alone)
       ≡ codes "expected a number at column 2, found \"\\\"\" (quotation marks are not read)"
-  pub line-apostrophe : one_line_of (codes "'5m'") (Syntax 0 number_alone)
+  pub line-apostrophe : line (codes "'5m'") (Syntax 0 number_alone)
       ≡ codes "expected a number at column 1, found \"'\" (quotation marks are not read)"
-  pub line-quotation_mark_later : one_line_of (codes "5m\"") (Syntax 2 after_unit)
+  pub line-quotation_mark_later : line (codes "5m\"") (Syntax 2 after_unit)
       ≡ codes "expected a number, '+', '*' or the end at column 3, found \"\\\"\""
-  pub line-iso : one_line_of (codes "Pt5M") (Syntax 0 number_alone)
+  pub line-iso : line (codes "Pt5M") (Syntax 0 number_alone)
       ≡ codes "expected a number at column 1, found \"Pt\" (ISO 8601 is not read: write 1mon 30m for P1MT30M)"
-  pub line-iso_day : one_line_of (codes "p1D") (Syntax 0 number_alone)
+  pub line-iso_day : line (codes "p1D") (Syntax 0 number_alone)
       ≡ codes "expected a number at column 1, found \"p\" (ISO 8601 is not read: write 1mon 30m for P1MT30M)"
-  pub line-iso_point : one_line_of (codes "P.5D") (Syntax 0 number_alone)
+  pub line-iso_point : line (codes "P.5D") (Syntax 0 number_alone)
       ≡ codes "expected a number at column 1, found \"P\""
-  pub line-comma_between : one_line_of (codes "1h, 30m") (Syntax 2 after_unit)
+  pub line-comma_between : line (codes "1h, 30m") (Syntax 2 after_unit)
       ≡ codes "expected a number, '+', '*' or the end at column 3, found \",\" (one duration is read, without \",\" or \"and\")"
-  pub line-comma_after_an_operator : one_line_of (codes "1h + ,") (Syntax 5 number_alone)
+  pub line-comma_after_an_operator : line (codes "1h + ,") (Syntax 5 number_alone)
       ≡ codes "expected a number at column 6, found \",\""
-  pub line-and : one_line_of (codes "1h And 30m") (Syntax 3 after_unit-no_calc)
+  pub line-and : line (codes "1h And 30m") (Syntax 3 after_unit-no_calc)
       ≡ codes "expected a number or the end at column 4, found \"And\" (one duration is read, without \",\" or \"and\")"
-  pub line-ampersand : one_line_of (codes "1h & 30m") (Syntax 3 after_unit)
+  pub line-ampersand : line (codes "1h & 30m") (Syntax 3 after_unit)
       ≡ codes "expected a number, '+', '*' or the end at column 4, found \"&\" (one duration is read, without \",\" or \"and\")"
-  pub line-and_a_unit : one_line_of (codes "5 & 3") (Syntax 2 after_number)
+  pub line-and_a_unit : line (codes "5 & 3") (Syntax 2 after_number)
       ≡ codes "expected a unit, '+', '*' or the end at column 3, found \"&\""
   -- ---- Help with a number that lacks its unit
-  pub line-unit_alone : one_line_of (codes "1h 30") (Syntax 5 unit_alone)
+  pub line-unit_alone : line (codes "1h 30") (Syntax 5 unit_alone)
       ≡ codes "expected a unit at column 6, found the end (write the number's unit: y, q, mon, w, d, h, min, s, ms, us or ns)"
-  pub line-unit_before_a_sign : one_line_of (codes "90+1") (Syntax 2 unit_alone)
+  pub line-unit_before_a_sign : line (codes "90+1") (Syntax 2 unit_alone)
       ≡ codes "expected a unit at column 3, found \"+\" (write the number's unit: y, q, mon, w, d, h, min, s, ms, us or ns)"
-  pub line-zeros : one_line_of (codes " 00\t") (Syntax 4 unit_alone)
+  pub line-zeros : line (codes " 00\t") (Syntax 4 unit_alone)
       ≡ codes "expected a unit at column 5, found the end (write 0s)"
-  pub line-zero_after_zero : one_line_of (codes "0 0") (Syntax 2 unit_alone)
+  pub line-zero_after_zero : line (codes "0 0") (Syntax 2 unit_alone)
       ≡ codes "expected a unit at column 3, found \"0\" (write 0s)"
-  pub line-number_after_zero : one_line_of (codes "0 5") (Syntax 2 unit_alone)
+  pub line-number_after_zero : line (codes "0 5") (Syntax 2 unit_alone)
       ≡ codes "expected a unit at column 3, found \"5\" (write the number's unit: y, q, mon, w, d, h, min, s, ms, us or ns)"
-  pub line-zero_after_a_unit : one_line_of (codes "1h 0") (Syntax 4 unit_alone)
+  pub line-zero_after_a_unit : line (codes "1h 0") (Syntax 4 unit_alone)
       ≡ codes "expected a unit at column 5, found the end (write the number's unit: y, q, mon, w, d, h, min, s, ms, us or ns)"
-  pub line-unit_or_the_end : one_line_of (codes "0 0") (Syntax 2 after_number-no_calc)
+  pub line-unit_or_the_end : line (codes "0 0") (Syntax 2 after_number-no_calc)
       ≡ codes "expected a unit or the end at column 3, found \"0\""
-  pub line-clock_without_a_unit : one_line_of (codes "0:00") (Syntax 1 unit_alone)
+  pub line-clock_without_a_unit : line (codes "0:00") (Syntax 1 unit_alone)
       ≡ codes "expected a unit at column 2, found \":\" (clock times are not read: write 1h 30m or 1m 30s)"
-  pub line-letters_after_zero : one_line_of (codes "0 x") (Syntax 2 unit_alone)
+  pub line-letters_after_zero : line (codes "0 x") (Syntax 2 unit_alone)
       ≡ codes "unknown unit \"x\" at column 3 (write y, q, mon, w, d, h, min, s, ms, us or ns)"
 
 pub lines : Lines
@@ -644,47 +652,122 @@ lines = assumption
 
 -- ---- Helps as values
 
-abbrev helps_without_a_name : List Help
-helps_without_a_name =
+abbrev other_helps : List Help
+other_helps =
     UnitsHelp ∷ Fraction ∷ DigitsOnly ∷ ClockTime ∷ Negative ∷ LeadingPlus ∷ Iso8601 ∷ OneDuration ∷ NoPoint ∷ Brackets
     ∷ Division ∷ QuotationMarks ∷ MissingUnit ∷ Zero ∷ LargeNumber ∷ []
 
 pub record Helps : Type 0 where
-  pub numbers : map help_number (DidYouMean Minute ∷ helps_without_a_name)
+  pub numbers : map help_number (DidYouMean Minute ∷ other_helps)
       ≡ 1 ∷ 2 ∷ 3 ∷ 4 ∷ 5 ∷ 6 ∷ 7 ∷ 8 ∷ 9 ∷ 10 ∷ 11 ∷ 12 ∷ 13 ∷ 14 ∷ 15 ∷ 16 ∷ []
-  pub names : map (λ u. suggestion_of (DidYouMean u)) units
-      ≡ map (λ name. Some name) (codes "y" ∷ codes "q" ∷ codes "mon" ∷ codes "w" ∷ codes "d" ∷ codes "h" ∷ codes "min"
-      ∷ codes "s" ∷ codes "ms" ∷ codes "us" ∷ codes "ns" ∷ [])
-  pub no_names : map suggestion_of helps_without_a_name ≡ replicate 15 None
 
 pub helps : Helps
-unfolding encode
 helps = assumption
 
 -- ---- Mended texts
 
 abbrev pieces : List ℕ → List ℕ → List ℕ → List ℕ → Option Pieces
-pieces front old name rest = Some (record { front = front; word = old; name = name; rest = rest })
+pieces front old new rest = Some (record { front = front; replaced = old; written = new; rest = rest })
+
+-- the pieces of a text that is refused with all options off
+abbrev mended : List ℕ → Cause → Option Pieces
+mended text cause = mended_of (rules_of off) text cause
+
+-- the same if the default unit is this one, or if units are required
+abbrev mended_with : Option TimeUnit → List ℕ → Cause → Option Pieces
+mended_with default_unit text cause = mended_of (rules_with off default_unit) text cause
+
+-- the pieces if the number that the text begins with is replaced
+abbrev term : List ℕ → List ℕ → List ℕ → Option Pieces
+term old new rest = pieces [] old new rest
 
 pub record MendedRows : Type 0 where
-  pub mended-minutes : mended_of (codes "5 mins") (Syntax 2 after_number)
-      ≡ pieces (codes "5 ") (codes "mins") (codes "min") []
-  pub mended-greek : mended_of (encode_utf8_all (codes "5 μseconds")) (Syntax 2 after_number)
+  -- ---- A word that is near a unit
+  pub mended-minutes : mended (codes "5 mins") (Syntax 2 after_number) ≡ pieces (codes "5 ") (codes "mins") (codes "min") []
+  pub mended-greek : mended (encode_utf8_all (codes "5 μseconds")) (Syntax 2 after_number)
       ≡ pieces (codes "5 ") (encode_utf8_all (codes "μseconds")) (codes "us") []
-  pub mended-greek_between : mended_of (encode_utf8_all (codes "1µs 5μsecs×")) (Syntax 6 after_number)
+  pub mended-greek_between : mended (encode_utf8_all (codes "1µs 5μsecs×")) (Syntax 6 after_number)
       ≡ pieces (encode_utf8_all (codes "1µs 5")) (encode_utf8_all (codes "μsecs")) (codes "us") (encode_utf8_all (codes "×"))
-  pub mended-later : mended_of (codes "2h 5 mins") (Syntax 5 after_number)
+  pub mended-later : mended (codes "2h 5 mins") (Syntax 5 after_number)
       ≡ pieces (codes "2h 5 ") (codes "mins") (codes "min") []
-  pub mended-between : mended_of (codes "1m 5 MINS 3x") (Syntax 5 after_number)
+  pub mended-between : mended (codes "1m 5 MINS 3x") (Syntax 5 after_number)
       ≡ pieces (codes "1m 5 ") (codes "MINS") (codes "min") (codes " 3x")
-  pub mended-before_a_digit : mended_of (codes "5mos7") (Syntax 1 after_number)
+  pub mended-before_a_digit : mended (codes "5mos7") (Syntax 1 after_number)
       ≡ pieces (codes "5") (codes "mos") (codes "mon") (codes "7")
-  pub mended-minus : mended_of (codes "-5m") (Syntax 0 number_alone) ≡ None
-  pub mended-far : mended_of (codes "5 foo") (Syntax 2 after_number) ≡ None
-  pub mended-after_a_unit : mended_of (codes "5m mins") (Syntax 3 after_unit) ≡ None
-  pub mended-no_word : mended_of (codes "5") (Syntax 1 unit_alone) ≡ None
-  pub mended-overflow : mended_of (codes "600y") (Overflow (Some 0)) ≡ None
-  pub mended-large_number : mended_of (codes "18446744074") (Overflow (Some 0)) ≡ None
+  pub mended-far : mended (codes "5 foo") (Syntax 2 after_number) ≡ None
+  pub mended-after_a_unit : mended (codes "5m mins") (Syntax 3 after_unit) ≡ None
+  pub mended-no_word : mended (codes "5") (Syntax 1 unit_alone) ≡ None
+  -- ---- A fraction
+  pub mended-hour_and_a_half : mended (codes "1.5h") (Syntax 1 after_number) ≡ term (codes "1.5h") (codes "90min") []
+  pub mended-quarter_of_an_hour : mended (codes "0.25h") (Syntax 1 after_number) ≡ term (codes "0.25h") (codes "15min") []
+  pub mended-seconds : mended (codes "1.5s") (Syntax 1 after_number) ≡ term (codes "1.5s") (codes "1500ms") []
+  pub mended-no_whole_digits : mended (codes ".5s") (Syntax 0 number_alone) ≡ term (codes ".5s") (codes "500ms") []
+  pub mended-days : mended (codes "1.5d") (Syntax 1 after_number) ≡ term (codes "1.5d") (codes "36h") []
+  pub mended-years : mended (codes "1.5y") (Syntax 1 after_number) ≡ term (codes "1.5y") (codes "13140h") []
+  pub mended-many_years : mended (codes "584.5y") (Syntax 3 after_number) ≡ term (codes "584.5y") (codes "5120220h") []
+  pub mended-zeros_and_blanks : mended (codes "2.50 hours") (Syntax 1 after_number) ≡ term (codes "2.50 hours") (codes "150min") []
+  pub mended-near_word : mended (codes "1.5 mins") (Syntax 1 after_number) ≡ term (codes "1.5 mins") (codes "90s") []
+  pub mended-zero : mended (codes "0.0h") (Syntax 1 after_number) ≡ term (codes "0.0h") (codes "0h") []
+  pub mended-no_longer_unit : mended (codes "60.0min") (Syntax 2 after_number) ≡ term (codes "60.0min") (codes "60min") []
+  pub mended-microseconds : mended (codes "0.5ms") (Syntax 1 after_number) ≡ term (codes "0.5ms") (codes "500us") []
+  pub mended-nanosecond : mended (codes "0.000000001s") (Syntax 1 after_number) ≡ term (codes "0.000000001s") (codes "1ns") []
+  pub mended-below_a_nanosecond : mended (codes "0.0000000001s") (Syntax 1 after_number) ≡ None
+  pub mended-third_of_nanoseconds : mended (codes "0.3ns") (Syntax 1 after_number) ≡ None
+  pub mended-longest : mended (codes "18446744073709551615.0ns") (Syntax 20 after_number)
+      ≡ term (codes "18446744073709551615.0ns") (codes "18446744073709551615ns") []
+  pub mended-too_long : mended (codes "18446744074.0s") (Syntax 11 after_number) ≡ None
+  pub mended-too_many_digits : mended (codes "1844674407370955161.6ns") (Syntax 19 after_number) ≡ None
+  pub mended-before_a_sign : mended (codes "1.5h*2") (Syntax 1 after_number) ≡ term (codes "1.5h") (codes "90min") (codes "*2")
+  pub mended-before_a_number : mended (codes "1.5h30m") (Syntax 1 after_number) ≡ term (codes "1.5h") (codes "90min") (codes "30m")
+  pub mended-after_a_term : mended (codes "1m .5s") (Syntax 3 after_unit) ≡ pieces (codes "1m ") (codes ".5s") (codes "500ms") []
+  pub mended-after_an_operator : mended (codes "2*.5h 3x") (Syntax 2 number_alone)
+      ≡ pieces (codes "2*") (codes ".5h") (codes "30min") (codes " 3x")
+  pub mended-after_a_number : mended (codes "1 .5h") (Syntax 2 after_number) ≡ None
+  pub mended-two_points : mended (codes "1.5.5h") (Syntax 1 after_number) ≡ None
+  pub mended-two_numbers : mended (codes "1.5 2h") (Syntax 1 after_number) ≡ None
+  pub mended-other_word : mended (codes "1.5x") (Syntax 1 after_number) ≡ None
+  pub mended-wide_letter : mended (encode_utf8_all (codes "1.5hé")) (Syntax 1 after_number) ≡ None
+  -- ---- A fraction without a unit
+  pub mended-without_a_unit : mended (codes "1.5") (Syntax 1 after_number) ≡ term (codes "1.5") (codes "1500ms") []
+  pub mended-before_a_blank : mended (codes "1.5 ") (Syntax 1 after_number) ≡ term (codes "1.5") (codes "1500ms") (codes " ")
+  pub mended-before_plus : mended (codes "1.5 + 2") (Syntax 1 after_number) ≡ term (codes "1.5") (codes "1500ms") (codes " + 2")
+  pub mended-of_hours : mended_with (Some Hour) (codes "1.5") (Syntax 1 after_number) ≡ term (codes "1.5") (codes "90min") []
+  pub mended-unit_required : mended_with None (codes "1.5") (Syntax 1 unit_alone) ≡ None
+  pub mended-unit_required_and_there : mended_with None (codes "1.5h") (Syntax 1 unit_alone) ≡ term (codes "1.5h") (codes "90min") []
+  pub mended-no_calc : mended_of (rules_of with_no_calc) (codes "1.5+2") (Syntax 1 after_number-no_calc) ≡ None
+  pub mended-no_calc_at_the_end : mended_of (rules_of with_no_calc) (codes "1.5") (Syntax 1 after_number-no_calc)
+      ≡ term (codes "1.5") (codes "1500ms") []
+  -- ---- A fraction by other rules
+  pub mended-chinese_letter : mended_of (rules_of with_cn_unit) (encode_utf8_all (codes "1.5时")) (Syntax 1 after_number)
+      ≡ term (encode_utf8_all (codes "1.5时")) (codes "90min") []
+  pub mended-chinese_letter_unread : mended (encode_utf8_all (codes "1.5时")) (Syntax 1 after_number) ≡ None
+  pub mended-capital : mended (codes "1.5H") (Syntax 1 after_number) ≡ term (codes "1.5H") (codes "90min") []
+  pub mended-capital_unread : mended_of (rules_of with_lowercase) (codes "1.5H") (Syntax 1 after_number) ≡ None
+  pub mended-humantime : mended_of (humantime_rules with_lowercase) (codes "0.5M") (Syntax 1 unit_alone)
+      ≡ term (codes "0.5M") (codes "1315008s") []
+  -- ---- What is removed or inserted
+  pub mended-plus : mended (codes "+5m") (Syntax 0 number_alone) ≡ term (codes "+") [] (codes "5m")
+  pub mended-plus_and_point : mended (codes " +.5s") (Syntax 1 number_alone) ≡ pieces (codes " ") (codes "+") [] (codes ".5s")
+  pub mended-point : mended (codes "5 min.") (Syntax 5 after_unit) ≡ pieces (codes "5 min") (codes ".") [] []
+  pub mended-point_before_a_digit : mended (codes "5m.5s") (Syntax 2 after_unit) ≡ pieces (codes "5m") (codes ".") [] (codes "5s")
+  pub mended-point_before_a_letter : mended (codes "5m.in") (Syntax 2 after_unit) ≡ None
+  pub mended-underscore : mended (codes "1_000s") (Syntax 1 after_number) ≡ pieces (codes "1") (codes "_") [] (codes "000s")
+  pub mended-apostrophe : mended (codes "1'000s") (Syntax 1 after_number) ≡ pieces (codes "1") (codes "'") [] (codes "000s")
+  pub mended-comma : mended (codes "1,000s") (Syntax 1 after_number) ≡ None
+  pub mended-exponent : mended (codes "1e3s") (Syntax 1 after_number) ≡ None
+  pub mended-time : mended (codes "PT5M") (Syntax 0 number_alone) ≡ term (codes "PT") [] (codes "5M")
+  pub mended-time_in_small_letters : mended (codes "pt5m") (Syntax 0 number_alone) ≡ term (codes "pt") [] (codes "5m")
+  pub mended-time_without_capitals : mended_of (rules_of with_lowercase) (codes "pt5m") (Syntax 0 number_alone) ≡ None
+  pub mended-period : mended (codes "P1M") (Syntax 0 number_alone) ≡ None
+  pub mended-zero_alone : mended_with None (codes "0") (Syntax 1 unit_alone) ≡ pieces (codes "0") [] (codes "s") []
+  pub mended-zero_before_a_blank : mended_with None (codes "0 ") (Syntax 2 unit_alone) ≡ pieces (codes "0 ") [] (codes "s") []
+  pub mended-number_alone : mended_with None (codes "5") (Syntax 1 unit_alone) ≡ None
+  -- ---- What could mean two things
+  pub mended-minus : mended (codes "-5m") (Syntax 0 number_alone) ≡ None
+  pub mended-clock : mended (codes "1:30") (Syntax 1 after_number) ≡ None
+  pub mended-and : mended (codes "1h and 30m") (Syntax 3 after_unit) ≡ None
+  pub mended-overflow : mended (codes "600y") (Overflow (Some 0)) ≡ None
+  pub mended-large_number : mended (codes "18446744074") (Overflow (Some 0)) ≡ None
 
 pub mended_rows : MendedRows
 unfolding chars digits encode
@@ -721,27 +804,31 @@ classes = assumption
 
 -- ---- Reports
 
+-- the report of a text that is refused with all options off
+abbrev report : List ℕ → Cause → List ℕ
+report text cause = report_of (rules_of off) text cause
+
 pub record Reports : Type 0 where
-  pub report-unit : report_of (codes "5 mins") (Syntax 2 after_number)
+  pub report-unit : report (codes "5 mins") (Syntax 2 after_number)
       ≡ codes "5 mins\n  ^\nunknown unit \"mins\" at column 3 (did you mean \"min\"?)"
-  pub report-end : report_of (codes "3+") (Syntax 2 number_alone)
+  pub report-end : report (codes "3+") (Syntax 2 number_alone)
       ≡ codes "3+\n  ^\nexpected a number at column 3, found the end"
-  pub report-micro_sign : report_of (encode_utf8_all (codes "1µs -")) (Syntax 5 after_unit)
+  pub report-micro_sign : report (encode_utf8_all (codes "1µs -")) (Syntax 5 after_unit)
       ≡ encode_utf8_all (codes "1µs -\n    ^\nexpected a number, '+', '*' or the end at column 5, found \"-\"")
-  pub report-two_columns : report_of (encode_utf8_all (codes "3天 -天")) (Syntax 5 after_unit)
+  pub report-two_columns : report (encode_utf8_all (codes "3天 -天")) (Syntax 5 after_unit)
       ≡ encode_utf8_all (codes "3天 -天\n    ^\nexpected a number, '+', '*' or the end at column 4, found \"-\"")
-  pub report-eighty : report_of (codes "1h " ++ replicate 77 45) (Syntax 3 after_unit)
+  pub report-eighty : report (codes "1h " ++ replicate 77 45) (Syntax 3 after_unit)
       ≡ (codes "1h " ++ replicate 77 45)
       ++ codes "\n   ^\nexpected a number, '+', '*' or the end at column 4, found \"-\""
-  pub report-eighty_one : report_of (codes "1h " ++ replicate 78 45) (Syntax 3 after_unit)
+  pub report-eighty_one : report (codes "1h " ++ replicate 78 45) (Syntax 3 after_unit)
       ≡ codes "expected a number, '+', '*' or the end at column 4, found \"-\""
-  pub report-tab : report_of (codes "1h\t-") (Syntax 3 after_unit)
+  pub report-tab : report (codes "1h\t-") (Syntax 3 after_unit)
       ≡ codes "expected a number, '+', '*' or the end at column 4, found \"-\""
-  pub report-quote : report_of (codes "1h -\"") (Syntax 3 after_unit)
+  pub report-quote : report (codes "1h -\"") (Syntax 3 after_unit)
       ≡ codes "expected a number, '+', '*' or the end at column 4, found \"-\""
-  pub report-zero : report_of (codes "0") (Syntax 1 unit_alone)
+  pub report-zero : report (codes "0") (Syntax 1 unit_alone)
       ≡ codes "0\n ^\nexpected a unit at column 2, found the end (write 0s)"
-  pub report-overflow : report_of (codes "600y") (Overflow (Some 0)) ≡ codes "duration of over 584 years in \"600y\""
+  pub report-overflow : report (codes "600y") (Overflow (Some 0)) ≡ codes "duration of over 584 years in \"600y\""
 
 pub reports : Reports
 unfolding chars digits encode

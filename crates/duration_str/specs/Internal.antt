@@ -6,4 +6,5 @@ pub mod Positions
 pub mod Steps
 pub mod Rest
 pub mod PrintedBytes
+pub mod Mends
 pub mod Writing

@@ -1,20 +1,47 @@
--- The law about a text in which the name that a help suggests stands in place of the word.
-use Rattle.std.specs.Prelude.{◌≡◌, ℕ, ◌+◌, ◌≤◌, ◌++◌, Some, IsUtf8, chars, length}
+-- The laws about a text in which something else is written instead of the part that a help mends.
+use Rattle.std.specs.Prelude.{◌≡◌, ℕ, ◌+◌, ◌*◌, ◌^◌, ◌≤◌, ◌++◌, Some, IsUtf8, chars, codes, length, IsTrue}
+use Rattle.std.specs.List.{list_all}
 use Rattle.duration_str.specs.declared.cause.Cause.{Cause}
 use Rattle.duration_str.specs.declared.cause.Cause.TheVariants.{Syntax}
 use Rattle.duration_str.specs.declared.cause.Expected.{Expected}
 use Rattle.duration_str.specs.declared.rules.Rules.{Rules as CodeRules}
+use Rattle.duration_str.specs.declared.unit.TimeUnit.{TimeUnit}
 use Rattle.duration_str.specs.Meaning.{meaning_of}
-use Rattle.duration_str.specs.OneLine.{mended_of, Pieces}
-use Rattle.duration_str.specs.Reading.{IsRefused}
-use Rattle.duration_str.specs.Text.{Bytes}
+use Rattle.duration_str.specs.OneLine.{meant_unit, mended_of, Pieces}
+use Rattle.duration_str.specs.Reading.{IsRead, IsRefused}
+use Rattle.duration_str.specs.Text.{Bytes, IsBlank, is_digit, number_of}
 
--- A text is refused, and its help suggests a name. If the text with that name in place of the word,
--- read by the same rules, has a syntax fault, then not before the end of the name.
+-- the mended text
+abbrev pub mended_text : Pieces → Bytes
+mended_text new = new.front ++ (new.written ++ new.rest)
+
+-- A text is refused, and it has a mend. If the mended text, read by the same rules, has a syntax
+-- fault, then not before the end of what was written.
 abbrev pub MendedTexts : Type 0
 MendedTexts =
     (s : CodeRules) (text : Bytes) (cause : Cause) (new : Pieces) → IsUtf8 text
-    → IsRefused (meaning_of s) (chars text) cause → mended_of text cause ≡ Some new
+    → IsRefused (meaning_of s) (chars text) cause → mended_of (meaning_of s) text cause ≡ Some new
     → (later : ℕ) (others : Expected)
-    → IsRefused (meaning_of s) (chars (new.front ++ (new.name ++ new.rest))) (Syntax later others)
-    → length new.front + length new.name ≤ later
+    → IsRefused (meaning_of s) (chars (mended_text new)) (Syntax later others)
+    → length new.front + length new.written ≤ later
+
+-- A number with a point and one or more digits after it, blanks, and a word that means this unit.
+pub record IsFraction (s : CodeRules) (text whole decimals : Bytes) (unit : TimeUnit) : Type 0 where
+  pub blanks : Bytes
+  pub word : Bytes
+  pub parts : text ≡ whole ++ (codes "." ++ (decimals ++ (blanks ++ word)))
+  pub whole_digits : IsTrue (list_all is_digit whole)
+  pub decimal_digits : IsTrue (list_all is_digit decimals)
+  pub blank : IsBlank blanks
+  pub means : meant_unit (meaning_of s) (chars word) ≡ Some unit
+
+-- A text that is only a number with a fraction and its unit is refused, and it has a mend. Then the
+-- mended text, read by the same rules, has a value. This value, times 10 for each digit after the
+-- point, is the number without its point times the unit's length.
+abbrev pub MendedFractions : Type 0
+MendedFractions =
+    (s : CodeRules) (text whole decimals : Bytes) (unit : TimeUnit) (cause : Cause) (new : Pieces) → IsUtf8 text
+    → IsFraction s text whole decimals unit
+    → IsRefused (meaning_of s) (chars text) cause → mended_of (meaning_of s) text cause ≡ Some new
+    → (nanos : ℕ) × IsRead (meaning_of s) (chars (mended_text new)) nanos
+    × (nanos * 10 ^ length decimals ≡ number_of (whole ++ decimals) * ((meaning_of s).table unit).nanos)

@@ -1,23 +1,27 @@
--- The help for a fault, and the fault in one line: what is wrong, for a syntax fault at which
--- column, and what stands there, and then the words of the help.
-use Rattle.std.specs.Prelude.{◌≡◌, ℕ, ◌+◌, ◌-◌, Bool, false, not, ◌&&◌, ◌||◌, List, [], ◌∷◌, ◌++◌, Option, Some, None, unwrap_or, if◌then◌else◌, ◌==◌, nat_le, decimal, encode_utf8_all, map, take, drop, length, slice_index, option_map, chars, bytes_eq, codes}
+-- The help for a fault, what to write instead, and the fault in one line: what is wrong, for a
+-- syntax fault at which column, and what stands there, and then the words of the help.
+use Rattle.std.specs.Prelude.{◌≡◌, ℕ, ◌+◌, ◌-◌, Bool, true, false, not, ◌&&◌, ◌||◌, List, [], ◌∷◌, ◌++◌, Option, Some, None, unwrap_or, if◌then◌else◌, ◌==◌, nat_le, decimal, encode_utf8_all, map, take, drop, length, slice_index, option_map, is_some, chars, bytes_eq, codes}
 use Rattle.std.specs.Char.{is_ascii_alphabetic, is_control, to_ascii_lowercase}
 use Rattle.std.specs.Char.Escape.{escape_default}
 use Rattle.std.specs.Int.{is_in_range}
-use Rattle.std.specs.List.{list_any, list_all, find, take_while}
+use Rattle.std.specs.List.{list_any, list_all, find, prefix_len, take_while}
+use Rattle.std.specs.Option.{option_or}
 use Rattle.duration_str.specs.declared.cause.Expected.{Expected}
 use Rattle.duration_str.specs.declared.cause.Cause.{Cause}
 use Rattle.duration_str.specs.declared.cause.Cause.TheVariants.{Empty, Syntax, NumberTooLarge, Overflow, Mixed}
 use Rattle.duration_str.specs.declared.help.Help.{Help}
-use Rattle.duration_str.specs.declared.help.Mended.{Mended}
 use Rattle.duration_str.specs.declared.help.Help.TheVariants.{DidYouMean, Units, Fraction, DigitsOnly, ClockTime, Negative, LeadingPlus, Iso8601, OneDuration, NoPoint, Brackets, Division, QuotationMarks, MissingUnit, Zero, LargeNumber}
+use Rattle.duration_str.specs.declared.mended.Mend.{Mend}
+use Rattle.duration_str.specs.declared.mended.Mended.{Mended}
+use Rattle.duration_str.specs.declared.mended.Suggestion.{Suggestion}
 use Rattle.duration_str.specs.declared.unit.TimeUnit.{TimeUnit}
-use Rattle.duration_str.specs.declared.unit.TimeUnit.TheVariants.{Month, MicroSecond}
-use Rattle.duration_str.specs.Text.{Bytes, Characters, is_blank, is_digit}
+use Rattle.duration_str.specs.declared.unit.TimeUnit.TheVariants.{Month, MicroSecond, Second}
+use Rattle.duration_str.specs.Fraction.{as_term, end_run, nanos_of_fraction}
+use Rattle.duration_str.specs.Text.{Bytes, Characters, is_blank, is_digit, operator_of}
 use Rattle.duration_str.specs.Units.{units, row_of}
 use Rattle.duration_str.specs.MoreNames.{more_names, more_rules}
 use Rattle.duration_str.specs.Options.{off}
-use Rattle.duration_str.specs.Rules.{unit_of_word}
+use Rattle.duration_str.specs.Rules.{Rules, unit_of_word}
 use Rattle.duration_str.specs.Messages.{line_of, chars_before}
 
 -- ---- What is quoted
@@ -185,45 +189,133 @@ help_of text (Syntax place expected) = syntax_help text place expected (first_pi
 help_of text (Overflow place) = overflow_help text
 help_of text cause = None
 
--- the bytes of the name that a help says to write instead of the word at the place, if it names one
-abbrev pub suggestion_of : Help → Option Bytes
-suggestion_of (DidYouMean unit) = Some (encode_utf8_all (help_name unit))
-suggestion_of help = None
+-- ---- What to write instead
 
--- the bytes of the name that a help suggests, if there is a help and it suggests one
-abbrev pub suggested : Option Help → Option Bytes
-suggested (Some help) = suggestion_of help
-suggested None = None
+-- the digits of a count, if there is one
+abbrev pub count_text : Option ℕ → Bytes
+count_text (Some count) = decimal count
+count_text None = []
 
--- The refused text is the front, the word and the rest. The mended text is the front, the name and
--- the rest.
+-- the name of a unit that a help names, if there is a unit
+abbrev pub unit_text : Option TimeUnit → Bytes
+unit_text (Some unit) = encode_utf8_all (help_name unit)
+unit_text None = []
+
+-- what a suggestion says to write: the count's digits, and the unit's name after them
+abbrev pub suggestion_text : Suggestion → Bytes
+suggestion_text s = count_text s.count ++ unit_text s.unit
+
+abbrev pub name_alone : TimeUnit → Suggestion
+name_alone unit = record { count = None; unit = Some unit }
+
+abbrev pub nothing : Suggestion
+nothing = record { count = None; unit = None }
+
+-- the mend that removes the bytes from `start` to `end`, if the condition is true
+abbrev pub removed_if : Bool → ℕ → ℕ → Option Mend
+removed_if condition start end =
+    if condition then Some (record { start = start; end = end; suggestion = nothing }) else None
+
+-- the unit that a word names, or otherwise the unit that it is near
+abbrev pub meant_unit : Rules → Characters → Option TimeUnit
+meant_unit r word = option_or (unit_of_word r word) (near_unit word)
+
+-- whether a number without a unit can stand before these bytes: they are none, or begin with an
+-- operator that is read
+abbrev pub can_end_number : Rules → Bytes → Bool
+can_end_number r [] = true
+can_end_number r (b ∷ bytes) = not r.options.no_calc && is_some (operator_of b)
+
+-- the unit of a number before these bytes, and how many of the bytes say so: the blanks and the
+-- letters that they begin with, or none if the number has the default unit
+abbrev pub unit_ahead : Rules → Bytes → Option (TimeUnit × ℕ)
+unit_ahead r bytes =
+    let blanks = prefix_len is_blank bytes in
+    let word = first_piece (chars (drop blanks bytes)) in
+    if begins_with_letter word
+    then option_map (λ u. (u, blanks + length (encode_utf8_all word))) (meant_unit r word)
+    else if can_end_number r (drop blanks bytes) then option_map (λ u. (u, 0)) r.default_unit
+    else None
+
+-- The mend of a number with these digits before and after its point. It starts at byte `start`, its
+-- digits end at byte `end`, and this is its unit, with the number of bytes that say so
+abbrev pub fraction_with : Rules → Bytes → Bytes → ℕ → ℕ → Option (TimeUnit × ℕ) → Option Mend
+fraction_with r whole decimals start end (Some (u, more)) =
+    option_map (λ nanos. record { start = start; end = end + more; suggestion = as_term r.table u nanos })
+    (nanos_of_fraction whole decimals (r.table u).nanos)
+fraction_with r whole decimals start end None = None
+
+-- the mend of a number whose point is at byte `place`: one term in place of the number and its
+-- unit. The digits directly before the point can be missing where a number can stand
+abbrev pub fraction_mend : Rules → Bytes → ℕ → Expected → Option Mend
+fraction_mend r text place expected =
+    let whole = end_run is_digit (take place text) in
+    let after = drop (place + 1) text in
+    let decimals = take (prefix_len is_digit after) after in
+    let end = place + 1 + length decimals in
+    if length decimals == 0 || (length whole == 0 && not expected.number) then None
+    else fraction_with r whole decimals (place - length whole) end (unit_ahead r (drop end text))
+
+-- The mend for a help, if it has one that is certain, given the bytes of the piece at byte `place`.
+-- A point after a unit is not removed where letters follow it, which would join the unit's letters
+abbrev pub mend_for : Rules → Bytes → ℕ → Expected → Bytes → Option Help → Option Mend
+mend_for r text place expected piece (Some (DidYouMean unit)) =
+    Some (record { start = place; end = place + length piece; suggestion = name_alone unit })
+mend_for r text place expected piece (Some Fraction) = fraction_mend r text place expected
+mend_for r text place expected piece (Some LeadingPlus) = removed_if true place (place + length piece)
+mend_for r text place expected piece (Some NoPoint) =
+    removed_if (not (begins_with_letter (chars (drop (place + length piece) text)))) place (place + length piece)
+mend_for r text place expected piece (Some DigitsOnly) =
+    removed_if (bytes_eq piece (codes "_") || bytes_eq piece (codes "'")) place (place + length piece)
+mend_for r text place expected piece (Some Iso8601) =
+    removed_if (length piece == 2 && not r.options.lowercase) place (place + length piece)
+mend_for r text place expected piece (Some Zero) =
+    Some (record { start = place; end = place; suggestion = name_alone Second })
+mend_for r text place expected piece help = None
+
+-- the mend of the bytes of a text that is refused by these rules for this cause, if there is one
+-- that is certain
+abbrev pub mend_of : Rules → Bytes → Cause → Option Mend
+mend_of r text (Syntax place expected) =
+    let piece = first_piece (chars (drop place text)) in
+    mend_for r text place expected (encode_utf8_all piece) (syntax_help text place expected piece)
+mend_of r text cause = None
+
+-- what to write for that mend, if there is one
+abbrev pub suggestion_of : Rules → Bytes → Cause → Option Suggestion
+suggestion_of r text cause = option_map (λ mend. mend.suggestion) (mend_of r text cause)
+
+-- The refused text is the front, the part that is replaced, and the rest. The mended text is the
+-- front, what is written instead, and the rest.
 pub record Pieces : Type 0 where
   pub front : Bytes
-  pub word : Bytes
-  pub name : Bytes
+  pub replaced : Bytes
+  pub written : Bytes
   pub rest : Bytes
 
--- the text with this name in place of the piece at byte `place`
-abbrev pub with_name : Bytes → ℕ → Bytes → Bytes → Pieces
-with_name text place piece name = record {
-  front = take place text;
-  word = piece;
-  name = name;
-  rest = drop (length piece) (drop place text);
+-- the pieces of a text with this mend
+abbrev pub pieces_of : Bytes → Mend → Pieces
+pieces_of text mend = record {
+  front = take mend.start text;
+  replaced = take (mend.end - mend.start) (drop mend.start text);
+  written = suggestion_text mend.suggestion;
+  rest = drop mend.end text;
 }
 
--- the refused text with the name that its help suggests in place of the word, if it suggests one
-abbrev pub mended_of : Bytes → Cause → Option Pieces
-mended_of text (Syntax place expected) =
-    let piece = first_piece (chars (drop place text)) in
-    option_map (with_name text place (encode_utf8_all piece)) (suggested (syntax_help text place expected piece))
-mended_of text cause = None
+-- the pieces of a refused text and its mended text, if there is a mend that is certain
+abbrev pub mended_of : Rules → Bytes → Cause → Option Pieces
+mended_of r text cause = option_map (pieces_of text) (mend_of r text cause)
 
 -- The result has these pieces, or is `None` if there are none.
 abbrev pub HasPieces : Option Pieces → Option Mended → Type 0
 HasPieces pieces None = pieces ≡ None
 HasPieces pieces (Some new) =
-    pieces ≡ Some (record { front = new.front.now; word = new.word.now; name = new.name.now; rest = new.rest.now })
+    pieces ≡ Some (record {
+      front = new.front.now;
+      replaced = new.replaced.now;
+      written = suggestion_text new.suggestion;
+      rest = new.rest.now;
+    })
 
 -- the number of a help for programs in other languages
 abbrev pub help_number : Help → ℕ
@@ -254,7 +346,7 @@ listed_names = codes "y, q, mon, w, d, h, min, s, ms, us or ns)"
 abbrev pub help_words : Help → Bytes
 help_words (DidYouMean unit) = codes " (did you mean \"" ++ (encode_utf8_all (help_name unit) ++ codes "\"?)")
 help_words Units = codes " (write " ++ listed_names
-help_words Fraction = codes " (numbers have digits only: write 1500ms for 1.5s)"
+help_words Fraction = codes " (numbers have digits only)"
 help_words DigitsOnly = codes " (numbers have digits only)"
 help_words ClockTime = codes " (clock times are not read: write 1h 30m or 1m 30s)"
 help_words Negative = codes " (negative durations are not read)"
@@ -269,10 +361,15 @@ help_words MissingUnit = codes " (write the number's unit: " ++ listed_names
 help_words Zero = codes " (write 0s)"
 help_words LargeNumber = codes " (write the number's unit, such as ns)"
 
--- the end of a line: the words of its help, if any
-abbrev pub help_end : Option Help → Bytes
-help_end (Some help) = help_words help
-help_end None = []
+-- the words for a fraction that has a mend
+abbrev pub fraction_words : Suggestion → Bytes
+fraction_words suggestion = codes " (fractions are not read: write " ++ (suggestion_text suggestion ++ codes ")")
+
+-- the end of a line: the words of its help, if any. Those of a fraction say its mend, if it has one
+abbrev pub help_end : Option Help → Option Mend → Bytes
+help_end (Some Fraction) (Some mend) = fraction_words mend.suggestion
+help_end (Some help) mend = help_words help
+help_end None mend = []
 
 -- ---- The line
 
@@ -324,6 +421,7 @@ problem_of text (Overflow place) = text_problem (overflow_words text) text
 problem_of text (Mixed first later) = text_problem (codes "sum and product mixed") text
 problem_of text cause = encode_utf8_all (line_of cause)
 
--- the bytes of the line: what is wrong, and the help, if any
-abbrev pub one_line_of : Bytes → Cause → Bytes
-one_line_of text cause = problem_of text cause ++ help_end (help_of text cause)
+-- the bytes of the line of a text that is refused by these rules: what is wrong, and the help, if
+-- any
+abbrev pub one_line_of : Rules → Bytes → Cause → Bytes
+one_line_of r text cause = problem_of text cause ++ help_end (help_of text cause) (mend_of r text cause)

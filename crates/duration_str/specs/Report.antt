@@ -6,6 +6,7 @@ use Rattle.duration_str.specs.declared.cause.Cause.TheVariants.{Syntax}
 use Rattle.duration_str.specs.Text.{Bytes, Characters}
 use Rattle.duration_str.specs.Messages.{caret_text}
 use Rattle.duration_str.specs.OneLine.{is_clear, one_line_of}
+use Rattle.duration_str.specs.Rules.{Rules}
 
 -- whether a text can stand above a caret: it has at most 80 characters, and none of them is escaped
 abbrev pub is_clear_text : Characters → Bool
@@ -21,10 +22,10 @@ is_wide c = nat_le 0x2E80 c
 abbrev pub columns_of : Characters → ℕ
 columns_of text = length text + count_by is_wide text
 
--- the bytes of the report, given the bytes of the text that was read: the line, and for a syntax
--- fault in a text that can stand above a caret, the text and the caret above the line
-abbrev pub report_of : Bytes → Cause → Bytes
-report_of text (Syntax place expected) =
-    let line = one_line_of text (Syntax place expected) in
+-- the bytes of the report, given the rules and the bytes of the text that was read: the line, and
+-- for a syntax fault in a text that can stand above a caret, the text and the caret above the line
+abbrev pub report_of : Rules → Bytes → Cause → Bytes
+report_of r text (Syntax place expected) =
+    let line = one_line_of r text (Syntax place expected) in
     if is_clear_text (chars text) then caret_text text (columns_of (chars (take place text))) line else line
-report_of text cause = one_line_of text cause
+report_of r text cause = one_line_of r text cause

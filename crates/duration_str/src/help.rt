@@ -1,12 +1,11 @@
 //! The help for a refusal: what a user may have meant, or should write instead.
-ghost use Rattle.std.specs.Prelude.{◌≡◌, ◌≤◌, ◌++◌, ◌+◌, ◌-◌, ◌==◌, ◌||◌, slice_index, length, map, encode_utf8_all, IfSome, IfNone, None, Some, if◌then◌else◌};
+ghost use Rattle.std.specs.Prelude.{◌≡◌, ◌≤◌, ◌+◌, ◌-◌, ◌==◌, ◌||◌, slice_index, length, map, encode_utf8_all, None, Some, if◌then◌else◌};
 ghost use Rattle.std.specs.Char.{to_ascii_lowercase};
 ghost use Rattle.std.specs.List.{list_all};
 ghost use Rattle.std.specs.Str.{chars, bytes_eq, IsCharBoundary};
 ghost use Rattle.duration_str.specs.Text.{is_blank, is_digit};
 ghost use Rattle.duration_str.specs.Internal.Positions.{ahead};
-ghost use Rattle.duration_str.specs.OneLine.{is_letter, is_like, first_piece, begins_with_letter, near_unit, unit_help, first_help, digit_help, sign_help, help_at, help_name, missing_unit_help, is_unknown_unit, syntax_help, overflow_help, help_of, suggestion_of, help_number, with_name, mended_of, HasPieces};
-ghost use Rattle.duration_str.specs.declared.help.TheConstants.{MAX_SUGGESTION_LEN};
+ghost use Rattle.duration_str.specs.OneLine.{is_letter, is_like, first_piece, begins_with_letter, near_unit, unit_help, first_help, digit_help, sign_help, help_at, help_name, missing_unit_help, is_unknown_unit, syntax_help, overflow_help, help_of, help_number};
 
 use crate::cause::{Cause, Expected};
 use crate::fault::Fault;
@@ -18,9 +17,6 @@ use crate::packed::packed_word;
 use crate::slice::{range_from, range_to};
 use crate::token::is_blank;
 use crate::unit::TimeUnit;
-
-/// No name of `Help::suggestion` has more bytes than this.
-pub const MAX_SUGGESTION_LEN: usize = 3;
 
 /// What a user may have meant by a refused text, or should write instead. The fault's line ends
 /// with it in words.
@@ -71,27 +67,6 @@ pub enum Help {
 }
 
 impl Help {
-    /// Returns the name to write instead of the word at the fault's place, if the help names one.
-    /// It is the name that the unit is printed with, but `us` for the microsecond.
-    ///
-    /// ```
-    /// use duration_str::{Help, TimeUnit};
-    ///
-    /// assert_eq!(Help::DidYouMean(TimeUnit::Minute).suggestion(), Some("min"));
-    /// assert_eq!(Help::Negative.suggestion(), None);
-    /// ```
-    #[must_use]
-    pub const fn suggestion(self) -> Option<&'static str>
-        ensures some { IfSome result (λ name. suggestion_of self ≡ Some name.now) }
-        ensures none { IfNone result (suggestion_of self ≡ None) }
-        ensures short { IfSome result (λ name. length name.now ≤ MAX_SUGGESTION_LEN) }
-    {
-        match self {
-            Help::DidYouMean(unit) => Some(help_name(unit)),
-            _ => None,
-        }
-    }
-
     /// Returns the help's number, by which programs in other languages know it. The numbers are 1
     /// for `DidYouMean`, 2 for `Units` and so on, in the order of the enum.
     ///
@@ -129,10 +104,10 @@ impl<'a> Fault<'a> {
     /// Returns the help for the fault, if any. The line of `write_one_line` ends with its words.
     ///
     /// ```
-    /// use duration_str::{Options, parse_with};
+    /// use duration_str::{Help, Options, parse_with};
     ///
-    /// let fault = parse_with("2h 5 mins", Options::off()).unwrap_err();
-    /// assert_eq!(fault.help().and_then(|help| help.suggestion()), Some("min"));
+    /// let fault = parse_with("1h, 30m", Options::off()).unwrap_err();
+    /// assert_eq!(fault.help(), Some(Help::OneDuration));
     /// ```
     #[must_use]
     pub fn help(&self) -> Option<Help>
@@ -144,53 +119,6 @@ impl<'a> Fault<'a> {
             _ => None,
         }
     }
-
-    /// Returns the text with the name that the help suggests in place of the word that is no unit,
-    /// or `None` if the help suggests none. The word is quoted in the fault's line. It begins with
-    /// the token at the fault's place, and can be longer, such as `μs` with the Greek letter mu.
-    ///
-    /// ```
-    /// use duration_str::{Options, parse_with};
-    ///
-    /// let fault = parse_with("2h 5 mins 3s", Options::off()).unwrap_err();
-    /// let mended = fault.mended().unwrap();
-    /// assert_eq!([mended.front, mended.word, mended.name], ["2h 5 ", "mins", "min"]);
-    /// assert_eq!(mended.rest, " 3s");
-    /// ```
-    #[must_use]
-    pub fn mended(&self) -> Option<Mended<'a>>
-        ensures pieces { HasPieces (mended_of self.now.text.now self.now.cause) result }
-        ensures whole { IfSome result (λ new.
-            self.now.text.now ≡ new.front.now ++ (new.word.now ++ new.rest.now)) }
-    {
-        let Cause::Syntax { place, expected } = self.cause else {
-            return None;
-        };
-        let found = found_at(self.text, place, expected);
-        let name = found.help?.suggestion()?;
-        Some(with_name(self.text, place, found.piece, name))
-    }
-}
-
-/// A refused text in which a help suggests a name in place of a word. The refused text is `front`,
-/// `word` and `rest`, and the mended text is `front`, `name` and `rest`.
-///
-/// ```
-/// use duration_str::{Options, parse_with};
-///
-/// let mended = parse_with("5 μseconds", Options::off()).unwrap_err().mended().unwrap();
-/// assert_eq!([mended.front, mended.word, mended.name], ["5 ", "μseconds", "us"]);
-/// ```
-#[derive(Clone, Copy, Debug, PartialEq, Eq, Hash)]
-pub struct Mended<'a> {
-    /// The text before the word.
-    pub front: &'a str,
-    /// The word that is no unit.
-    pub word: &'a str,
-    /// The name to write in place of the word.
-    pub name: &'static str,
-    /// The text after the word.
-    pub rest: &'a str,
 }
 
 /// What stands at the place of a syntax fault.
@@ -202,7 +130,8 @@ pub(crate) struct Found<'a> {
     pub(crate) help: Option<Help>,
 }
 
-/// Returns what stands at the place. One copy serves the line and `Fault::help`.
+/// Returns what stands at the place. It is not inline, so that the line, `Fault::help` and
+/// `Fault::mended` share one copy.
 pub(crate) fn found_at(text: &str, place: usize, expected: Expected) -> Found<'_>
     requires { IsCharBoundary text.now place }
     ensures piece { chars result.piece.now ≡ first_piece (ahead text.now place) }
@@ -227,22 +156,6 @@ pub(crate) fn found_at(text: &str, place: usize, expected: Expected) -> Found<'_
         piece,
         is_unknown_unit,
         help: far_help(is_unknown_unit, expected, text, help),
-    }
-}
-
-/// Returns the text with the name in place of the word, which stands at the place.
-fn with_name<'a>(text: &'a str, place: usize, word: &'a str, name: &'static str) -> Mended<'a>
-    requires boundary { IsCharBoundary text.now place }
-    requires word { word.now ≡ encode_utf8_all (first_piece (ahead text.now place)) }
-    ensures pieces { HasPieces (Some (with_name text.now place word.now name.now)) (Some result) }
-    ensures whole { text.now ≡ result.front.now ++ (result.word.now ++ result.rest.now) }
-{
-    let ahead = range_from(text, place);
-    Mended {
-        front: range_to(text, place),
-        word,
-        name,
-        rest: range_from(ahead, word.len()),
     }
 }
 
@@ -291,7 +204,7 @@ pub(crate) fn overflow_help(text: &[u8]) -> Option<Help>
     }
 }
 
-fn first_piece(text: &str) -> &str
+pub(crate) fn first_piece(text: &str) -> &str
     ensures piece { chars result.now ≡ first_piece (chars text.now) }
     ensures short { length result.now ≤ length text.now }
 {
@@ -317,7 +230,7 @@ fn is_like(first: char, c: char) -> bool
     c.is_ascii_digit() && first.is_ascii_digit() || is_letter(c) && is_letter(first)
 }
 
-fn begins_with_letter(text: &str) -> bool
+pub(crate) fn begins_with_letter(text: &str) -> bool
     ensures { result ≡ begins_with_letter (chars text.now) }
 {
     match text.chars().next() {
@@ -339,7 +252,7 @@ fn is_letter(c: char) -> bool
 }
 
 /// Returns the unit for which people write a word that the library's own table lacks.
-fn near_unit(word: &str) -> Option<TimeUnit>
+pub(crate) fn near_unit(word: &str) -> Option<TimeUnit>
     ensures { result ≡ near_unit (chars word.now) }
 {
     if word == "mo" || word == "mos" {
@@ -353,9 +266,9 @@ fn near_unit(word: &str) -> Option<TimeUnit>
     }
 }
 
-const fn help_name(unit: TimeUnit) -> &'static str
+pub(crate) const fn help_name(unit: TimeUnit) -> &'static str
     ensures name { result.now ≡ encode_utf8_all (help_name unit) }
-    ensures short { length result.now ≤ MAX_SUGGESTION_LEN }
+    ensures short { length result.now ≤ 3 }
 {
     match unit {
         TimeUnit::MicroSecond => "us",

@@ -1,7 +1,7 @@
 //! Laws about the definitions. Each function does nothing, and its contract states a law, which is
 //! proved. In the comments, texts are read by the library's own table of units.
 ghost use Rattle.duration_str.specs.Laws.{OneSentence, OneCut, OneReading, AnswerIsReading, PlaceAndKinds, NoCalcAgrees, OptionsIdle, BlanksFree, SumOfTexts, Reorder, TwoFactors, GreatestBreakdown, EqualTexts, ReadsBack, LastLine, OlderTexts, AllParts, NeverMore, OneRounding, PartsAndRest, NearWords, MoreNames};
-ghost use Rattle.duration_str.specs.Mended.{MendedTexts};
+ghost use Rattle.duration_str.specs.Mended.{MendedFractions, MendedTexts};
 
 /// At most one sentence spells a text, and the lexemes of that sentence are those of the text's
 /// tokens. Each text is either read as one value or refused for one cause, and the computed answer
@@ -167,11 +167,18 @@ pub fn more_names()
     ensures { MoreNames }
 {}
 
-/// If a text is refused with a help that suggests a name, and the name is written in place of the
-/// word, a syntax fault of the new text is not before the end of the name. So `5 mins 3 hrs` is
-/// refused at its third byte, and `5 min 3 hrs` at its ninth one. The texts are read by the same
-/// rules, which have any of the tables.
+/// If a text is refused and has a mend, a syntax fault of the mended text is not before the end of
+/// what was written. So `1.5h 3 hrs` is refused at its second byte, and `90min 3 hrs` at its ninth
+/// one. Both texts are read by the same rules, with any table of units.
 #[tactic(auto, using(crate::proofs::LawProofs::Mended::mended_texts_hold))]
 pub fn mended_texts()
     ensures { MendedTexts }
+{}
+
+/// If a text is only a number with a fraction and its unit, is refused, and has a mend, the mended
+/// text is read by the same rules. Its value, times 10 for each digit after the point, is the
+/// number without its point times the unit's length. So `1.5h` becomes `90min`, and 10 times 90
+/// minutes are 15 hours.
+pub fn mended_fractions()
+    ensures { MendedFractions }
 {}

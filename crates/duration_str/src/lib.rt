@@ -10,9 +10,11 @@ pub mod ext;
 mod eye;
 mod fault;
 mod format;
+mod fraction;
 mod help;
 mod humantime;
 pub mod laws;
+mod mended;
 mod message;
 mod more_names;
 mod one_line;
@@ -37,7 +39,8 @@ pub use breakdown::Breakdown;
 pub use error::{DError, DResult};
 pub use ext::HumanFormat;
 pub use format::{Format, Style, Units};
-pub use help::{Help, MAX_SUGGESTION_LEN, Mended};
+pub use help::Help;
+pub use mended::{MAX_SUGGESTION_LEN, Mended, SUGGESTION_BUFFER_SIZE, Suggestion};
 pub use one_line::{MAX_ONE_LINE_LEN, ONE_LINE_BUFFER_SIZE};
 pub use parser::{
     Cause, Expected, Fault, parse, parse_by, parse_looked, parse_nanos, parse_nanos_specialized,

@@ -123,7 +123,7 @@ fn put_byte(buffer: &mut [u8], place: usize, line: &str) -> Option<usize>
     ensures utf8 { IfSome result (λ end. IsUtf8 (take end buffer.new)) }
 {
     let word = put(buffer, 0, b"byte ")?;
-    let number = put_decimal(buffer, word, place)?;
+    let number = put_decimal(buffer, word, place as u64)?;
     let colon = put(buffer, number, b": ")?;
     put(buffer, colon, line.as_bytes())
 }
@@ -166,9 +166,10 @@ fn put_spaces(buffer: &mut [u8], at: usize, count: usize) -> Option<usize>
 }
 
 #[tactic(auto, using(std::proofs::lemmas::Fmt::decimal_digit))]
-pub(crate) fn put_decimal(buffer: &mut [u8], at: usize, number: usize) -> Option<usize>
+pub(crate) fn put_decimal(buffer: &mut [u8], at: usize, number: u64) -> Option<usize>
     requires { at ≤ length buffer.old }
-    ensures { IsInFront (take at buffer.old ++ decimal number) result buffer.new }
+    ensures digits { IsInFront (take at buffer.old ++ decimal number) result buffer.new }
+    ensures small { number < 2 ^ 64 }
 {
     if number < 10 {
         return put(buffer, at, &[b'0' + number as u8]);

@@ -18,23 +18,28 @@ ghost use Rattle.duration_str.specs.Messages.{chars_before};
 ghost use Rattle.std.specs.Option.{ForSome};
 ghost use Rattle.std.specs.Int.{is_in_range};
 ghost use Rattle.duration_str.specs.declared.help.Help.TheVariants.{DidYouMean};
-ghost use Rattle.duration_str.specs.OneLine.{one_line_of, is_plain, is_clear, first_piece, is_unknown_unit, shown, quoted, at_column, found_problem, found_words, unknown_problem, problem_at, text_problem, overflow_words, expected_words, help_end, help_words, overflow_help, syntax_help};
+ghost use Rattle.duration_str.specs.OneLine.{one_line_of, is_plain, is_clear, first_piece, is_unknown_unit, shown, quoted, at_column, found_problem, found_words, unknown_problem, problem_at, text_problem, overflow_words, expected_words, fraction_words, help_end, help_words, mend_of, overflow_help, syntax_help};
+ghost use Rattle.duration_str.specs.Meaning.{meaning_of};
+ghost use Rattle.duration_str.specs.declared.cause.Cause.TheVariants.{Syntax};
 ghost use Rattle.duration_str.specs.declared.one_line.TheConstants.{MAX_ONE_LINE_LEN};
 
 use crate::cause::{Cause, Expected};
 use crate::fault::Fault;
+use crate::fraction::fraction_mend;
 use crate::help::{Found, Help, found_at, overflow_help};
+use crate::mended::{Suggestion, put_suggestion};
 use crate::message::{chars_before, put, put_decimal};
+use crate::rules::Rules;
 use crate::unit::TimeUnit;
 
 /// No fault's line has more bytes than this.
 ///
 /// ```
-/// use duration_str::{MAX_ONE_LINE_LEN, ONE_LINE_BUFFER_SIZE, Options, parse_with};
+/// use duration_str::{MAX_ONE_LINE_LEN, Options, parse_with};
 ///
 /// let text = "1".to_string() + &"\u{1f600}".repeat(50);
 /// let fault = parse_with(&text, Options::off()).unwrap_err();
-/// assert!(fault.write_one_line(&mut [0; ONE_LINE_BUFFER_SIZE]).len() <= MAX_ONE_LINE_LEN);
+/// assert!(fault.to_string().len() <= MAX_ONE_LINE_LEN);
 /// ```
 pub const MAX_ONE_LINE_LEN: usize = 294;
 
@@ -47,24 +52,28 @@ impl Fault<'_> {
     /// Writes the fault in one line to the start of a buffer, and returns the line. It says what is
     /// wrong, and for a syntax fault at which column, and what stands there. A quote shows at most
     /// 40 characters. In it, `"`, the backslash, control characters and most characters that can't
-    /// be seen are escaped. The buffer's old contents do not matter. The call allocates nothing and
-    /// cannot fail.
+    /// be seen are escaped. These are the rules by which the text was read. For a fraction they
+    /// decide what to write instead. The buffer's old contents do not matter. The call allocates
+    /// nothing and cannot fail.
     ///
-    /// ```
-    /// use duration_str::{ONE_LINE_BUFFER_SIZE, Options, parse_with};
-    ///
+    /// ```text
+    /// let rules = Rules::of(Options::off());
     /// let mut buffer = [0; ONE_LINE_BUFFER_SIZE];
-    /// let fault = parse_with("1m 3-5", Options::off()).unwrap_err();
-    /// let line = fault.write_one_line(&mut buffer);
-    /// assert_eq!(line, r#"expected a unit, '+', '*' or the end at column 5, found "-""#);
+    /// parse_by("1m 3-5", rules).unwrap_err().write_one_line(rules, &mut buffer)
+    /// // expected a unit, '+', '*' or the end at column 5, found "-"
     /// ```
     #[must_use]
-    pub fn write_one_line<'b>(&self, buffer: &'b mut [u8; ONE_LINE_BUFFER_SIZE]) -> &'b str
-        ensures text { result.now ≡ one_line_of self.now.text.now self.now.cause }
+    pub fn write_one_line<'b>(
+        &self,
+        rules: Rules,
+        buffer: &'b mut [u8; ONE_LINE_BUFFER_SIZE],
+    ) -> &'b str
+        ensures text { result.now
+            ≡ one_line_of (meaning_of rules) self.now.text.now self.now.cause }
         ensures plain { IsTrue (list_all is_plain (chars result.now)) }
         ensures short { length result.now ≤ MAX_ONE_LINE_LEN }
     {
-        match put_line(buffer, self.text, self.cause) {
+        match put_line(buffer, self.text, self.cause, rules) {
             // SAFETY: the line up to `end` is UTF-8.
             Some(end) => unsafe { std::str::from_utf8_unchecked(&buffer[..end]) },
             // The longest line fits.
@@ -73,13 +82,13 @@ impl Fault<'_> {
     }
 }
 
-fn put_line(buffer: &mut [u8], text: &str, cause: Cause) -> Option<usize>
+fn put_line(buffer: &mut [u8], text: &str, cause: Cause, rules: Rules) -> Option<usize>
     requires { ForSome (place_of cause) (IsCharBoundary text.now) }
-    ensures { IsInFront (one_line_of text.now cause) result buffer.new }
+    ensures { IsInFront (one_line_of (meaning_of rules) text.now cause) result buffer.new }
 {
     match cause {
         Cause::Empty => put(buffer, 0, b"empty text"),
-        Cause::Syntax { place, expected } => put_syntax(buffer, text, place, expected),
+        Cause::Syntax { place, expected } => put_syntax(buffer, text, place, expected, rules),
         Cause::NumberTooLarge { .. } => put_text_problem(buffer, "number of 2^64 or more", text),
         Cause::Overflow { .. } => put_overflow(buffer, text),
         Cause::Mixed { .. } => put_text_problem(buffer, "sum and product mixed", text),
@@ -87,16 +96,38 @@ fn put_line(buffer: &mut [u8], text: &str, cause: Cause) -> Option<usize>
     }
 }
 
-fn put_syntax(buffer: &mut [u8], text: &str, place: usize, expected: Expected) -> Option<usize>
+fn put_syntax(
+    buffer: &mut [u8],
+    text: &str,
+    place: usize,
+    expected: Expected,
+    rules: Rules,
+) -> Option<usize>
     requires { IsCharBoundary text.now place }
     ensures { IsInFront (problem_at (chars_before text.now place + 1) expected
         (first_piece (ahead text.now place))
-        ++ help_end (syntax_help text.now place expected (first_piece (ahead text.now place))))
+        ++ help_end (syntax_help text.now place expected (first_piece (ahead text.now place)))
+        (mend_of (meaning_of rules) text.now (Syntax place expected)))
         result buffer.new }
 {
     let found = found_at(text, place, expected);
     let end = put_syntax_problem(buffer, column_at(text, place), expected, &found)?;
-    put_help(buffer, end, found.help)
+    if found.help != Some(Help::Fraction) {
+        return put_help(buffer, end, found.help);
+    }
+    match fraction_mend(text, place, expected, rules) {
+        Some(mend) => put_fraction_words(buffer, end, mend.suggestion),
+        None => put_help(buffer, end, found.help),
+    }
+}
+
+fn put_fraction_words(buffer: &mut [u8], at: usize, suggestion: Suggestion) -> Option<usize>
+    requires { at ≤ length buffer.old }
+    ensures { IsInFront (take at buffer.old ++ fraction_words suggestion) result buffer.new }
+{
+    let term = put(buffer, at, b" (fractions are not read: write ")?;
+    let end = put_suggestion(buffer, term, suggestion)?;
+    put(buffer, end, b")")
 }
 
 #[inline(always)]
@@ -155,7 +186,7 @@ fn put_words(buffer: &mut [u8], at: usize, piece: &str) -> Option<usize>
 
 fn put_overflow(buffer: &mut [u8], text: &str) -> Option<usize>
     ensures { IsInFront (text_problem (overflow_words text.now) text.now
-        ++ help_end (overflow_help text.now)) result buffer.new }
+        ++ help_end (overflow_help text.now) None) result buffer.new }
 {
     let end = put_overflow_problem(buffer, text)?;
     put_help(buffer, end, overflow_help(text.as_bytes()))
@@ -187,7 +218,7 @@ fn put_text_problem(buffer: &mut [u8], problem: &str, text: &str) -> Option<usiz
 
 fn put_help(buffer: &mut [u8], at: usize, help: Option<Help>) -> Option<usize>
     requires { at ≤ length buffer.old }
-    ensures { IsInFront (take at buffer.old ++ help_end help) result buffer.new }
+    ensures { IsInFront (take at buffer.old ++ help_end help None) result buffer.new }
 {
     match help {
         Some(help) => put_text(buffer, at, help_words(help)),
@@ -201,7 +232,7 @@ fn help_words(help: Help) -> &'static str
     match help {
         Help::DidYouMean(unit) => near_words(unit),
         Help::Units => " (write y, q, mon, w, d, h, min, s, ms, us or ns)",
-        Help::Fraction => " (numbers have digits only: write 1500ms for 1.5s)",
+        Help::Fraction => " (numbers have digits only)",
         Help::DigitsOnly => " (numbers have digits only)",
         Help::ClockTime => " (clock times are not read: write 1h 30m or 1m 30s)",
         Help::Negative => " (negative durations are not read)",
@@ -241,7 +272,7 @@ fn put_column(buffer: &mut [u8], at: usize, column: usize) -> Option<usize>
     ensures { IsInFront (take at buffer.old ++ at_column column) result buffer.new }
 {
     let number = put(buffer, at, b" at column ")?;
-    put_decimal(buffer, number, column)
+    put_decimal(buffer, number, column as u64)
 }
 
 fn put_text(buffer: &mut [u8], at: usize, text: &str) -> Option<usize>

@@ -2,15 +2,18 @@
 ghost use Rattle.std.specs.Prelude.{◌≡◌, ◌*◌, ◌<◌, ◌≤◌, length};
 ghost use Rattle.std.specs.List.{list_all};
 ghost use Rattle.std.specs.Str.{chars};
+ghost use Rattle.duration_str.specs.Meaning.{meaning_of};
 ghost use Rattle.duration_str.specs.Messages.{laid_out};
 ghost use Rattle.duration_str.specs.OneLine.{is_clear, one_line_of};
 ghost use Rattle.duration_str.specs.Report.{report_of, is_clear_text, columns_of};
+ghost use Rattle.duration_str.specs.Rules.{Rules as AnyRules};
 ghost use Rattle.duration_str.specs.declared.report.TheConstants.{REPORT_BUFFER_SIZE};
 
 use crate::cause::Cause;
 use crate::fault::Fault;
 use crate::message::Layout;
 use crate::one_line::{ONE_LINE_BUFFER_SIZE, is_clear};
+use crate::rules::Rules;
 use crate::slice::range_to;
 
 /// The size of a buffer that has room for every report: 80 characters of four bytes, two spaces for
@@ -22,27 +25,31 @@ const MOST_ABOVE: usize = 80;
 impl Fault<'_> {
     /// Writes a report of the fault, for a terminal, to the start of a buffer, and returns it. The
     /// report is the text, below it a caret at the place of the syntax fault, and below that the
-    /// line of `write_one_line`.
+    /// line of `write_one_line` by these rules.
     ///
     /// The report is the line alone if the cause is not `Syntax`, if the text has more than 80
     /// characters, or if the line would escape a character of the text. The buffer's old contents
     /// do not matter. The call allocates nothing and cannot fail.
     ///
-    /// ```
-    /// use duration_str::{Options, REPORT_BUFFER_SIZE, parse_with};
-    ///
+    /// ```text
+    /// let rules = Rules::of(Options::off());
     /// let mut buffer = [0; REPORT_BUFFER_SIZE];
-    /// let fault = parse_with("5 mins", Options::off()).unwrap_err();
-    /// let report = "5 mins\n  ^\nunknown unit \"mins\" at column 3 (did you mean \"min\"?)";
-    /// assert_eq!(fault.write_report(&mut buffer), report);
+    /// parse_by("5 mins", rules).unwrap_err().write_report(rules, &mut buffer)
+    /// // 5 mins
+    /// //   ^
+    /// // unknown unit "mins" at column 3 (did you mean "min"?)
     /// ```
     #[must_use]
-    pub fn write_report<'b>(&self, buffer: &'b mut [u8; REPORT_BUFFER_SIZE]) -> &'b str
-        ensures text { result.now ≡ report_of self.now.text.now self.now.cause }
+    pub fn write_report<'b>(
+        &self,
+        rules: Rules,
+        buffer: &'b mut [u8; REPORT_BUFFER_SIZE],
+    ) -> &'b str
+        ensures text { result.now ≡ report_of (meaning_of rules) self.now.text.now self.now.cause }
         ensures short { length result.now < REPORT_BUFFER_SIZE }
     {
         let mut line = [0; ONE_LINE_BUFFER_SIZE];
-        let line = self.write_one_line(&mut line);
+        let line = self.write_one_line(rules, &mut line);
         match self.report_layout().message(buffer, self.text, line) {
             Some(report) => report,
             // The longest report fits.
@@ -51,8 +58,9 @@ impl Fault<'_> {
     }
 
     fn report_layout(&self) -> Layout
-        ensures { laid_out result self.now.text.now (one_line_of self.now.text.now self.now.cause)
-            ≡ report_of self.now.text.now self.now.cause }
+        ensures { (r : AnyRules) →
+            laid_out result self.now.text.now (one_line_of r self.now.text.now self.now.cause)
+            ≡ report_of r self.now.text.now self.now.cause }
     {
         match self.cause {
             Cause::Syntax { place, .. } if is_clear_text(self.text) => Layout::Caret {

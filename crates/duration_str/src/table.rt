@@ -30,6 +30,15 @@ impl UnitTable {
         }
     }
 
+    pub(crate) fn nanos(self, unit: TimeUnit) -> u64
+        ensures { result ≡ (table_of self unit).nanos }
+    {
+        match self {
+            UnitTable::Own | UnitTable::More => unit.nanos(),
+            UnitTable::Humantime => humantime::nanos(unit),
+        }
+    }
+
     /// Returns the nanoseconds of a term, or its fault. `number` is `None` for a number of 2^64 or
     /// more, and `place` is the place of a fault.
     #[inline]

@@ -18,6 +18,6 @@ pub use help::{default_timeout, refused_words};
 pub use line::without_line_feed;
 pub use log::add_entry;
 pub use product::{Part, scaled};
-pub use prompt::{is_unfinished, needs_letters, offered};
+pub use prompt::{is_unfinished, needs_letters, offered, taken_for};
 pub use stored::{more_strictly, stored_duration, stored_unit, with_more_names};
 pub use sum::{longest_first, total_of};

@@ -1,12 +1,16 @@
 //! What a prompt shows where a text can't be read yet.
 #![tactic(auto)]
 
-ghost use Rattle.std.specs.Prelude.{◌≡◌, ◌↔◌, ◌&&◌, ◌+◌, ◌++◌, ◌≤◌, ℕ, false, length, IfSome, Some, IsTrue, chars};
-ghost use Rattle.uses.specs.Common.{Syntax, Expected as Kinds, IsRefused};
+ghost use Rattle.std.specs.Prelude.{◌≡◌, ◌↔◌, ◌&&◌, ◌+◌, ◌*◌, ◌^◌, ◌++◌, ◌≤◌, ℕ, List, false, length, IfSome, Some, IsTrue, chars};
+ghost use Rattle.uses.specs.Common.{Syntax, Expected as Kinds, as_nanos, IsRefused, TimeUnit};
 ghost use Rattle.duration_str.specs.Meaning.{meaning_of};
+ghost use Rattle.duration_str.specs.Mended.{IsFraction};
+ghost use Rattle.duration_str.specs.OneLine.{suggestion_text};
+ghost use Rattle.duration_str.specs.Text.{number_of};
 
-use duration_str::laws::{mended_texts, one_sentence, place_and_kinds};
-use duration_str::{Cause, Mended, Rules, parse_by};
+use duration_str::laws::{mended_fractions, mended_texts, one_sentence, place_and_kinds};
+use duration_str::{Cause, Mended, Rules, SUGGESTION_BUFFER_SIZE, parse_by};
+use std::time::Duration;
 
 /// Returns whether a text has a syntax fault at its end, so that a prompt should wait for more.
 ///
@@ -54,22 +58,55 @@ pub fn needs_letters(text: &str, rules: Rules) -> Option<bool>
     }
 }
 
-/// Returns what a prompt offers in place of a refused text: the text with the name that its help
-/// suggests. If the offer has a syntax fault by the same rules, then only after that name. So the
-/// prompt can put the cursor there.
+/// Returns what a prompt offers in place of a refused text: its mended text. If the offer has a
+/// syntax fault by the same rules, then only after what was written. So the prompt can put the
+/// cursor there.
 ///
 /// ```text
 /// offered("5 mins 3x", Rules::of(Options::off())) // `5 `, `min` and ` 3x`
+/// offered("1.5h 3x", Rules::of(Options::off()))   // ``, `90min` and ` 3x`
 /// ```
 pub fn offered(text: &str, rules: Rules) -> Option<Mended<'_>>
     ensures { IfSome result (λ new. (place : ℕ) (expected : Kinds)
-        → IsRefused (meaning_of rules) (chars (new.front.now ++ (new.name.now ++ new.rest.now)))
+        → IsRefused (meaning_of rules)
+        (chars (new.front.now ++ (suggestion_text new.suggestion ++ new.rest.now)))
         (Syntax place expected)
-        → length new.front.now + length new.name.now ≤ place) }
+        → length new.front.now + length (suggestion_text new.suggestion) ≤ place) }
 {
     mended_texts();
     match parse_by(text, rules) {
         Ok(_) => None,
-        Err(fault) => fault.mended(),
+        Err(fault) => fault.mended(rules),
+    }
+}
+
+/// Returns the duration that a prompt takes a refused text for, if one term is written in place of
+/// the whole text. It does so for a number with a fraction and its unit, as in `1.5h`. The duration
+/// is then exact: times 10 for each digit after the point, it is the number without its point times
+/// the unit's length.
+///
+/// ```text
+/// taken_for("1.5h", Rules::of(Options::off()))    // Some(Duration::from_secs(5_400))
+/// taken_for("0.5ns", Rules::of(Options::off()))   // None
+/// taken_for("1.5h 1m", Rules::of(Options::off())) // None
+/// ```
+pub fn taken_for(text: &str, rules: Rules) -> Option<Duration>
+    ensures { IfSome result (λ d. (whole : List ℕ) (decimals : List ℕ) (unit : TimeUnit)
+        → IsFraction rules text.now whole decimals unit
+        → as_nanos d * 10 ^ length decimals
+        ≡ number_of (whole ++ decimals) * ((meaning_of rules).table unit).nanos) }
+{
+    one_sentence();
+    mended_fractions();
+    match parse_by(text, rules) {
+        Ok(_) => None,
+        Err(fault) => {
+            let new = fault.mended(rules)?;
+            if !new.front.is_empty() || !new.rest.is_empty() {
+                return None;
+            }
+            let mut buffer = [0; SUGGESTION_BUFFER_SIZE];
+            parse_by(new.suggestion.write(&mut buffer), rules).ok()
+        }
     }
 }

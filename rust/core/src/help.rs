@@ -12,9 +12,6 @@ use crate::slice::{range_from, range_to};
 use crate::token::is_blank;
 use crate::unit::TimeUnit;
 
-/// No name of `Help::suggestion` has more bytes than this.
-pub const MAX_SUGGESTION_LEN: usize = 3;
-
 /// What a user may have meant by a refused text, or should write instead. The fault's line ends
 /// with it in words.
 ///
@@ -64,23 +61,6 @@ pub enum Help {
 }
 
 impl Help {
-    /// Returns the name to write instead of the word at the fault's place, if the help names one.
-    /// It is the name that the unit is printed with, but `us` for the microsecond.
-    ///
-    /// ```
-    /// use duration_str::{Help, TimeUnit};
-    ///
-    /// assert_eq!(Help::DidYouMean(TimeUnit::Minute).suggestion(), Some("min"));
-    /// assert_eq!(Help::Negative.suggestion(), None);
-    /// ```
-    #[must_use]
-    pub const fn suggestion(self) -> Option<&'static str> {
-        match self {
-            Help::DidYouMean(unit) => Some(help_name(unit)),
-            _ => None,
-        }
-    }
-
     /// Returns the help's number, by which programs in other languages know it. The numbers are 1
     /// for `DidYouMean`, 2 for `Units` and so on, in the order of the enum.
     ///
@@ -116,10 +96,10 @@ impl<'a> Fault<'a> {
     /// Returns the help for the fault, if any. The line of `write_one_line` ends with its words.
     ///
     /// ```
-    /// use duration_str::{Options, parse_with};
+    /// use duration_str::{Help, Options, parse_with};
     ///
-    /// let fault = parse_with("2h 5 mins", Options::off()).unwrap_err();
-    /// assert_eq!(fault.help().and_then(|help| help.suggestion()), Some("min"));
+    /// let fault = parse_with("1h, 30m", Options::off()).unwrap_err();
+    /// assert_eq!(fault.help(), Some(Help::OneDuration));
     /// ```
     #[must_use]
     pub fn help(&self) -> Option<Help> {
@@ -129,50 +109,6 @@ impl<'a> Fault<'a> {
             _ => None,
         }
     }
-
-    /// Returns the text with the name that the help suggests in place of the word that is no unit,
-    /// or `None` if the help suggests none. The word is quoted in the fault's line. It begins with
-    /// the token at the fault's place, and can be longer, such as `μs` with the Greek letter mu.
-    ///
-    /// ```
-    /// use duration_str::{Options, parse_with};
-    ///
-    /// let fault = parse_with("2h 5 mins 3s", Options::off()).unwrap_err();
-    /// let mended = fault.mended().unwrap();
-    /// assert_eq!([mended.front, mended.word, mended.name], ["2h 5 ", "mins", "min"]);
-    /// assert_eq!(mended.rest, " 3s");
-    /// ```
-    #[must_use]
-    pub fn mended(&self) -> Option<Mended<'a>> {
-        let Cause::Syntax { place, expected } = self.cause else {
-            return None;
-        };
-        let found = found_at(self.text, place, expected);
-        let name = found.help?.suggestion()?;
-        Some(with_name(self.text, place, found.piece, name))
-    }
-}
-
-/// A refused text in which a help suggests a name in place of a word. The refused text is `front`,
-/// `word` and `rest`, and the mended text is `front`, `name` and `rest`.
-///
-/// ```
-/// use duration_str::{Options, parse_with};
-///
-/// let mended = parse_with("5 μseconds", Options::off()).unwrap_err().mended().unwrap();
-/// assert_eq!([mended.front, mended.word, mended.name], ["5 ", "μseconds", "us"]);
-/// ```
-#[derive(Clone, Copy, Debug, PartialEq, Eq, Hash)]
-#[non_exhaustive]
-pub struct Mended<'a> {
-    /// The text before the word.
-    pub front: &'a str,
-    /// The word that is no unit.
-    pub word: &'a str,
-    /// The name to write in place of the word.
-    pub name: &'static str,
-    /// The text after the word.
-    pub rest: &'a str,
 }
 
 /// What stands at the place of a syntax fault.
@@ -184,7 +120,8 @@ pub(crate) struct Found<'a> {
     pub(crate) help: Option<Help>,
 }
 
-/// Returns what stands at the place. One copy serves the line and `Fault::help`.
+/// Returns what stands at the place. It is not inline, so that the line, `Fault::help` and
+/// `Fault::mended` share one copy.
 pub(crate) fn found_at(text: &str, place: usize, expected: Expected) -> Found<'_> {
     let piece = first_piece(range_from(text, place));
     let is_unknown_unit = is_unknown_unit(expected, piece);
@@ -201,17 +138,6 @@ pub(crate) fn found_at(text: &str, place: usize, expected: Expected) -> Found<'_
         piece,
         is_unknown_unit,
         help: far_help(is_unknown_unit, expected, text, help),
-    }
-}
-
-/// Returns the text with the name in place of the word, which stands at the place.
-fn with_name<'a>(text: &'a str, place: usize, word: &'a str, name: &'static str) -> Mended<'a> {
-    let ahead = range_from(text, place);
-    Mended {
-        front: range_to(text, place),
-        word,
-        name,
-        rest: range_from(ahead, word.len()),
     }
 }
 
@@ -251,7 +177,7 @@ pub(crate) fn overflow_help(text: &[u8]) -> Option<Help> {
     }
 }
 
-fn first_piece(text: &str) -> &str {
+pub(crate) fn first_piece(text: &str) -> &str {
     let mut chars = text.chars();
     let Some(first) = chars.next() else {
         return text;
@@ -272,7 +198,7 @@ fn is_like(first: char, c: char) -> bool {
     c.is_ascii_digit() && first.is_ascii_digit() || is_letter(c) && is_letter(first)
 }
 
-fn begins_with_letter(text: &str) -> bool {
+pub(crate) fn begins_with_letter(text: &str) -> bool {
     match text.chars().next() {
         Some(c) => is_letter(c),
         None => false,
@@ -290,7 +216,7 @@ fn is_letter(c: char) -> bool {
 }
 
 /// Returns the unit for which people write a word that the library's own table lacks.
-fn near_unit(word: &str) -> Option<TimeUnit> {
+pub(crate) fn near_unit(word: &str) -> Option<TimeUnit> {
     if word == "mo" || word == "mos" {
         return Some(TimeUnit::Month);
     }
@@ -302,7 +228,7 @@ fn near_unit(word: &str) -> Option<TimeUnit> {
     }
 }
 
-const fn help_name(unit: TimeUnit) -> &'static str {
+pub(crate) const fn help_name(unit: TimeUnit) -> &'static str {
     match unit {
         TimeUnit::MicroSecond => "us",
         other => other.name(),

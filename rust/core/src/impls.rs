@@ -4,14 +4,17 @@ use super::breakdown::Breakdown;
 use super::cause::Cause;
 use super::fault::Fault;
 use super::format::{Format, Style};
-use super::help::Mended;
+use super::mended::{Mended, SUGGESTION_BUFFER_SIZE, Suggestion};
 use super::options::Options;
+use super::rules::Rules;
 use super::token::Tokens;
 use super::unit::{TimeUnit, UNITS};
 use core::cmp::Ordering;
 use core::error::Error;
 use core::fmt;
+use core::hash::{Hash, Hasher};
 use core::iter::FusedIterator;
+use core::mem::discriminant;
 use core::str::FromStr;
 
 impl Options {
@@ -63,6 +66,13 @@ impl Options {
 impl Default for Options {
     fn default() -> Options {
         Options::off()
+    }
+}
+
+/// A fault, which has the rules by which its text was read, can be kept in a set.
+impl Hash for Rules {
+    fn hash<H: Hasher>(&self, state: &mut H) {
+        (discriminant(&self.table), self.default_unit, self.options).hash(state);
     }
 }
 
@@ -130,10 +140,25 @@ impl fmt::Display for UnknownStyle {
 
 impl Error for UnknownStyle {}
 
+/// Prints what to write, such as `90min`. It is empty if a part of the text is only to be removed.
+///
+/// ```
+/// use duration_str::{Suggestion, TimeUnit};
+///
+/// let two_days = Suggestion { count: Some(2), unit: Some(TimeUnit::Day) };
+/// assert_eq!(format!("{two_days:>4}"), "  2d");
+/// ```
+impl fmt::Display for Suggestion {
+    fn fmt(&self, f: &mut fmt::Formatter<'_>) -> fmt::Result {
+        f.pad(self.write(&mut [0; SUGGESTION_BUFFER_SIZE]))
+    }
+}
+
 /// Prints the mended text.
 impl fmt::Display for Mended<'_> {
     fn fmt(&self, f: &mut fmt::Formatter<'_>) -> fmt::Result {
-        [self.front, self.name, self.rest]
+        let mut buffer = [0; SUGGESTION_BUFFER_SIZE];
+        [self.front, self.suggestion.write(&mut buffer), self.rest]
             .into_iter()
             .try_for_each(|piece| f.write_str(piece))
     }

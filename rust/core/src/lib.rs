@@ -18,9 +18,13 @@ mod fault;
 #[forbid(unsafe_code)]
 mod format;
 #[forbid(unsafe_code)]
+mod fraction;
+#[forbid(unsafe_code)]
 mod help;
 #[forbid(unsafe_code)]
 mod humantime;
+#[allow(unsafe_code)] // Blocks: 1.
+mod mended;
 #[allow(unsafe_code)] // Blocks: 1.
 mod message;
 #[forbid(unsafe_code)]
@@ -56,7 +60,8 @@ mod unit;
 
 pub use self::breakdown::Breakdown;
 pub use self::format::{Format, Style, Units};
-pub use self::help::{Help, MAX_SUGGESTION_LEN, Mended};
+pub use self::help::Help;
+pub use self::mended::{MAX_SUGGESTION_LEN, Mended, SUGGESTION_BUFFER_SIZE, Suggestion};
 pub use self::one_line::{MAX_ONE_LINE_LEN, ONE_LINE_BUFFER_SIZE};
 pub use self::parser::{
     Cause, Expected, Fault, parse, parse_by, parse_looked, parse_nanos, parse_nanos_specialized,

@@ -87,7 +87,7 @@ pub(crate) fn chars_before(text: &str, place: usize) -> usize {
 
 fn put_byte(buffer: &mut [u8], place: usize, line: &str) -> Option<usize> {
     let word = put(buffer, 0, b"byte ")?;
-    let number = put_decimal(buffer, word, place)?;
+    let number = put_decimal(buffer, word, place as u64)?;
     let colon = put(buffer, number, b": ")?;
     put(buffer, colon, line.as_bytes())
 }
@@ -120,7 +120,7 @@ fn put_spaces(buffer: &mut [u8], at: usize, count: usize) -> Option<usize> {
     Some(end)
 }
 
-pub(crate) fn put_decimal(buffer: &mut [u8], at: usize, number: usize) -> Option<usize> {
+pub(crate) fn put_decimal(buffer: &mut [u8], at: usize, number: u64) -> Option<usize> {
     if number < 10 {
         return put(buffer, at, &[b'0' + number as u8]);
     }

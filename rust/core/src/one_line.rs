@@ -8,18 +8,21 @@
 
 use crate::cause::{Cause, Expected};
 use crate::fault::Fault;
+use crate::fraction::fraction_mend;
 use crate::help::{Found, Help, found_at, overflow_help};
+use crate::mended::{Suggestion, put_suggestion};
 use crate::message::{chars_before, put, put_decimal};
+use crate::rules::Rules;
 use crate::unit::TimeUnit;
 
 /// No fault's line has more bytes than this.
 ///
 /// ```
-/// use duration_str_core::{MAX_ONE_LINE_LEN, ONE_LINE_BUFFER_SIZE, Options, parse_with};
+/// use duration_str_core::{MAX_ONE_LINE_LEN, Options, parse_with};
 ///
 /// let text = "1".to_string() + &"\u{1f600}".repeat(50);
 /// let fault = parse_with(&text, Options::off()).unwrap_err();
-/// assert!(fault.write_one_line(&mut [0; ONE_LINE_BUFFER_SIZE]).len() <= MAX_ONE_LINE_LEN);
+/// assert!(fault.to_string().len() <= MAX_ONE_LINE_LEN);
 /// ```
 pub const MAX_ONE_LINE_LEN: usize = 294;
 
@@ -32,20 +35,23 @@ impl Fault<'_> {
     /// Writes the fault in one line to the start of a buffer, and returns the line. It says what is
     /// wrong, and for a syntax fault at which column, and what stands there. A quote shows at most
     /// 40 characters. In it, `"`, the backslash, control characters and most characters that can't
-    /// be seen are escaped. The buffer's old contents do not matter. The call allocates nothing and
-    /// cannot fail.
+    /// be seen are escaped. These are the rules by which the text was read. For a fraction they
+    /// decide what to write instead. The buffer's old contents do not matter. The call allocates
+    /// nothing and cannot fail.
     ///
-    /// ```
-    /// use duration_str_core::{ONE_LINE_BUFFER_SIZE, Options, parse_with};
-    ///
+    /// ```text
+    /// let rules = Rules::of(Options::off());
     /// let mut buffer = [0; ONE_LINE_BUFFER_SIZE];
-    /// let fault = parse_with("1m 3-5", Options::off()).unwrap_err();
-    /// let line = fault.write_one_line(&mut buffer);
-    /// assert_eq!(line, r#"expected a unit, '+', '*' or the end at column 5, found "-""#);
+    /// parse_by("1m 3-5", rules).unwrap_err().write_one_line(rules, &mut buffer)
+    /// // expected a unit, '+', '*' or the end at column 5, found "-"
     /// ```
     #[must_use]
-    pub fn write_one_line<'b>(&self, buffer: &'b mut [u8; ONE_LINE_BUFFER_SIZE]) -> &'b str {
-        match put_line(buffer, self.text, self.cause) {
+    pub fn write_one_line<'b>(
+        &self,
+        rules: Rules,
+        buffer: &'b mut [u8; ONE_LINE_BUFFER_SIZE],
+    ) -> &'b str {
+        match put_line(buffer, self.text, self.cause, rules) {
             // SAFETY: the line up to `end` is UTF-8.
             Some(end) => unsafe { core::str::from_utf8_unchecked(&buffer[..end]) },
             // The longest line fits.
@@ -54,10 +60,10 @@ impl Fault<'_> {
     }
 }
 
-fn put_line(buffer: &mut [u8], text: &str, cause: Cause) -> Option<usize> {
+fn put_line(buffer: &mut [u8], text: &str, cause: Cause, rules: Rules) -> Option<usize> {
     match cause {
         Cause::Empty => put(buffer, 0, b"empty text"),
-        Cause::Syntax { place, expected } => put_syntax(buffer, text, place, expected),
+        Cause::Syntax { place, expected } => put_syntax(buffer, text, place, expected, rules),
         Cause::NumberTooLarge { .. } => put_text_problem(buffer, "number of 2^64 or more", text),
         Cause::Overflow { .. } => put_overflow(buffer, text),
         Cause::Mixed { .. } => put_text_problem(buffer, "sum and product mixed", text),
@@ -65,10 +71,28 @@ fn put_line(buffer: &mut [u8], text: &str, cause: Cause) -> Option<usize> {
     }
 }
 
-fn put_syntax(buffer: &mut [u8], text: &str, place: usize, expected: Expected) -> Option<usize> {
+fn put_syntax(
+    buffer: &mut [u8],
+    text: &str,
+    place: usize,
+    expected: Expected,
+    rules: Rules,
+) -> Option<usize> {
     let found = found_at(text, place, expected);
     let end = put_syntax_problem(buffer, column_at(text, place), expected, &found)?;
-    put_help(buffer, end, found.help)
+    if found.help != Some(Help::Fraction) {
+        return put_help(buffer, end, found.help);
+    }
+    match fraction_mend(text, place, expected, rules) {
+        Some(mend) => put_fraction_words(buffer, end, mend.suggestion),
+        None => put_help(buffer, end, found.help),
+    }
+}
+
+fn put_fraction_words(buffer: &mut [u8], at: usize, suggestion: Suggestion) -> Option<usize> {
+    let term = put(buffer, at, b" (fractions are not read: write ")?;
+    let end = put_suggestion(buffer, term, suggestion)?;
+    put(buffer, end, b")")
 }
 
 #[inline(always)]
@@ -144,7 +168,7 @@ fn help_words(help: Help) -> &'static str {
     match help {
         Help::DidYouMean(unit) => near_words(unit),
         Help::Units => " (write y, q, mon, w, d, h, min, s, ms, us or ns)",
-        Help::Fraction => " (numbers have digits only: write 1500ms for 1.5s)",
+        Help::Fraction => " (numbers have digits only)",
         Help::DigitsOnly => " (numbers have digits only)",
         Help::ClockTime => " (clock times are not read: write 1h 30m or 1m 30s)",
         Help::Negative => " (negative durations are not read)",
@@ -179,7 +203,7 @@ fn near_words(unit: TimeUnit) -> &'static str {
 
 fn put_column(buffer: &mut [u8], at: usize, column: usize) -> Option<usize> {
     let number = put(buffer, at, b" at column ")?;
-    put_decimal(buffer, number, column)
+    put_decimal(buffer, number, column as u64)
 }
 
 fn put_text(buffer: &mut [u8], at: usize, text: &str) -> Option<usize> {

@@ -5,6 +5,7 @@ use crate::cause::Cause;
 use crate::fault::Fault;
 use crate::message::Layout;
 use crate::one_line::{ONE_LINE_BUFFER_SIZE, is_clear};
+use crate::rules::Rules;
 use crate::slice::range_to;
 
 /// The size of a buffer that has room for every report: 80 characters of four bytes, two spaces for
@@ -16,24 +17,28 @@ const MOST_ABOVE: usize = 80;
 impl Fault<'_> {
     /// Writes a report of the fault, for a terminal, to the start of a buffer, and returns it. The
     /// report is the text, below it a caret at the place of the syntax fault, and below that the
-    /// line of `write_one_line`.
+    /// line of `write_one_line` by these rules.
     ///
     /// The report is the line alone if the cause is not `Syntax`, if the text has more than 80
     /// characters, or if the line would escape a character of the text. The buffer's old contents
     /// do not matter. The call allocates nothing and cannot fail.
     ///
-    /// ```
-    /// use duration_str_core::{Options, REPORT_BUFFER_SIZE, parse_with};
-    ///
+    /// ```text
+    /// let rules = Rules::of(Options::off());
     /// let mut buffer = [0; REPORT_BUFFER_SIZE];
-    /// let fault = parse_with("5 mins", Options::off()).unwrap_err();
-    /// let report = "5 mins\n  ^\nunknown unit \"mins\" at column 3 (did you mean \"min\"?)";
-    /// assert_eq!(fault.write_report(&mut buffer), report);
+    /// parse_by("5 mins", rules).unwrap_err().write_report(rules, &mut buffer)
+    /// // 5 mins
+    /// //   ^
+    /// // unknown unit "mins" at column 3 (did you mean "min"?)
     /// ```
     #[must_use]
-    pub fn write_report<'b>(&self, buffer: &'b mut [u8; REPORT_BUFFER_SIZE]) -> &'b str {
+    pub fn write_report<'b>(
+        &self,
+        rules: Rules,
+        buffer: &'b mut [u8; REPORT_BUFFER_SIZE],
+    ) -> &'b str {
         let mut line = [0; ONE_LINE_BUFFER_SIZE];
-        let line = self.write_one_line(&mut line);
+        let line = self.write_one_line(rules, &mut line);
         match self.report_layout().message(buffer, self.text, line) {
             Some(report) => report,
             // The longest report fits.

@@ -25,6 +25,13 @@ impl UnitTable {
         }
     }
 
+    pub(crate) fn nanos(self, unit: TimeUnit) -> u64 {
+        match self {
+            UnitTable::Own | UnitTable::More => unit.nanos(),
+            UnitTable::Humantime => humantime::nanos(unit),
+        }
+    }
+
     /// Returns the nanoseconds of a term, or its fault. `number` is `None` for a number of 2^64 or
     /// more, and `place` is the place of a fault.
     #[inline]

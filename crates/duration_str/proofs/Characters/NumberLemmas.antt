@@ -15,7 +15,7 @@ number_after-is n (c ∷ cs) =
     let there = number_after-is (0 * 10 + (c - 48)) cs in
     omega (arith, ap (λ x. n * x) (pow-suc 10 (length cs)))
 
-number_after-append : (n : ℕ) (cs ds : List ℕ) → number_after n (cs ++ ds) ≡ number_after (number_after n cs) ds
+pub number_after-append : (n : ℕ) (cs ds : List ℕ) → number_after n (cs ++ ds) ≡ number_after (number_after n cs) ds
 number_after-append n [] ds = refl
 number_after-append n (c ∷ cs) ds = number_after-append (n * 10 + (c - 48)) cs ds
 

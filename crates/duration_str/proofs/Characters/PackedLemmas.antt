@@ -1,5 +1,5 @@
 -- Lemmas about packed names and their slots in the table.
-use Rattle.duration_str.proofs.Common.{[], all_names_in, and_from, and_parts, ap, arith, Bool, byte_len, bytes_eq, cases_Bool, chinese_letters, comparison_form, eq-eqb, eqb, eqb-true, false, false_from_ne_true, get_or, Humantime, if◌then◌else◌, inl, inr, is_chinese, is_in_row, is_named, is_some, is_unit_letter, leb, leb-true, length, length-reverse, letter_number, List, list_all, list_any, list_any-append, lit<, map, Month, meaning_of, nat_tests, None, off, Option, Options, or_cases, Own, packed_number, packed_number_after, packs_to, pow-le-pow_right, pow-succ', refl, reverse-reverse, row_of, table_of, Rules, rules, rules_of, Second, Some, suc, sym, Table, TimeUnit, to_ascii_lowercase, true, unit_of_word, units, UnitTable, width, ℕ, ◌%◌, ◌&&◌, ◌*◌, ◌+◌, ◌-◌, ◌/◌, ◌<◌, ◌==◌, ◌^◌, ◌||◌, ◌∙◌, ◌∷◌, ◌≡◌, ◌≤◌, ◌⊎◌, added_row_of, humantime_row_of, More, more_row_of, nat_le, packed_word, nanos_of, more_rules, micro_if, with_micro}
+use Rattle.duration_str.proofs.Common.{[], all_names_in, and_from, and_parts, ap, arith, Bool, byte_len, bytes_eq, cases_Bool, chinese_letters, comparison_form, eq-eqb, eqb, eqb-true, false, false_from_ne_true, get_or, Humantime, if◌then◌else◌, inl, inr, is_chinese, is_in_row, is_named, is_some, is_unit_letter, leb, leb-true, length, length-reverse, letter_number, List, list_all, list_any, list_any-append, lit<, map, Month, meaning_of, nat_tests, None, off, Option, Options, or_cases, Own, packed_number, packed_number_after, packs_to, pow-le-pow_right, pow-succ', refl, reverse-reverse, row_of, table_of, Rules, rules, rules_of, Second, Some, subst, suc, sym, Table, TimeUnit, to_ascii_lowercase, true, unit_of_word, units, UnitTable, width, ℕ, ◌%◌, ◌&&◌, ◌*◌, ◌+◌, ◌-◌, ◌/◌, ◌<◌, ◌==◌, ◌^◌, ◌||◌, ◌∙◌, ◌∷◌, ◌≡◌, ◌≤◌, ◌⊎◌, added_row_of, humantime_row_of, More, more_row_of, nat_le, packed_word, nanos_of, more_rules, micro_if, with_micro}
 use mathlib.Core.List.{reverse, reverse_aux}
 use Rattle.duration_str.specs.declared.rules.Rules.{Rules as CodeRules}
 use Rattle.duration_str.specs.Internal.UnitTable.{unit_of_packed}
@@ -232,6 +232,52 @@ no_letter_name o w other =
     let unnamed = λ (u : TimeUnit). false_from_ne_true (is_named (rules_of o) w u) (λ t. cc (other, named_letters o w u t)) in
     simp unnamed
 
+letters_in_table : (o : Options) (table : UnitTable) (u : TimeUnit)
+    → list_all (list_all (is_unit_letter o)) (table_of table u).names ≡ true
+letters_in_table o Own = all_units (λ u. list_all (list_all (is_unit_letter o)) (table_of Own u).names) refl
+letters_in_table o More = all_units (λ u. list_all (list_all (is_unit_letter o)) (table_of More u).names) refl
+letters_in_table o Humantime = all_units (λ u. list_all (list_all (is_unit_letter o)) (table_of Humantime u).names) refl
+
+chinese_on : (no_calc lowercase : Bool) (table : UnitTable) (u : TimeUnit)
+    → list_all (list_all (is_unit_letter (record { no_calc = no_calc; lowercase = lowercase; cn_unit = true })))
+    (table_of table u).chinese ≡ true
+chinese_on no_calc lowercase Own =
+    all_units (λ u. list_all (list_all (is_unit_letter (record { no_calc = no_calc; lowercase = lowercase; cn_unit = true }))) (table_of Own u).chinese) refl
+chinese_on no_calc lowercase More =
+    all_units (λ u. list_all (list_all (is_unit_letter (record { no_calc = no_calc; lowercase = lowercase; cn_unit = true }))) (table_of More u).chinese) refl
+chinese_on no_calc lowercase Humantime =
+    all_units (λ u. list_all (list_all (is_unit_letter (record { no_calc = no_calc; lowercase = lowercase; cn_unit = true }))) (table_of Humantime u).chinese) refl
+
+chinese_in_table : (o : Options) (table : UnitTable) (u : TimeUnit) → o.cn_unit ≡ true
+    → list_all (list_all (is_unit_letter o)) (table_of table u).chinese ≡ true
+chinese_in_table o table u on =
+    let same : record { no_calc = o.no_calc; lowercase = o.lowercase; cn_unit = true } ≡ o =
+    ap (λ (b : Bool). record o { cn_unit = b }) (sym on) in
+    subst (λ (p : Options). list_all (list_all (is_unit_letter p)) (table_of table u).chinese ≡ true) same
+    (chinese_on o.no_calc o.lowercase table u)
+
+named_by_letters : (given : CodeRules) (w : List ℕ) (u : TimeUnit) → is_named (meaning_of given) w u ≡ true
+    → list_all (is_unit_letter given.options) w ≡ true
+named_by_letters given w u h =
+    let o = given.options in
+    let form = comparison_form o w in
+    let row = table_of given.table u in
+    let letters : list_all (is_unit_letter o) form ≡ true = elim (or_cases (list_any (bytes_eq form) row.names) _ h) [
+      | inl name ↦ named_passes (list_all (is_unit_letter o)) form row.names (letters_in_table o given.table u) name
+      | inr chinese ↦
+          let both = and_parts o.cn_unit _ chinese in
+          named_passes (list_all (is_unit_letter o)) form row.chinese (chinese_in_table o given.table u both.0) both.1
+    ] in
+    sym (letters_form o w) ∙ letters
+
+-- A word with a character that is no unit letter names no unit.
+pub no_letters : (given : CodeRules) (w : List ℕ) → list_all (is_unit_letter given.options) w ≡ false
+    → None ≡ unit_of_word (meaning_of given) w
+no_letters given w other =
+    let unnamed = λ (u : TimeUnit).
+    false_from_ne_true (is_named (meaning_of given) w u) (λ t. cc (other, named_by_letters given w u t)) in
+    simp unnamed
+
 byte_len-form : (o : Options) (w : List ℕ) → byte_len (comparison_form o w) ≡ byte_len w
 byte_len-form o w = elim (cases_Bool o.lowercase) [ inl on ↦ rw on refl | inr off ↦ rw off (lower w) ]
   where
@@ -308,6 +354,19 @@ pub own_word_none : (o : Options) (w : List ℕ) → None ≡ packed_word o w �
 own_word_none o w is = elim (packed_none o w is) [
   | inl long ↦ no_long_name (own_rules o) w long
   | inr other ↦ no_letter_name o w other
+]
+
+pub word_some : (given : CodeRules) (w : List ℕ) (n : ℕ) → Some n ≡ packed_word given.options w
+    → unit_of_packed (table_of given.table) n ≡ unit_of_word (meaning_of given) w
+word_some given w n is =
+    let packed = packed_some given.options w n is in
+    ap (unit_of_packed (table_of given.table)) packed.1 ∙ sym (unit_by_number given w packed.0)
+
+pub word_none : (given : CodeRules) (w : List ℕ) → None ≡ packed_word given.options w
+    → None ≡ unit_of_word (meaning_of given) w
+word_none given w is = elim (packed_none given.options w is) [
+  | inl long ↦ no_long_name given w long
+  | inr other ↦ no_letters given w other
 ]
 
 -- the rules by which only the added names are read

@@ -1,7 +1,11 @@
 -- Lemmas about a text that is split after its first piece.
+use Rattle.duration_str.proofs.Common.{ahead, drop-drop, IfSome, IsUtf8-drop, Option, take-append-drop, ◌+◌, ◌-◌, ◌≤◌}
+use Rattle.std.proofs.lemmas.Str.{IsCharBoundary-from_rest}
+use Rattle.duration_str.specs.declared.mended.Mend.{Mend}
+use Rattle.duration_str.specs.Internal.Mends.{IsCutOut}
 use Rattle.duration_str.proofs.Common.{[], ap, arith, Bool, cases_Bool, chars, drop, encode_utf8_all, encodes-append, encodes-chars, false, false_from_ne_true, inl, inr, IsCharBoundary, IsCharBoundary-at_seam, IsUtf8, length, List, refl, scalars, scalars-chars, suc, sym, take, take_while, take_while-cons, true, zero, ℕ, ◌++◌, ◌<◌, ◌∙◌, ◌∷◌, ◌≡◌}
 use Rattle.std.proofs.Math.Seq.{drop-append_seam}
-use Rattle.duration_str.specs.OneLine.{begins_with_letter, first_piece, is_letter, is_like}
+use Rattle.duration_str.specs.OneLine.{begins_with_letter, first_piece, is_letter, is_like, removed_if}
 
 run_parts : (test : ℕ → Bool) (most : ℕ) (text : List ℕ)
     → text ≡ take most (take_while test text) ++ drop (length (take most (take_while test text))) text
@@ -86,3 +90,33 @@ after_piece bytes utf8 =
     let piece = encode_utf8_all (first_piece (chars bytes)) in
     let rest = encode_utf8_all (cut_piece bytes utf8).rest in
     ap (λ (bs : List ℕ). drop (length piece) bs) (cut_piece bytes utf8).whole ∙ drop-append_seam piece rest
+
+-- ---- The part that a mend replaces
+
+pub piece_end : (text piece : List ℕ) (place : ℕ) → IsUtf8 text → IsCharBoundary text place
+    → piece ≡ encode_utf8_all (first_piece (ahead text place)) → IsCharBoundary text (place + length piece)
+piece_end text piece place utf8 boundary is =
+    IsCharBoundary-from_rest text place (length piece) boundary.0
+    (piece_boundary (drop place text) piece (IsUtf8-drop text place utf8 boundary) is)
+
+pub cut_removed : (text : List ℕ) (condition : Bool) (start end : ℕ) (mend : Option Mend) → mend ≡ removed_if condition start end
+    → IsCharBoundary text start → IsCharBoundary text end → start ≤ end → IfSome mend (IsCutOut text)
+cut_removed text true start end mend is starts ends ordered =
+    rw is (record { starts = starts; ends = ends; ordered = ordered })
+cut_removed text false start end mend is starts ends ordered = rw is tt
+
+pub cut_named : (text : List ℕ) (start end : ℕ) (mend : Mend) → mend.start ≡ start → mend.end ≡ end
+    → IsCharBoundary text start → IsCharBoundary text end → start ≤ end → IsCutOut text mend
+cut_named text start end mend first last starts ends ordered =
+    record { starts = rw first starts; ends = rw last ends; ordered = omega (arith, first, last, ordered) }
+
+pub cut_whole : (text : List ℕ) (start end : ℕ) → start ≤ end
+    → text ≡ take start text ++ (take (end - start) (drop start text) ++ drop end text)
+cut_whole text start end ordered =
+    let e : start + (end - start) ≡ end = omega arith in
+    let last : drop (end - start) (drop start text) ≡ drop end text =
+    drop-drop (end - start) start text ∙ ap (λ (n : ℕ). drop n text) e in
+    sym (take-append-drop start text)
+    ∙ ap (λ (bs : List ℕ). take start text ++ bs)
+    (sym (take-append-drop (end - start) (drop start text))
+    ∙ ap (λ (bs : List ℕ). take (end - start) (drop start text) ++ bs) last)

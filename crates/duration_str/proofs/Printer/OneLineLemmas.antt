@@ -1,11 +1,14 @@
-use Rattle.duration_str.proofs.Common.{ahead, and_parts, ap, append-nil, append_assoc, arith, Bool, cases_Bool, Cause, chars, chars-encodes, chars-nil, chars_from_encodes, chars_past_char, codes, common_steps, cond, decimal, decimal_by_steps, drop, Empty, encode_ascii, encode_utf8, encode_utf8_all, encodes-append, encodes-chars, eqb-true, Expected, false, ForSome, if◌then◌else◌, inl, inr, is_blank, is_digit, IsCharBoundary, IsCharBoundary-at_seam, IsTrue, IsUtf8, IsUtf8-drop, IsUtf8-take, leb-true, len_utf8_bounds, length, length-append, length-decimal-le, length-encode, length-le-encodes, List, list_all, list_all-append, lit<, ltb-true, Mixed, nat_le, nat_tests, None, NotText, NumberTooLarge, Option, OutOfRange, Overflow, place_of, refl, rules, scalar, scalars, scalars-chars, slice_range, Some, suc, Syntax, take, take-nil, take_while, take_while-cons, TimeUnit, true, zero, [], ℕ, ◌%◌, ◌&&◌, ◌*◌, ◌++◌, ◌+◌, ◌-◌, ◌<◌, ◌==◌, ◌^◌, ◌||◌, ◌∙◌, ◌∷◌, ◌≡◌, ◌≢◌, ◌≤◌}
+use Rattle.duration_str.proofs.Common.{ahead, and_parts, ap, append-nil, append_assoc, arith, Bool, bytes_eq, bytes_eq-Decides, cases_Bool, Cause, chars, chars-encodes, chars-nil, chars_from_encodes, chars_past_char, codes, common_steps, cond, decimal, decimal_by_steps, div-le_self, drop, Empty, encode_ascii, encode_utf8, encode_utf8_all, encodes-append, encodes-chars, eqb-true, Expected, false, fits, ForSome, IfSome, if◌then◌else◌, inl, inr, is_blank, is_digit, IsCharBoundary, IsCharBoundary-at_seam, IsTrue, IsUtf8, IsUtf8-drop, IsUtf8-take, leb-true, len_utf8_bounds, length, length-append, length-decimal-le, length-encode, length-le-encodes, List, list_all, list_all-append, lit<, ltb-true, Mixed, nat_le, nat_tests, None, NotText, number_of, NumberTooLarge, Option, option_map, OutOfRange, Overflow, place_of, refl, rules, Rules, scalar, scalars, scalars-chars, slice_range, Some, suc, sym, Syntax, take, take-nil, take_while, take_while-cons, TimeUnit, true, zero, [], ℕ, ◌%◌, ◌&&◌, ◌*◌, ◌++◌, ◌+◌, ◌-◌, ◌/◌, ◌<◌, ◌==◌, ◌^◌, ◌||◌, ◌∙◌, ◌∷◌, ◌≡◌, ◌≢◌, ◌≤◌}
 use Rattle.std.proofs.Common.{lit≤, nat_lt}
 use Rattle.std.proofs.lemmas.Bool.{le-leb, lt-leb}
 use Rattle.std.proofs.lemmas.List.{length-take, nil_from_length}
 use Rattle.duration_str.specs.Messages.{chars_before}
 use Rattle.duration_str.specs.declared.help.Help.{Help}
-use Rattle.duration_str.specs.declared.help.Help.TheVariants.{DidYouMean, MissingUnit, Zero}
-use Rattle.duration_str.specs.OneLine.{at_column, expected_words, first_piece, found_words, help_at, help_end, is_clear, is_like, is_plain, is_unknown_unit, missing_unit_help, help_name, near_unit, one_line_of, overflow_help, overflow_words, problem_at, quoted, quoted_end, shown, syntax_help, text_problem, unit_help}
+use Rattle.duration_str.specs.declared.help.Help.TheVariants.{DidYouMean, Fraction, MissingUnit, Zero}
+use Rattle.duration_str.specs.declared.mended.Mend.{Mend}
+use Rattle.duration_str.specs.declared.mended.Suggestion.{Suggestion}
+use Rattle.duration_str.specs.Fraction.{as_term, longest_whole, nanos_of_fraction, Table, whole_quotient, without_end_zeros}
+use Rattle.duration_str.specs.OneLine.{at_column, count_text, expected_words, first_piece, found_words, fraction_mend, fraction_with, fraction_words, help_at, help_end, mend_for, suggestion_text, unit_text, is_clear, is_like, is_plain, is_unknown_unit, missing_unit_help, help_name, near_unit, one_line_of, overflow_help, overflow_words, problem_at, quoted, quoted_end, shown, syntax_help, text_problem, unit_help}
 use Rattle.std.specs.Char.Escape.{escape_default, escape_unicode, hex_digit_at, short_escape}
 use Rattle.std.specs.Prelude.{not}
 use Rattle.std.specs.Int.{is_in_range}
@@ -86,6 +89,11 @@ decimal_plain n h =
     (λ n ds big e. rw (list_all-append is_plain_byte ds ((48 + n % 10) ∷ []), e)
     (digit_plain (n % 10) (omega arith))) n h
 
+decimal_short : (n : ℕ) → n < 2 ^ 64 → IsShort 20 (decimal n)
+decimal_short n small =
+    let are = bytes_good (decimal n) (decimal_plain n small) in
+    record { characters = decimal n; good = are.1; spells = are.0; short = length-decimal-le 20 n (lit< tt) (omega arith) small }
+
 pub record IsPlaced (text : List ℕ) (place : ℕ) : Type 0 where
   pub utf8 : IsUtf8 text
   pub small : length text < 2 ^ 63
@@ -96,9 +104,7 @@ column_short text place is =
     let column = chars_before text place + 1 in
     let small : column < 2 ^ 64 =
     omega (arith, chars_before_le text place is.utf8 is.boundary, is.small, is.boundary.0) in
-    let long = length-decimal-le 20 column (lit< tt) (omega arith) small in
-    let are = bytes_good (decimal column) (decimal_plain column small) in
-    joined (literal 11 (codes " at column ") refl) (record { characters = decimal column; good = are.1; spells = are.0; short = long })
+    joined (literal 11 (codes " at column ") refl) (decimal_short column small)
 
 -- ---- Quotes
 
@@ -180,28 +186,94 @@ found_short (c ∷ piece) is = joined (literal 8 (codes ", found ") refl) is
 expected_short : (expected : Expected) → IsShort 38 (expected_words expected)
 expected_short expected = search (chosen, literal) depth 20
 
--- whether the words of a help have at most 52 bytes. Only those of `MissingUnit` have more
+-- The words of a help have at most 52 bytes, whatever mend the line says. Only those of
+-- `MissingUnit` and of a fraction that has a mend have more.
 abbrev Fits : Option Help → Type 0
-Fits help = IsShort 52 (help_end help)
+Fits help = (mend : Option Mend) → IsShort 52 (help_end help mend)
 
 fits_chosen : (b : Bool) (first second : Option Help) → Fits first → Fits second → Fits (if b then first else second)
 fits_chosen b first second one other = search rules
 
-at_fits : (expected : Expected) (text : List ℕ) (place : ℕ) (piece : List ℕ) → Fits (help_at expected text place piece)
-at_fits expected text place piece = search (fits_chosen, literal) depth 40
+-- The help is for a fraction only if the piece is a point.
+at_fits : (expected : Expected) (text : List ℕ) (place : ℕ) (piece : List ℕ) → bytes_eq piece (codes ".") ≡ false
+    → Fits (help_at expected text place piece)
+at_fits expected text place piece other = rw other (search (fits_chosen, literal) depth 40)
 
 name_short : (u : TimeUnit) → IsShort 3 (encode_utf8_all (help_name u))
 unfolding lib.Utf8.encode
 name_short u = search rules
 
 near_fits : (u : TimeUnit) → Fits (Some (DidYouMean u))
-near_fits u =
+near_fits u mend =
     less (lit≤ tt) (joined (literal 16 (codes " (did you mean \"") refl) (joined (name_short u) (literal 3 (codes "\"?)") refl)))
 
 unit_help_fits : (near : Option TimeUnit) (help : Option Help) → Fits help → Fits (Some (unit_help near help))
 unit_help_fits (Some u) help fits = near_fits u
 unit_help_fits None (Some help) fits = fits
-unit_help_fits None None fits = literal 52 _ refl
+unit_help_fits None None fits = λ mend. literal 52 _ refl
+
+-- ---- What to write instead
+
+count_short : (count : Option ℕ) → IfSome count (λ n. n < 2 ^ 64) → IsShort 20 (count_text count)
+count_short (Some n) small = decimal_short n small
+count_short None small = literal 20 [] refl
+
+unit_short : (unit : Option TimeUnit) → IsShort 3 (unit_text unit)
+unit_short (Some u) = name_short u
+unit_short None = literal 3 [] refl
+
+pub suggestion_short : (s : Suggestion) → IfSome s.count (λ n. n < 2 ^ 64) → IsShort 23 (suggestion_text s)
+suggestion_short s small = joined (count_short s.count small) (unit_short s.unit)
+
+words_short_with : (suggestion : Suggestion) → IsShort 23 (suggestion_text suggestion) → IsShort 56 (fraction_words suggestion)
+words_short_with suggestion short =
+    joined (literal 32 (codes " (fractions are not read: write ") refl) (joined short (literal 1 (codes ")") refl))
+
+term_short : (table : Table) (u : TimeUnit) (nanos : ℕ) → fits nanos ≡ true → IsShort 56 (fraction_words (as_term table u nanos))
+term_short table u nanos small =
+    let below : nanos < 2 ^ 64 = grind (arith, nat_tests) in
+    let unit_nanos = (table (longest_whole table u nanos)).nanos in
+    let term = as_term table u nanos in
+    words_short_with term (suggestion_short term (omega (arith, div-le_self nanos unit_nanos, below)))
+
+-- the words for a fraction have at most 56 bytes
+record Ends (mend : Option Mend) : Type 0 where
+  words : IsShort 56 (help_end (Some Fraction) mend)
+
+ends_none : Ends None
+ends_none = record { words = literal 56 _ refl }
+
+module _ (r : Rules) (u : TimeUnit) (start end : ℕ) where
+  abbrev mend_at : ℕ → Mend
+  mend_at nanos = record { start = start; end = end; suggestion = as_term r.table u nanos }
+
+  quotient_ends : (m n : ℕ) → Ends (option_map mend_at (whole_quotient m n))
+  quotient_ends m n = elim (cases_Bool (m % n == 0 && fits (m / n))) [
+    | inl whole ↦
+        let both = and_parts (m % n == 0) (fits (m / n)) whole in
+        rw whole (record { words = term_short r.table u (m / n) both.1 })
+    | inr other ↦ rw other ends_none
+  ]
+
+  nanos_end : (whole decimals : List ℕ) (unit_nanos : ℕ) → Ends (option_map mend_at (nanos_of_fraction whole decimals unit_nanos))
+  nanos_end whole decimals unit_nanos = elim (cases_Bool (fits (number_of (whole ++ without_end_zeros decimals)))) [
+    | inl small ↦
+        let kept = without_end_zeros decimals in
+        rw small (quotient_ends (number_of (whole ++ kept) * unit_nanos) (10 ^ length kept))
+    | inr large ↦ rw large ends_none
+  ]
+
+ends_unless : (b : Bool) (mend : Option Mend) → Ends mend → Ends (if b then None else mend)
+ends_unless true mend ends = ends_none
+ends_unless false mend ends = ends
+
+with_ends : (r : Rules) (whole decimals : List ℕ) (start end : ℕ) (unit : Option (TimeUnit × ℕ))
+    → Ends (fraction_with r whole decimals start end unit)
+with_ends r whole decimals start end (Some (u, more)) = nanos_end r u start (end + more) whole decimals (r.table u).nanos
+with_ends r whole decimals start end None = ends_none
+
+fraction_ends : (r : Rules) (text : List ℕ) (place : ℕ) (expected : Expected) → Ends (fraction_mend r text place expected)
+fraction_ends r text place expected = search (ends_unless, with_ends)
 
 -- ---- The line
 
@@ -219,41 +291,77 @@ unit_alone : (expected : Expected) → (expected.unit_word && not (expected.oper
     → expected_words expected ≡ codes "expected a unit"
 unit_alone expected only = grind (arith, common_steps)
 
-missing_short : (text : List ℕ)
-    → IsShort 68 (help_end (if list_all (λ b. b == 48 || is_blank b) text then Some Zero else Some MissingUnit))
-missing_short text = elim (cases_Bool (list_all (λ b. b == 48 || is_blank b) text)) [
+missing_short : (text : List ℕ) (mend : Option Mend)
+    → IsShort 68 (help_end (if list_all (λ b. b == 48 || is_blank b) text then Some Zero else Some MissingUnit) mend)
+missing_short text mend = elim (cases_Bool (list_all (λ b. b == 48 || is_blank b) text)) [
   | inl zeros ↦ rw zeros (literal 68 _ refl)
   | inr some ↦ rw some (literal 68 _ refl)
 ]
 
 -- The words of `MissingUnit` stand only after the shortest of the words that say what was expected,
 -- so the line is no longer than with the longest of those words and another help.
-words_short : (expected : Expected) (text : List ℕ) (help : Option Help) {column found : List ℕ} → IsShort 31 column
-    → IsShort 173 found → Fits help
-    → IsShort 294 ((expected_words expected ++ (column ++ found)) ++ help_end (missing_unit_help expected text help))
-words_short expected text (Some help) column found fits =
-    found_line_short (expected_short expected) column found fits (lit≤ tt)
-words_short expected text None column found fits =
+words_short : (expected : Expected) (text : List ℕ) (help : Option Help) (mend : Option Mend) {column found : List ℕ}
+    → IsShort 31 column → IsShort 173 found → Fits help
+    → IsShort 294 ((expected_words expected ++ (column ++ found)) ++ help_end (missing_unit_help expected text help) mend)
+words_short expected text (Some help) mend column found fits =
+    found_line_short (expected_short expected) column found (fits mend) (lit≤ tt)
+words_short expected text None mend column found fits =
     elim (cases_Bool (expected.unit_word && not (expected.operator || expected.text_end))) [
       | inl missing ↦
           rw (missing, unit_alone expected missing)
-          (found_line_short (literal 15 (codes "expected a unit") refl) column found (missing_short text) (lit≤ tt))
-      | inr other ↦ rw other (found_line_short (expected_short expected) column found fits (lit≤ tt))
+          (found_line_short (literal 15 (codes "expected a unit") refl) column found (missing_short text mend) (lit≤ tt))
+      | inr other ↦ rw other (found_line_short (expected_short expected) column found (fits mend) (lit≤ tt))
     ]
 
-syntax_short : (text : List ℕ) (place : ℕ) (expected : Expected) → IsPlaced text place
-    → IsShort 294 (problem_at (chars_before text place + 1) expected (first_piece (ahead text place))
-    ++ help_end (syntax_help text place expected (first_piece (ahead text place))))
-syntax_short text place expected is =
+-- Whatever the help, its words have at most 68 bytes.
+end_short : (r : Rules) (text : List ℕ) (place : ℕ) (expected : Expected) (piece : List ℕ) (help : Option Help)
+    → IsShort 68 (help_end help (mend_for r text place expected piece help))
+end_short r text place expected piece None = literal 68 _ refl
+end_short r text place expected piece (Some (DidYouMean unit)) = less (lit≤ tt) (near_fits unit None)
+end_short r text place expected piece (Some Fraction) = less (lit≤ tt) (fraction_ends r text place expected).words
+end_short r text place expected piece (Some help) = literal 68 _ refl
+
+one_char : chars (codes ".") ≡ codes "."
+unfolding lib.Utf8.encode
+one_char = chars-encodes (codes ".") refl
+
+point_piece : (piece : List ℕ) → scalars piece ≡ true → bytes_eq (encode_utf8_all piece) (codes ".") ≡ true
+    → piece ≡ codes "."
+point_piece piece are point =
+    let is : encode_utf8_all piece ≡ codes "." = (bytes_eq-Decides (encode_utf8_all piece) (codes ".")).0 point in
+    sym (chars-encodes piece are) ∙ ap chars is ∙ one_char
+
+found_point : IsShort 11 (found_words (codes "."))
+unfolding lib.Utf8.encode
+found_point = literal 11 _ refl
+
+-- A point and its quote are short, so any help fits.
+point_short : (r : Rules) (text : List ℕ) (place : ℕ) (expected : Expected) (column : ℕ) (piece : List ℕ)
+    → IsShort 31 (at_column column) → piece ≡ codes "."
+    → IsShort 294 (problem_at column expected piece ++ help_end (syntax_help text place expected piece)
+    (mend_for r text place expected (encode_utf8_all piece) (syntax_help text place expected piece)))
+point_short r text place expected column piece at is =
+    let known : is_unknown_unit expected (codes ".") ≡ false = search rules in
+    let point = encode_utf8_all (codes ".") in
+    let help = missing_unit_help expected text (help_at expected text place point) in
+    rw (is, known) (less (lit≤ tt)
+    (joined (joined (expected_short expected) (joined at found_point)) (end_short r text place expected point help)))
+
+syntax_short : (r : Rules) (text : List ℕ) (place : ℕ) (expected : Expected) → IsPlaced text place
+    → IsShort 294 (one_line_of r text (Syntax place expected))
+syntax_short r text place expected is =
     let piece = first_piece (ahead text place) in
-    let shown =
-    quoted_short piece
-    (first_scalars (ahead text place) (scalars-chars (drop place text) (IsUtf8-drop text place is.utf8 is.boundary))) in
+    let are =
+    first_scalars (ahead text place) (scalars-chars (drop place text) (IsUtf8-drop text place is.utf8 is.boundary)) in
     let column = column_short text place is in
-    let fits = at_fits expected text place (encode_utf8_all piece) in
-    elim (cases_Bool (is_unknown_unit expected piece)) [
-      | inl unknown ↦ rw unknown (unknown_short _ _ _ column shown (unit_help_fits (near_unit piece) _ fits))
-      | inr other ↦ rw other (words_short expected text _ column (found_short _ shown) fits)
+    elim (cases_Bool (bytes_eq (encode_utf8_all piece) (codes "."))) [
+      | inl point ↦ point_short r text place expected (chars_before text place + 1) piece column (point_piece piece are point)
+      | inr wide ↦
+          let fits = at_fits expected text place (encode_utf8_all piece) wide in
+          elim (cases_Bool (is_unknown_unit expected piece)) [
+            | inl unknown ↦ rw unknown (unknown_short _ _ _ column (quoted_short piece are) (unit_help_fits (near_unit piece) _ fits _))
+            | inr other ↦ rw other (words_short expected text _ _ column (found_short _ (quoted_short piece are)) fits)
+          ]
     ]
 
 text_short : (problem text help : List ℕ) → IsUtf8 text → IsShort 26 problem → IsShort 41 help
@@ -265,25 +373,25 @@ text_short problem text help utf8 first last =
 overflow_words_short : (text : List ℕ) → IsShort 26 (overflow_words text)
 overflow_words_short text = search (chosen, literal)
 
-large_short : (text : List ℕ) → IsShort 41 (help_end (overflow_help text))
+large_short : (text : List ℕ) → IsShort 41 (help_end (overflow_help text) None)
 large_short text = elim (cases_Bool (list_all (λ b. is_digit b || is_blank b) text)) [
   | inl number ↦ rw number (literal 41 _ refl)
   | inr other ↦ rw other (literal 41 _ refl)
 ]
 
-pub one_line_short : (text : List ℕ) (cause : Cause) → IsUtf8 text → length text < 2 ^ 63
-    → ForSome (place_of cause) (IsCharBoundary text) → IsShort 294 (one_line_of text cause)
+pub one_line_short : (r : Rules) (text : List ℕ) (cause : Cause) → IsUtf8 text → length text < 2 ^ 63
+    → ForSome (place_of cause) (IsCharBoundary text) → IsShort 294 (one_line_of r text cause)
 unfolding lib.Utf8.encode
-one_line_short text Empty utf8 small placed = literal 294 _ refl
-one_line_short text (Syntax place expected) utf8 small placed = search (rules, syntax_short)
-one_line_short text (NumberTooLarge place) utf8 small placed =
+one_line_short r text Empty utf8 small placed = literal 294 _ refl
+one_line_short r text (Syntax place expected) utf8 small placed = search (rules, syntax_short)
+one_line_short r text (NumberTooLarge place) utf8 small placed =
     text_short (codes "number of 2^64 or more") text [] utf8 (literal 26 _ refl) (literal 41 [] refl)
-one_line_short text (Overflow place) utf8 small placed = text_short _ text _ utf8 (overflow_words_short text) (large_short text)
-one_line_short text (Mixed first later) utf8 small placed =
+one_line_short r text (Overflow place) utf8 small placed = text_short _ text _ utf8 (overflow_words_short text) (large_short text)
+one_line_short r text (Mixed first later) utf8 small placed =
     text_short (codes "sum and product mixed") text [] utf8 (literal 26 _ refl) (literal 41 [] refl)
-one_line_short text OutOfRange utf8 small placed = literal 294 _ refl
-one_line_short text (NotText true) utf8 small placed = literal 294 _ refl
-one_line_short text (NotText false) utf8 small placed = literal 294 _ refl
+one_line_short r text OutOfRange utf8 small placed = literal 294 _ refl
+one_line_short r text (NotText true) utf8 small placed = literal 294 _ refl
+one_line_short r text (NotText false) utf8 small placed = literal 294 _ refl
 
 -- ---- A quote
 

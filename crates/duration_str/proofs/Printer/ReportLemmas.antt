@@ -1,4 +1,4 @@
-use Rattle.duration_str.proofs.Common.{and_parts, ap, arith, caret_text, cases_Bool, Cause, chars, chars-append, common_steps, drop, encode_utf8, encode_utf8_all, encodes-chars, ForSome, inl, inr, IsCharBoundary, IsUtf8, IsUtf8-take, leb-true, len_utf8_bounds, length, length-append, length-encode, length-le-encodes, List, place_of, refl, Syntax, take, take-append-drop, ℕ, [], ◌*◌, ◌+◌, ◌<◌, ◌^◌, ◌∷◌, ◌≡◌, ◌≤◌, rules}
+use Rattle.duration_str.proofs.Common.{and_parts, ap, arith, caret_text, cases_Bool, Cause, chars, chars-append, common_steps, drop, encode_utf8, encode_utf8_all, encodes-chars, ForSome, inl, inr, IsCharBoundary, IsUtf8, IsUtf8-take, leb-true, len_utf8_bounds, length, length-append, length-encode, length-le-encodes, List, place_of, refl, Rules, Syntax, take, take-append-drop, ℕ, [], ◌*◌, ◌+◌, ◌<◌, ◌^◌, ◌∷◌, ◌≡◌, ◌≤◌, rules}
 use Rattle.duration_str.proofs.Printer.OneLineLemmas.{chars_of_none, one_line_short}
 use Rattle.duration_str.specs.OneLine.{one_line_of}
 use Rattle.std.proofs.lemmas.List.Sums.{count_by-le-length}
@@ -35,13 +35,13 @@ caret_length : (text : List ℕ) (spaces : ℕ) (line : List ℕ)
     → length (caret_text text spaces line) ≡ length text + (spaces + (3 + length line))
 caret_length text spaces line = grind (arith, common_steps)
 
-pub report_le : (text : List ℕ) (cause : Cause) → IsUtf8 text → length text < 2 ^ 63
-    → ForSome (place_of cause) (IsCharBoundary text) → length (report_of text cause) ≤ 777
-report_le text (Syntax place expected) utf8 small placed = elim (cases_Bool (is_clear_text (chars text))) [
+pub report_le : (r : Rules) (text : List ℕ) (cause : Cause) → IsUtf8 text → length text < 2 ^ 63
+    → ForSome (place_of cause) (IsCharBoundary text) → length (report_of r text cause) ≤ 777
+report_le r text (Syntax place expected) utf8 small placed = elim (cases_Bool (is_clear_text (chars text))) [
   | inl clear ↦
       let short = leb-true (length (chars text)) 80 (and_parts _ _ clear).0 in
-      let line = one_line_of text (Syntax place expected) in
-      let bound = (one_line_short text (Syntax place expected) utf8 small placed).short in
+      let line = one_line_of r text (Syntax place expected) in
+      let bound = (one_line_short r text (Syntax place expected) utf8 small placed).short in
       let bytes : length text ≤ 4 * length (chars text) = rw (encodes-chars text utf8) at (bytes_le (chars text)) in
       rw clear (omega (
         arith,
@@ -51,6 +51,6 @@ report_le text (Syntax place expected) utf8 small placed = elim (cases_Bool (is_
         columns_before_le text place utf8 (placed place refl),
         caret_length text (columns_of (chars (take place text))) line,
       ))
-  | inr other ↦ rw other (omega (arith, (one_line_short text (Syntax place expected) utf8 small placed).short))
+  | inr other ↦ rw other (omega (arith, (one_line_short r text (Syntax place expected) utf8 small placed).short))
 ]
-report_le text cause utf8 small placed = omega (arith, (one_line_short text cause utf8 small placed).short)
+report_le r text cause utf8 small placed = omega (arith, (one_line_short r text cause utf8 small placed).short)

@@ -1,4 +1,4 @@
-use Rattle.duration_str.proofs.Common.{ap, arith, length, rules, ◌≤◌}
+use Rattle.duration_str.proofs.Common.{ap, arith, length, meaning_of, rules, ◌≤◌}
 use Rattle.duration_str.specs.Messages.{laid_out}
 use Rattle.duration_str.specs.Report.{report_of}
 use Rattle.duration_str.proofs.Printer.ReportLemmas.{report_le}
@@ -8,7 +8,7 @@ use Rattle.duration_str.proofs.fault.Fault.write_report.Goals as goal
 short : (c : After-message)
     → length (laid_out c.report_layout.result c.args.self.now.text.now c.write_one_line-line.result.now) ≤ 777
 short c =
-    let most : length (report_of c.args.self.now.text.now c.args.self.now.cause) ≤ 777 = search (rules, report_le) in
+    let most : length (report_of (meaning_of c.args.rules) c.args.self.now.text.now c.args.self.now.cause) ≤ 777 = search (rules, report_le) in
     rw (c.write_one_line-line.ensures.text, c.report_layout.ensures) most
 
 pub unreachable-requires : goal.unreachable-requires

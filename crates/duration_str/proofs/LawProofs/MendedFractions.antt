@@ -1,0 +1,491 @@
+-- A text that is only a number with a fraction and its unit: its mended text has the same value.
+use Rattle.std.specs.List.{prefix_len}
+use Rattle.duration_str.proofs.Common.{[], add-zero, ahead, all_names_in, and_from, and_parts, ap, append-nil, append_assoc, arith, BeginsSentence, Bool, byte_len, bytes_eq, cases_Bool, chars, chars-append, chars-encodes, codes, comparison_form, decimal, digits_decimal, drop, drop_all, Empty, encode_ascii, encode_utf8_all, encodes-chars, EndsRun, eqb-true, Expected, false, false_from_ne_true, find, Humantime, if◌then◌else◌, inl, inr, is_ascii_alphabetic, is_blank, is_digit, is_unit_letter, IsBlank, IsRead, IsRefused, IsUtf8, length, length-append, lexemes_of, List, list_all, list_all-append, list_any, map, meaning_of, Mixed, More, more_names, nat_le, nat_lt, nat_tests, None, not, NotText, number, number_after, number_of, NumberTooLarge, off, Option, option_map, Options, or_right, other, OutOfRange, Overflow, Own, pow-suc, refl, Rules, Second, Some, Spells, Stops, suc, sym, Syntax, table_of, take, take_while, take_while-cons, Terminal, terminal_of, terminals_of, TimeUnit, to_ascii_lowercase, Token, tokens_from, tokens_of, true, unit_of_word, units, UnitTable, unwrap_or, word, ℕ, ◌%◌, ◌&&◌, ◌*◌, ◌++◌, ◌+◌, ◌-◌, ◌/◌, ◌<◌, ◌==◌, ◌^◌, ◌||◌, ◌∙◌, ◌∷◌, ◌≡◌, ◌≤◌}
+use Rattle.std.proofs.lemmas.List.{drop-drop, take_all}
+use Rattle.std.proofs.Math.Nat.{div-le_self, mul_assoc, mul_right_comm}
+use Rattle.std.proofs.Math.Seq.{drop-append_seam, take-append_seam}
+use Rattle.std.proofs.lemmas.List.Folds.{list_all_at}
+use Rattle.std.proofs.lemmas.Nat.{div-add-mod', pow-add}
+use Rattle.std.specs.Prelude.{slice_index}
+use Rattle.duration_str.specs.declared.help.Help.{Help}
+use Rattle.duration_str.specs.declared.help.Help.TheVariants.{DidYouMean, DigitsOnly, Fraction, Iso8601, LeadingPlus, NoPoint, Zero}
+use Rattle.duration_str.specs.declared.mended.Mend.{Mend}
+use Rattle.duration_str.specs.declared.rules.Rules.{Rules as CodeRules}
+use Rattle.duration_str.specs.Fraction.{end_run, is_whole_in, longest_whole, without_end_zeros}
+use Rattle.duration_str.specs.Mended.{mended_text, MendedFractions}
+use Rattle.duration_str.specs.OneLine.{begins_with_letter, first_piece, fraction_mend, fraction_with, help_name, is_letter, is_like, meant_unit, mend_for, near_unit, Pieces, pieces_of, small_words, suggestion_text, syntax_help, unit_ahead, with_micro_sign}
+use Rattle.duration_str.proofs.Characters.CharacterLemmas.{all_weaker, digit-not_blank}
+use Rattle.duration_str.proofs.Characters.NumberLemmas.{decimal_digits, decimal_terminal, number_after-append}
+use Rattle.duration_str.proofs.Characters.PackedLemmas.{no_name}
+use Rattle.duration_str.proofs.Characters.UnitLemmas.{all_units, named_passes}
+use Rattle.duration_str.proofs.Cutting.TokenLemmas.{tokens_step}
+use Rattle.duration_str.proofs.Printer.FractionLemmas.{end_all}
+use Rattle.duration_str.proofs.LawProofs.MendedBytes.{blank_no_letter, blank_small, digit_small, end_parts, EndParts, first_char, is_small, past_small, plain_no_letter, run_cons, run_stops, small_chars, small_len, small_utf8}
+use Rattle.duration_str.proofs.LawProofs.MendedHelp.{Reason, reason}
+use Rattle.duration_str.proofs.LawProofs.MendedNames.{IsWritten, name_read, name_scalars, own_more, written}
+use Rattle.duration_str.proofs.LawProofs.MendedNumbers.{digits_token}
+use Rattle.duration_str.proofs.LawProofs.MendedTerms.{count_in, fraction_parts, IsFractionMend, IsQuotient, short_meant, value_parts}
+use Rattle.duration_str.proofs.LawProofs.MendedTokens.{refused_at}
+use Rattle.duration_str.proofs.LawProofs.NearWords.{found_among}
+use Rattle.duration_str.proofs.Sentences.AnswerLemmas.{fitting_sum_read, IsSumOf}
+use Rattle.duration_str.proofs.Sentences.SpellingLemmas.{begins_with}
+use Rattle.duration_str.specs.declared.unit.TimeUnit.TheVariants.{NanoSecond}
+
+-- ---- The value
+
+zeros_after : (n : ℕ) (zeros : List ℕ) → list_all (λ d. d == 48) zeros ≡ true → number_after n zeros ≡ n * 10 ^ length zeros
+zeros_after n [] all = omega arith
+zeros_after n (d ∷ zeros) all =
+    let parts = and_parts (d == 48) (list_all (λ d. d == 48) zeros) all in
+    let zero : d - 48 ≡ 0 = omega (arith, eqb-true d 48 parts.0) in
+    let later : number_after (n * 10 + 0) zeros ≡ (n * 10 + 0) * 10 ^ length zeros = zeros_after (n * 10 + 0) zeros parts.1 in
+    rw zero (omega (arith, later, ap (λ (x : ℕ). n * x) (pow-suc 10 (length zeros))))
+
+whole_times : (n d : ℕ) → n % d ≡ 0 → n / d * d ≡ n
+whole_times n d e = omega (arith, div-add-mod' n d, e)
+
+-- The value times 10 for each digit after the point.
+scaled : (whole decimals : List ℕ) (l nanos : ℕ)
+    → IsQuotient (number_of (whole ++ without_end_zeros decimals) * l) (10 ^ length (without_end_zeros decimals)) nanos
+    → nanos * 10 ^ length decimals ≡ number_of (whole ++ decimals) * l
+scaled whole decimals l nanos q =
+    let e : EndParts (λ d. d == 48) decimals = end_parts (λ d. d == 48) decimals in
+    let zeros = end_run (λ d. d == 48) decimals in
+    let front = e.front in
+    let n : length decimals - length zeros ≡ length front = omega (arith, ap length e.parts, length-append front zeros) in
+    let kept : without_end_zeros decimals ≡ front =
+    ap (λ (i : ℕ). take i decimals) n ∙ ap (take (length front)) e.parts ∙ take-append_seam front zeros in
+    let part : IsQuotient (number_of (whole ++ front) * l) (10 ^ length front) nanos = rw kept at q in
+    let exact : nanos * 10 ^ length front ≡ number_of (whole ++ front) * l =
+    ap (λ (x : ℕ). x * 10 ^ length front) (sym part.quotient) ∙ whole_times _ (10 ^ length front) part.whole in
+    let numbers : number_of (whole ++ decimals) ≡ number_of (whole ++ front) * 10 ^ length zeros =
+    ap (λ (xs : List ℕ). number_of (whole ++ xs)) e.parts ∙ ap number_of (sym (append_assoc whole front zeros))
+    ∙ number_after-append 0 (whole ++ front) zeros ∙ zeros_after (number_of (whole ++ front)) zeros e.all in
+    let power : 10 ^ length decimals ≡ 10 ^ length front * 10 ^ length zeros =
+    ap (λ (i : ℕ). 10 ^ i) (ap length e.parts ∙ length-append front zeros) ∙ pow-add 10 (length front) (length zeros) in
+    ap (λ (x : ℕ). nanos * x) power ∙ sym (mul_assoc nanos (10 ^ length front) (10 ^ length zeros))
+    ∙ ap (λ (x : ℕ). x * 10 ^ length zeros) exact ∙ mul_right_comm (number_of (whole ++ front)) l (10 ^ length zeros)
+    ∙ ap (λ (x : ℕ). x * l) (sym numbers)
+
+-- ---- One term is read
+
+found_passes : (test : TimeUnit → Bool) (us : List TimeUnit) (v : TimeUnit) → find test us ≡ Some v → test v ≡ true
+found_passes test [] v e = absurd cc
+found_passes test (u ∷ us) v e = elim (cases_Bool (test u)) [
+  | inl passes ↦ let found = rw passes at e in let same : u ≡ v = cc in rw (← same) passes
+  | inr fails ↦ found_passes test us v (rw fails at e)
+]
+
+one_nano : (table : UnitTable) → (table_of table NanoSecond).nanos ≡ 1
+one_nano Own = refl
+one_nano More = refl
+one_nano Humantime = refl
+
+whole_unit : (s : CodeRules) (u : TimeUnit) (nanos : ℕ)
+    → let table = table_of s.table in
+    nanos / (table (longest_whole table u nanos)).nanos * (table (longest_whole table u nanos)).nanos ≡ nanos
+whole_unit s u nanos = by (find (is_whole_in (table_of s.table) u nanos) units) refl
+  where
+    by : (found : Option TimeUnit) → find (is_whole_in (table_of s.table) u nanos) units ≡ found
+        → let l = (table_of s.table (unwrap_or found NanoSecond)).nanos in nanos / l * l ≡ nanos
+    by None is = rw (one_nano s.table) (omega arith)
+    by (Some v) is =
+        let passes = found_passes (is_whole_in (table_of s.table) u nanos) units v is in
+        whole_times nanos (table_of s.table v).nanos
+        (eqb-true (nanos % (table_of s.table v).nanos) 0
+        (and_parts (nat_le (table_of s.table v).nanos (table_of s.table u).nanos) _ passes).1)
+
+word_of : (r : Rules) (name : List ℕ) (u : TimeUnit) → IsWritten r name → unit_of_word r name ≡ Some u
+    → terminal_of r name ≡ word (Some u)
+word_of r [] u is read = absurd is
+word_of r (c ∷ cs) u is read = is.2 ∙ ap word read
+
+term_read : (s : CodeRules) (count nanos : ℕ) (v : TimeUnit) → count < 2 ^ 64 → nanos < 2 ^ 64
+    → count * ((meaning_of s).table v).nanos ≡ nanos
+    → IsRead (meaning_of s) (decimal count ++ help_name v) nanos
+term_read s count nanos v small below is =
+    let r = meaning_of s in
+    let lexemes : List (List ℕ) = decimal count ∷ help_name v ∷ [] in
+    let named = word_of r (help_name v) v (written r v) (name_read s v) in
+    let terminals : map (terminal_of r) lexemes ≡ number count ∷ word (Some v) ∷ [] =
+    rw (decimal_terminal r count small, named) refl in
+    let last : Spells (help_name v ∷ []) (help_name v) =
+    begins_with [] [] refl (sym (append-nil (help_name v))) refl in
+    let spelled : Spells lexemes (decimal count ++ help_name v) = begins_with [] (help_name v) refl refl last in
+    let sum : IsSumOf r lexemes (decimal count ++ help_name v) =
+    record { sentence = (rw terminals tt, spelled); plus = rw terminals tt } in
+    fitting_sum_read {r = r} {lexemes = lexemes} {text = decimal count ++ help_name v} {nanos = nanos} sum
+    (rw terminals (small, omega (arith, is, below), tt)) (rw terminals (omega (arith, is))) below
+
+-- ---- The name
+
+abbrev are_letters : List ℕ → Bool
+are_letters w = begins_with_letter w && list_all is_letter w
+
+lower_letter : (c : ℕ) → is_letter (to_ascii_lowercase c) ≡ is_letter c
+lower_letter c = elim (cases_Bool (nat_lt c 65)) [
+  | inl below ↦ rw below refl
+  | inr above ↦ elim (cases_Bool (nat_lt c 91)) [
+    | inl capital ↦
+        let own : is_ascii_alphabetic c ≡ true = grind (arith, nat_tests) in
+        let small : is_ascii_alphabetic (c + 32) ≡ true = grind (arith, nat_tests) in
+        rw (above, capital, own, small) refl
+    | inr small ↦ rw (above, small) refl
+  ]
+]
+
+same_letters : (change : ℕ → ℕ) → ((c : ℕ) → is_letter (change c) ≡ is_letter c) → (w : List ℕ)
+    → are_letters (map change w) ≡ are_letters w
+same_letters change same [] = refl
+same_letters change same (c ∷ cs) = rw (same c, all cs) refl
+  where
+    all : (cs : List ℕ) → list_all is_letter (map change cs) ≡ list_all is_letter cs
+    all [] = refl
+    all (c ∷ cs) = rw (same c, all cs) refl
+
+letters_form : (o : Options) (w : List ℕ) → are_letters (comparison_form o w) ≡ are_letters w
+letters_form o w = elim (cases_Bool o.lowercase) [
+  | inl on ↦ rw on refl
+  | inr off ↦ rw off (same_letters to_ascii_lowercase lower_letter w)
+]
+
+letter_names : (table : UnitTable) → list_all (λ u. list_all are_letters (all_names_in (table_of table) u)) units ≡ true
+letter_names Own = refl
+letter_names More = refl
+letter_names Humantime = refl
+
+named_letters : (s : CodeRules) (w : List ℕ) (u : TimeUnit) → unit_of_word (meaning_of s) w ≡ Some u → are_letters w ≡ true
+named_letters s w u named = elim (cases_Bool (are_letters w)) [
+  | inl letters ↦ letters
+  | inr others ↦
+      let clash : None ≡ Some u =
+      no_name (meaning_of s) w are_letters (letter_names s.table) (letters_form s.options w ∙ others) ∙ named in
+      absurd (cc clash)
+]
+
+micro_letter : (c : ℕ) → is_letter (if c == 0x3BC then 0xB5 else c) ≡ is_letter c
+micro_letter c = elim (cases_Bool (c == 0x3BC)) [
+  | inl mu ↦ rw (eqb-true c 0x3BC mu) refl
+  | inr plain ↦ rw plain refl
+]
+
+more_letters : (u : TimeUnit) → list_all are_letters (more_names u) ≡ true
+more_letters = all_units (λ u. list_all are_letters (more_names u)) refl
+
+near_letters : (w : List ℕ) (u : TimeUnit) → near_unit w ≡ Some u → are_letters w ≡ true
+near_letters w u near = elim (cases_Bool (list_any (bytes_eq w) small_words)) [
+  | inl small ↦ named_passes are_letters w small_words refl small
+  | inr large ↦ elim (cases_Bool (list_any (λ c. c == 0x3BC) w)) [
+    | inl greek ↦
+        let letters = named_letters own_more (with_micro_sign w) u (rw (large, greek) at near) in
+        sym (same_letters (λ c. if c == 0x3BC then 0xB5 else c) micro_letter w) ∙ letters
+    | inr latin ↦
+        let found = found_among (map to_ascii_lowercase w) units u (rw (large, latin) at near) in
+        sym (same_letters to_ascii_lowercase lower_letter w)
+        ∙ named_passes are_letters (map to_ascii_lowercase w) (more_names u) (more_letters u) found
+  ]
+]
+
+meant_letters : (s : CodeRules) (w : List ℕ) (u : TimeUnit) → meant_unit (meaning_of s) w ≡ Some u → are_letters w ≡ true
+meant_letters s w u meant = by (unit_of_word (meaning_of s) w) refl
+  where
+    by : (unit : Option TimeUnit) → unit_of_word (meaning_of s) w ≡ unit → are_letters w ≡ true
+    by (Some v) named = named_letters s w v named
+    by None named = near_letters w u (rw named at meant)
+
+all_like : (c : ℕ) (cs : List ℕ) → is_letter c ≡ true → list_all is_letter cs ≡ true → take_while (is_like c) cs ≡ cs
+all_like c [] letter all = refl
+all_like c (d ∷ cs) letter all =
+    let parts = and_parts (is_letter d) (list_all is_letter cs) all in
+    let like : is_like c d ≡ true = or_right (is_digit d && is_digit c) _ (and_from _ _ parts.0 letter) in
+    rw (take_while-cons (is_like c) d cs, like) (ap (λ (ds : List ℕ). d ∷ ds) (all_like c cs letter parts.1))
+
+whole_piece : (w : List ℕ) → are_letters w ≡ true → length w ≤ 12 → first_piece w ≡ w
+whole_piece [] letters short = refl
+whole_piece (c ∷ cs) letters short =
+    let parts = and_parts (is_letter c) _ letters in
+    let more = (and_parts (is_letter c) (list_all is_letter cs) parts.1).1 in
+    ap (λ (ds : List ℕ). c ∷ ds) (ap (take 40) (all_like c cs parts.0 more) ∙ take_all 40 cs (omega (arith, short)))
+
+-- ---- The place
+
+point_letter : (o : Options) → is_unit_letter o 46 ≡ false
+point_letter o = elim (cases_Bool o.cn_unit) [ inl on ↦ rw on refl | inr off ↦ rw off refl ]
+
+point_ends : (o : Options) (rest : List ℕ) → EndsRun o (codes ".") rest
+point_ends o [] = refl
+point_ends o (d ∷ rest) = rw (point_letter o) refl
+
+point_token : (o : Options) (at : ℕ) (rest : List ℕ)
+    → tokens_from o at (46 ∷ rest) ≡ record { start = at; characters = codes "." } ∷ tokens_from o (at + 1) rest
+point_token o at rest =
+    let step = tokens_step o at [] (codes ".") rest refl (refl, refl) (point_ends o rest) in
+    simp add-zero at step
+
+point_terminal : (r : Rules) → terminal_of r (codes ".") ≡ other
+point_terminal r = rw (point_letter r.options) refl
+
+no_front : (r : Rules) (ts front left : List Terminal) → other ∷ ts ≡ front ++ left → BeginsSentence r front → front ≡ []
+no_front r ts [] left parts begins = refl
+no_front r ts (t ∷ front) left parts (more, sentence) =
+    let head : t ≡ other = cc in
+    absurd (rw head at sentence)
+
+one_front : (r : Rules) (n : ℕ) (ts front left : List Terminal) → number n ∷ other ∷ ts ≡ front ++ left
+    → BeginsSentence r front → length front ≤ 1
+one_front r n ts [] left parts begins = omega arith
+one_front r n ts (t ∷ []) left parts begins = omega arith
+one_front r n ts (t ∷ u ∷ front) left parts (more, sentence) =
+    let head : t ≡ number n = cc in
+    let next : u ≡ other = cc in
+    absurd (rw (head, next) at sentence)
+
+number_begins : (r : Rules) (n : ℕ) → BeginsSentence r (number n ∷ [])
+number_begins r n = (word (Some Second) ∷ [], tt)
+
+point_place : (r : Rules) (whole rest : List ℕ) (place : ℕ) (expected : Expected) → list_all is_digit whole ≡ true
+    → IsRefused r (whole ++ 46 ∷ rest) (Syntax place expected) → place ≡ byte_len whole
+point_place r [] rest place expected digits (front, left, is_front, refused) =
+    let o = r.options in
+    let cut : tokens_of o (46 ∷ rest) ≡ record { start = 0; characters = codes "." } ∷ tokens_from o 1 rest = point_token o 0 rest in
+    let at_front = refused_at r _ front left _ place expected refused refl in
+    let all : terminals_of r (46 ∷ rest) ≡ other ∷ map (terminal_of r) (lexemes_of (tokens_from o 1 rest)) =
+    rw (cut, point_terminal r) refl in
+    let none = no_front r _ front left (sym all ∙ is_front.parts) is_front.begins in
+    rw (none, cut) at at_front.0
+point_place r (w ∷ ws) rest place expected digits (front, left, is_front, refused) =
+    let o = r.options in
+    let whole = w ∷ ws in
+    let text = whole ++ 46 ∷ rest in
+    let at = 0 + byte_len whole in
+    let count : Token = record { start = 0; characters = whole } in
+    let point : Token = record { start = at; characters = codes "." } in
+    let cut : tokens_of o text ≡ count ∷ point ∷ tokens_from o (at + 1) rest =
+    digits_token o 0 w ws (46 ∷ rest) digits refl ∙ ap (λ (ts : List Token). count ∷ ts) (point_token o at rest) in
+    let ts = map (terminal_of r) (lexemes_of (tokens_from o (at + 1) rest)) in
+    let all : terminals_of r text ≡ number (number_of whole) ∷ other ∷ ts = rw (cut, digits, point_terminal r) refl in
+    let at_front = refused_at r _ front left _ place expected refused refl in
+    let most = one_front r (number_of whole) ts front left (sym all ∙ is_front.parts) is_front.begins in
+    let some : 1 ≤ length (terminals_of r text) = rw all (omega arith) in
+    let least = is_front.longest 1 some (rw all (number_begins r (number_of whole))) in
+    let n : length front ≡ 1 = omega (arith, most, least) in
+    let found : place ≡ 0 + byte_len whole = rw (n, cut) at at_front.0 in
+    omega (arith, found)
+
+-- ---- The mend
+
+point_bytes : encode_utf8_all (codes ".") ≡ codes "."
+point_bytes = rw (encode_ascii 46 (omega arith)) refl
+
+digit_last : (digits : List ℕ) → list_all is_digit digits ≡ true
+    → (let last = slice_index digits (length digits - 1) in is_ascii_alphabetic last || nat_le 0x80 last) ≡ false
+digit_last [] all = refl
+digit_last (d ∷ digits) all = elim (cases_Bool (is_digit (slice_index (d ∷ digits) (length (d ∷ digits) - 1)))) [
+  | inl digit ↦ no_letter (slice_index (d ∷ digits) (length (d ∷ digits) - 1)) digit
+  | inr fails ↦ absurd (cc (list_all_at is_digit (d ∷ digits) (length (d ∷ digits) - 1) 0 (omega arith) fails, all))
+]
+  where
+    no_letter : (b : ℕ) → is_digit b ≡ true → (is_ascii_alphabetic b || nat_le 0x80 b) ≡ false
+    no_letter b digit = grind (arith, nat_tests)
+
+point_mend : (r : Rules) (text : List ℕ) (place : ℕ) (expected : Expected) (help : Option Help) (mend : Mend)
+    → list_all is_digit (take place text) ≡ true → list_all (λ b. b == 48 || is_blank b) text ≡ false
+    → Reason text place expected (codes ".") help
+    → mend_for r text place expected (encode_utf8_all (codes ".")) help ≡ Some mend
+    → fraction_mend r text place expected ≡ Some mend
+point_mend r text place expected (Some (DidYouMean u)) mend digits others why is =
+    absurd (cc ((and_parts expected.unit_word _ why.0).1))
+point_mend r text place expected (Some Fraction) mend digits others why is = is
+point_mend r text place expected (Some LeadingPlus) mend digits others why is = absurd (cc (rw point_bytes at why.1))
+point_mend r text place expected (Some NoPoint) mend digits others why is = absurd (cc (digit_last (take place text) digits, why))
+point_mend r text place expected (Some DigitsOnly) mend digits others why is = absurd (cc (rw point_bytes at is))
+point_mend r text place expected (Some Iso8601) mend digits others why is = absurd (cc (rw point_bytes at is))
+point_mend r text place expected (Some Zero) mend digits others why is = absurd (cc (why.1, others))
+point_mend r text place expected help mend digits others why is = absurd cc
+
+point_piece : (cs : List ℕ) → first_piece (46 ∷ cs) ≡ codes "."
+point_piece [] = refl
+point_piece (d ∷ cs) =
+    let unlike : is_like 46 d ≡ false = neither (is_digit d) (is_letter d) in
+    rw (take_while-cons (is_like 46) d cs, unlike) refl
+  where
+    neither : (a b : Bool) → ((a && false) || (b && false)) ≡ false
+    neither a b = grind arith
+
+-- ---- The text
+
+run_exact : (test : ℕ → Bool) (front rest : List ℕ) → list_all test front ≡ true → Stops test rest
+    → prefix_len test (front ++ rest) ≡ length front
+run_exact test [] [] all stops = refl
+run_exact test [] (b ∷ rest) all stops = run_stops test b rest stops
+run_exact test (b ∷ front) rest all stops =
+    let parts = and_parts (test b) (list_all test front) all in
+    rw (run_cons test b (front ++ rest) parts.0, run_exact test front rest parts.1 stops) refl
+
+stops_before_letter : (test : ℕ → Bool) (bytes : List ℕ) → IsUtf8 bytes → begins_with_letter (chars bytes) ≡ true
+    → ((b : ℕ) → test b ≡ true → (is_small b ≡ true) × (is_letter b ≡ false)) → Stops test bytes
+stops_before_letter test [] utf8 letter apart = tt
+stops_before_letter test (b ∷ bytes) utf8 letter apart = false_from_ne_true (test b) (λ t.
+    let own = apart b t in cc (own.1, rw ((first_char b bytes own.0 utf8).0) at letter))
+
+digit_apart : (b : ℕ) → is_digit b ≡ true → (is_small b ≡ true) × (is_letter b ≡ false)
+digit_apart b digit =
+    let small = digit_small b digit in
+    (small, plain_no_letter b small (grind (arith, nat_tests)))
+
+blank_apart : (b : ℕ) → is_blank b ≡ true → (is_small b ≡ true) × (is_letter b ≡ false)
+blank_apart b blank = (blank_small b blank, blank_no_letter b blank)
+
+stops_after_blanks : (blanks name : List ℕ) → IsBlank blanks → Stops is_digit name → Stops is_digit (blanks ++ name)
+stops_after_blanks [] name blank stops = stops
+stops_after_blanks (b ∷ blanks) name blank stops =
+    false_from_ne_true (is_digit b) (λ t. cc (digit-not_blank b t, (and_parts (is_blank b) _ blank).0))
+
+-- The characters of such a text, and the lengths of its parts.
+record IsSpelled (whole after : List ℕ) : Type 0 where
+  spelled : chars (whole ++ 46 ∷ after) ≡ whole ++ 46 ∷ chars after
+  point : chars (46 ∷ after) ≡ 46 ∷ chars after
+  utf8 : IsUtf8 after
+
+spelled_point : (whole after : List ℕ) → list_all is_digit whole ≡ true → IsUtf8 (whole ++ 46 ∷ after) → IsSpelled whole after
+spelled_point whole after digits utf8 =
+    let first = past_small whole (46 ∷ after) (all_weaker is_digit _ whole digit_small digits) utf8 in
+    let second = first_char 46 after refl first.1 in
+    record {
+      spelled = first.0 ∙ ap (λ (cs : List ℕ). whole ++ cs) second.0;
+      point = second.0;
+      utf8 = second.1;
+    }
+
+unit_found : (s : CodeRules) (blanks name : List ℕ) (unit : TimeUnit) → IsBlank blanks → IsUtf8 name
+    → meant_unit (meaning_of s) (chars name) ≡ Some unit
+    → unit_ahead (meaning_of s) (blanks ++ name) ≡ Some (unit, length blanks + length name)
+unit_found s blanks name unit blank utf8 means =
+    let letters = meant_letters s (chars name) unit means in
+    let first = (and_parts (begins_with_letter (chars name)) _ letters).0 in
+    let run = run_exact is_blank blanks name blank (stops_before_letter is_blank name utf8 first blank_apart) in
+    let piece = whole_piece (chars name) letters (short_meant s (chars name) unit means) in
+    rw (run, drop-append_seam blanks name, piece, first, means, encodes-chars name utf8) refl
+
+-- the mend of a number with these digits, if these bytes follow it
+abbrev mend_with : Rules → List ℕ → List ℕ → ℕ → List ℕ → Expected → Option Mend
+mend_with r whole decimals place bytes expected =
+    if length decimals == 0 || (length whole == 0 && not expected.number) then None
+    else fraction_with r whole decimals (place - length whole) (place + 1 + length decimals) (unit_ahead r bytes)
+
+mend_found : (r : Rules) (whole decimals bytes : List ℕ) (expected : Expected) → list_all is_digit whole ≡ true
+    → list_all is_digit decimals ≡ true → Stops is_digit bytes
+    → fraction_mend r (whole ++ 46 ∷ (decimals ++ bytes)) (length whole) expected
+    ≡ mend_with r whole decimals (length whole) bytes expected
+mend_found r whole decimals bytes expected digits more stops =
+    let after = decimals ++ bytes in
+    let text = whole ++ 46 ∷ after in
+    let front : take (length whole) text ≡ whole = take-append_seam whole (46 ∷ after) in
+    let back : drop (length whole + 1) text ≡ after =
+    sym (drop-drop 1 (length whole) text) ∙ ap (drop 1) (drop-append_seam whole (46 ∷ after)) in
+    let run = run_exact is_digit decimals bytes more stops in
+    let rest : drop (length whole + 1 + length decimals) text ≡ bytes =
+    sym (drop-drop (length decimals) (length whole + 1) text) ∙ ap (drop (length decimals)) back ∙ drop-append_seam decimals bytes in
+    rw (front, end_all is_digit whole digits, back, run, take-append_seam decimals bytes, rest)
+    (refl {a = mend_with r whole decimals (length whole) bytes expected})
+
+mend_parts : (r : Rules) (whole decimals bytes : List ℕ) (place : ℕ) (expected : Expected) (mend : Mend)
+    → mend_with r whole decimals place bytes expected ≡ Some mend
+    → IsFractionMend r whole decimals (place - length whole) (place + 1 + length decimals) (unit_ahead r bytes) mend
+mend_parts r whole decimals bytes place expected mend is =
+    elim (cases_Bool (length decimals == 0 || (length whole == 0 && not expected.number))) [
+      | inl missing ↦ absurd (cc (rw missing at is))
+      | inr there ↦
+          fraction_parts r whole decimals (place - length whole) (place + 1 + length decimals) (unit_ahead r bytes) mend (rw there at is)
+    ]
+
+abbrev unit_in : Option (TimeUnit × ℕ) → TimeUnit
+unit_in None = Second
+unit_in (Some (u, n)) = u
+
+-- The mended text has a value, which times 10 for each digit after the point is the number without
+-- its point times the unit's length.
+abbrev IsScaled : CodeRules → List ℕ → List ℕ → TimeUnit → List ℕ → Type 0
+IsScaled s whole decimals unit mended =
+    (nanos : ℕ) × IsRead (meaning_of s) (chars mended) nanos
+    × (nanos * 10 ^ length decimals ≡ number_of (whole ++ decimals) * ((meaning_of s).table unit).nanos)
+
+mend_scaled : (s : CodeRules) (whole decimals blanks name : List ℕ) (unit : TimeUnit) (mend : Mend)
+    → (let text = whole ++ 46 ∷ (decimals ++ (blanks ++ name)) in
+    unit_ahead (meaning_of s) (blanks ++ name) ≡ Some (unit, length blanks + length name)
+    → IsFractionMend (meaning_of s) whole decimals (length whole - length whole) (length whole + 1 + length decimals)
+    (unit_ahead (meaning_of s) (blanks ++ name)) mend
+    → IsScaled s whole decimals unit (take mend.start text ++ (suggestion_text mend.suggestion ++ drop mend.end text)))
+mend_scaled s whole decimals blanks name unit mend found f =
+    let r = meaning_of s in
+    let text = whole ++ 46 ∷ (decimals ++ (blanks ++ name)) in
+    let same : unit ≡ f.unit = ap unit_in (sym found ∙ f.named) in
+    let more : length blanks + length name ≡ f.more = ap count_in (sym found ∙ f.named) in
+    let v = longest_whole r.table f.unit f.nanos in
+    let count = f.nanos / (r.table v).nanos in
+    let q = value_parts whole decimals (r.table f.unit).nanos f.nanos f.value in
+    let small : count < 2 ^ 64 = omega (arith, q.fits, div-le_self f.nanos (r.table v).nanos) in
+    let read = term_read s count f.nanos v small q.fits (whole_unit s f.unit f.nanos) in
+    let start : length whole - length whole ≡ 0 = omega arith in
+    let long : length text ≡ length whole + suc (length decimals + (length blanks + length name)) =
+    simp length-append refl in
+    let rest : drop (length whole + 1 + length decimals + f.more) text ≡ [] =
+    drop_all (length whole + 1 + length decimals + f.more) text (omega (arith, long, more)) in
+    let digits : list_all is_digit (decimal count) ≡ true = digits_decimal decimal_digits count small in
+    let ascii = all_weaker is_digit _ (decimal count) digit_small digits in
+    let term : chars (decimal count ++ encode_utf8_all (help_name v)) ≡ decimal count ++ help_name v =
+    chars-append (decimal count) (encode_utf8_all (help_name v)) (small_utf8 (decimal count) ascii)
+    ∙ rw (small_chars (decimal count) ascii, chars-encodes (help_name v) (name_scalars v)) refl in
+    rw (← f.is, start, rest, append-nil) (f.nanos, rw term read, rw same (scaled whole decimals (r.table f.unit).nanos f.nanos q))
+
+mended_scaled : (s : CodeRules) (whole decimals blanks name : List ℕ) (unit : TimeUnit) (place : ℕ) (expected : Expected)
+    (new : Pieces) → (let text = whole ++ 46 ∷ (decimals ++ (blanks ++ name)) in
+    IsUtf8 text → list_all is_digit whole ≡ true → list_all is_digit decimals ≡ true → IsBlank blanks
+    → meant_unit (meaning_of s) (chars name) ≡ Some unit → IsRefused (meaning_of s) (chars text) (Syntax place expected)
+    → (mend : Option Mend)
+    → mend_for (meaning_of s) text place expected (encode_utf8_all (first_piece (ahead text place)))
+    (syntax_help text place expected (first_piece (ahead text place))) ≡ mend
+    → option_map (pieces_of text) mend ≡ Some new
+    → IsScaled s whole decimals unit (mended_text new))
+mended_scaled s whole decimals blanks name unit place expected new utf8 digits more blank means refused None is pieces = cc
+mended_scaled s whole decimals blanks name unit place expected new utf8 digits more blank means refused (Some mend) is pieces =
+    let r = meaning_of s in
+    let bytes = blanks ++ name in
+    let after = decimals ++ bytes in
+    let text = whole ++ 46 ∷ after in
+    let k : IsSpelled whole after = spelled_point whole after digits utf8 in
+    let bytes_utf8 = (past_small decimals bytes (all_weaker is_digit _ decimals digit_small more) k.utf8).1 in
+    let word_utf8 = (past_small blanks name (all_weaker is_blank _ blanks blank_small blank) bytes_utf8).1 in
+    let letters = meant_letters s (chars name) unit means in
+    let first = (and_parts (begins_with_letter (chars name)) _ letters).0 in
+    let stops = stops_after_blanks blanks name blank (stops_before_letter is_digit name word_utf8 first digit_apart) in
+    let n : place ≡ length whole =
+    point_place r whole (chars after) place expected digits (rw k.spelled at refused)
+    ∙ small_len whole (all_weaker is_digit _ whole digit_small digits) in
+    let piece : first_piece (ahead text (length whole)) ≡ codes "." =
+    ap (λ (bs : List ℕ). first_piece (chars bs)) (drop-append_seam whole (46 ∷ after)) ∙ ap first_piece k.point
+    ∙ point_piece (chars after) in
+    let front : list_all is_digit (take (length whole) text) ≡ true =
+    ap (list_all is_digit) (take-append_seam whole (46 ∷ after)) ∙ digits in
+    let others : list_all (λ b. b == 48 || is_blank b) text ≡ false =
+    false_from_ne_true _ (λ t. cc ((and_parts (list_all (λ b. b == 48 || is_blank b) whole) _
+    (sym (list_all-append (λ b. b == 48 || is_blank b) whole (46 ∷ after)) ∙ t)).1)) in
+    let there = rw (n, piece) at is in
+    let fraction = point_mend r text (length whole) expected (syntax_help text (length whole) expected (codes ".")) mend front others
+    (reason text (length whole) expected (codes ".")) there in
+    let with_parts = sym (mend_found r whole decimals bytes expected digits more stops) ∙ fraction in
+    let f = mend_parts r whole decimals bytes (length whole) expected mend with_parts in
+    let same : pieces_of text mend ≡ new = cc in
+    rw (← same) (mend_scaled s whole decimals blanks name unit mend (unit_found s blanks name unit blank word_utf8 means) f)
+
+pub mended_fractions_hold : MendedFractions
+mended_fractions_hold s text whole decimals unit (Syntax place expected) new utf8 fraction refused is =
+    let parts = fraction.parts in
+    mended_scaled s whole decimals fraction.blanks fraction.word unit place expected new (rw parts at utf8) fraction.whole_digits
+    fraction.decimal_digits fraction.blank fraction.means (rw parts at refused) _ refl (rw parts at is)
+mended_fractions_hold s text whole decimals unit Empty new utf8 fraction refused is = cc
+mended_fractions_hold s text whole decimals unit (NumberTooLarge place) new utf8 fraction refused is = cc
+mended_fractions_hold s text whole decimals unit (Overflow place) new utf8 fraction refused is = cc
+mended_fractions_hold s text whole decimals unit (Mixed first next) new utf8 fraction refused is = cc
+mended_fractions_hold s text whole decimals unit OutOfRange new utf8 fraction refused is = cc
+mended_fractions_hold s text whole decimals unit (NotText optional) new utf8 fraction refused is = cc

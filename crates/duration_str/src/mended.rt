@@ -1,0 +1,261 @@
+//! What to write in place of a part of a refused text, and the text that this gives.
+ghost use Rattle.std.specs.Prelude.{◌≡◌, ℕ, ◌^◌, ◌<◌, ◌≤◌, ◌+◌, ◌++◌, ◌==◌, ◌||◌, not, length, take, drop, encode_utf8_all, option_map, IfSome, Some};
+ghost use Rattle.std.specs.Str.{chars, bytes_eq, IsCharBoundary};
+ghost use Rattle.duration_str.specs.Buffers.{IsInFront};
+ghost use Rattle.duration_str.specs.Internal.Positions.{ahead};
+ghost use Rattle.duration_str.specs.Internal.Mends.{IsCutOut};
+ghost use Rattle.duration_str.specs.Meaning.{meaning_of};
+ghost use Rattle.duration_str.specs.OneLine.{HasPieces, begins_with_letter, first_piece, mend_for, mend_of, mended_of, pieces_of, removed_if, suggestion_of, suggestion_text, unit_text};
+ghost use Rattle.duration_str.specs.declared.mended.TheConstants.{MAX_SUGGESTION_LEN};
+
+use crate::cause::{Cause, Expected};
+use crate::fault::Fault;
+use crate::fraction::fraction_mend;
+use crate::help::{Found, Help, begins_with_letter, found_at, help_name};
+use crate::message::{put, put_decimal};
+use crate::rules::Rules;
+use crate::slice::{range_from, range_to};
+use crate::unit::TimeUnit;
+
+/// No text that `Suggestion::write` returns has more bytes than this.
+pub const MAX_SUGGESTION_LEN: usize = 23;
+
+/// The size of a buffer that has room for the text of every suggestion.
+pub const SUGGESTION_BUFFER_SIZE: usize = 24;
+
+/// What to write in place of a part of a refused text: a count and a unit, such as `90min`, or only
+/// a unit, such as `min`. It is neither if that part is only to be removed.
+///
+/// ```
+/// use duration_str::{Options, Suggestion, TimeUnit, parse_with};
+///
+/// let mended = parse_with("1.5h", Options::off()).unwrap_err().mended().unwrap();
+/// let ninety_minutes = Suggestion { count: Some(90), unit: Some(TimeUnit::Minute) };
+/// assert_eq!(mended.suggestion, ninety_minutes);
+/// ```
+#[derive(Clone, Copy, Debug, PartialEq, Eq, Hash)]
+pub struct Suggestion {
+    /// The number to write, if any.
+    pub count: Option<u64>,
+    /// The unit whose name to write after the number, if any.
+    pub unit: Option<TimeUnit>,
+}
+
+impl Suggestion {
+    /// Returns the name of the unit to write. It is the name that the unit is printed with, but
+    /// `us` for the microsecond. It is empty if there is no unit.
+    ///
+    /// ```
+    /// use duration_str::{Suggestion, TimeUnit};
+    ///
+    /// let micros = Suggestion { count: Some(1500), unit: Some(TimeUnit::MicroSecond) };
+    /// assert_eq!(micros.name(), "us");
+    /// ```
+    #[must_use]
+    pub const fn name(self) -> &'static str
+        ensures name { result.now ≡ unit_text self.unit }
+        ensures short { length result.now ≤ 3 }
+    {
+        match self.unit {
+            Some(unit) => help_name(unit),
+            None => "",
+        }
+    }
+
+    /// Writes the text of the suggestion, such as `90min`, to the start of a buffer, and returns
+    /// it. The buffer's old contents do not matter. The call allocates nothing and cannot fail.
+    ///
+    /// ```
+    /// use duration_str::{SUGGESTION_BUFFER_SIZE, Suggestion, TimeUnit};
+    ///
+    /// let ninety_minutes = Suggestion { count: Some(90), unit: Some(TimeUnit::Minute) };
+    /// assert_eq!(ninety_minutes.write(&mut [0; SUGGESTION_BUFFER_SIZE]), "90min");
+    /// ```
+    #[must_use]
+    pub fn write(self, buffer: &mut [u8; SUGGESTION_BUFFER_SIZE]) -> &str
+        ensures text { result.now ≡ suggestion_text self }
+        ensures short { length result.now ≤ MAX_SUGGESTION_LEN }
+    {
+        match put_suggestion(buffer, 0, self) {
+            // SAFETY: the digits and the name up to `end` are ASCII.
+            Some(end) => unsafe { std::str::from_utf8_unchecked(&buffer[..end]) },
+            // The longest suggestion fits.
+            None => unreachable!(),
+        }
+    }
+}
+
+/// Writes the text of the suggestion after the first `at` bytes of the buffer. Returns where it
+/// ends, or `None` if there is no room for it.
+pub(crate) fn put_suggestion(buffer: &mut [u8], at: usize, suggestion: Suggestion) -> Option<usize>
+    requires { at ≤ length buffer.old }
+    ensures text { IsInFront (take at buffer.old ++ suggestion_text suggestion)
+        result buffer.new }
+    ensures small { IfSome suggestion.count (λ count. count < 2 ^ 64) }
+{
+    let end = match suggestion.count {
+        Some(count) => put_decimal(buffer, at, count)?,
+        None => at,
+    };
+    put(buffer, end, suggestion.name().as_bytes())
+}
+
+/// What is replaced, from byte `start` to byte `end` of a text, and what is written instead.
+#[derive(Clone, Copy)]
+pub(crate) struct Mend {
+    pub(crate) start: usize,
+    pub(crate) end: usize,
+    pub(crate) suggestion: Suggestion,
+}
+
+/// A refused text, and what to write instead of a part of it. The refused text is `front`,
+/// `replaced` and `rest`. The mended text is `front`, what the suggestion says, and `rest`.
+///
+/// ```
+/// use duration_str::{Options, parse_with};
+///
+/// let mended = parse_with("2 * 1.5h", Options::off()).unwrap_err().mended().unwrap();
+/// assert_eq!([mended.front, mended.replaced, mended.rest], ["2 * ", "1.5h", ""]);
+/// assert_eq!(mended.suggestion.to_string(), "90min");
+/// assert_eq!(mended.to_string(), "2 * 90min");
+/// ```
+#[derive(Clone, Copy, Debug, PartialEq, Eq, Hash)]
+pub struct Mended<'a> {
+    /// The text before the part that is replaced.
+    pub front: &'a str,
+    /// The part that is replaced. It is empty if something is only inserted.
+    pub replaced: &'a str,
+    /// What to write instead. It says nothing if the part is only removed.
+    pub suggestion: Suggestion,
+    /// The text after the part that is replaced.
+    pub rest: &'a str,
+}
+
+impl<'a> Fault<'a> {
+    /// Returns what to write in place of a part of the text, if that is certain. These are the
+    /// rules by which the text was read.
+    ///
+    /// A mended text can be refused by the same rules, too, but no syntax fault is before the end
+    /// of what was written. The help says what is mended:
+    ///
+    /// - `DidYouMean`: the word becomes the unit's name.
+    /// - `Fraction`: the number and its unit become one term. It has the longest unit, not longer
+    ///   than the number's own, in which its value is a whole number. `1.5h` becomes `90min`. A
+    ///   number without a unit has the default unit, and must be last or before an operator. There
+    ///   is no mend if the value is no whole number of nanoseconds, or 2^64 or more. Nor is there
+    ///   one if the digits, without the zeros at their end, write 2^64 or more.
+    /// - `LeadingPlus`: the sign is removed.
+    /// - `NoPoint`: the point is removed, unless a letter follows it.
+    /// - `DigitsOnly`: `_` or `'` is removed.
+    /// - `Iso8601`: `PT` is removed, unless `lowercase` is on.
+    /// - `Zero`: `s` is inserted.
+    ///
+    /// ```text
+    /// let rules = Rules::of(Options::off());
+    /// let mended = parse_by("1.5h 5x", rules).unwrap_err().mended(rules).unwrap();
+    /// mended.front      // ""
+    /// mended.replaced   // "1.5h"
+    /// mended.suggestion // 90 and the minute
+    /// mended.rest       // " 5x"
+    /// ```
+    #[must_use]
+    pub fn mended(&self, rules: Rules) -> Option<Mended<'a>>
+        ensures pieces { HasPieces
+            (mended_of (meaning_of rules) self.now.text.now self.now.cause) result }
+        ensures suggestion { option_map (λ new. new.suggestion) result
+            ≡ suggestion_of (meaning_of rules) self.now.text.now self.now.cause }
+        ensures whole { IfSome result (λ new.
+            self.now.text.now ≡ new.front.now ++ (new.replaced.now ++ new.rest.now)) }
+    {
+        let mend = mend_of(self, rules)?;
+        Some(cut_out(self.text, mend))
+    }
+}
+
+fn mend_of(fault: &Fault<'_>, rules: Rules) -> Option<Mend>
+    ensures mend { result ≡ mend_of (meaning_of rules) fault.now.text.now fault.now.cause }
+    ensures cut { IfSome result (IsCutOut fault.now.text.now) }
+{
+    let Cause::Syntax { place, expected } = fault.cause else {
+        return None;
+    };
+    let found = found_at(fault.text, place, expected);
+    mend_for(fault.text, place, expected, &found, rules)
+}
+
+fn cut_out(text: &str, mend: Mend) -> Mended<'_>
+    requires { IsCutOut text.now mend }
+    ensures pieces { HasPieces (Some (pieces_of text.now mend)) (Some result) }
+    ensures suggestion { result.suggestion ≡ mend.suggestion }
+    ensures whole { text.now ≡ result.front.now ++ (result.replaced.now ++ result.rest.now) }
+{
+    let ahead = range_from(text, mend.start);
+    Mended {
+        front: range_to(text, mend.start),
+        replaced: range_to(ahead, mend.end - mend.start),
+        suggestion: mend.suggestion,
+        rest: range_from(text, mend.end),
+    }
+}
+
+/// Returns the mend for what was found at the place, if it has one that is certain.
+fn mend_for(
+    text: &str,
+    place: usize,
+    expected: Expected,
+    found: &Found<'_>,
+    rules: Rules,
+) -> Option<Mend>
+    requires boundary { IsCharBoundary text.now place }
+    requires piece { found.now.piece.now ≡ encode_utf8_all (first_piece (ahead text.now place)) }
+    ensures mend { result
+        ≡ mend_for (meaning_of rules) text.now place expected found.now.piece.now found.now.help }
+    ensures cut { IfSome result (IsCutOut text.now) }
+{
+    let piece = found.piece;
+    let end = place + piece.len();
+    match found.help? {
+        Help::DidYouMean(unit) => Some(named(place, end, unit)),
+        Help::Fraction => fraction_mend(text, place, expected, rules),
+        Help::LeadingPlus => removed_if(true, place, end),
+        Help::NoPoint => removed_if(!begins_with_letter(range_from(text, end)), place, end),
+        Help::DigitsOnly => removed_if(piece == "_" || piece == "'", place, end),
+        Help::Iso8601 => removed_if(piece.len() == 2 && !rules.options.lowercase, place, end),
+        Help::Zero => Some(named(place, place, TimeUnit::Second)),
+        _ => None,
+    }
+}
+
+fn named(start: usize, end: usize, unit: TimeUnit) -> Mend
+    ensures start { result.start ≡ start }
+    ensures end { result.end ≡ end }
+    ensures count { result.suggestion.count ≡ None }
+    ensures unit { result.suggestion.unit ≡ Some unit }
+{
+    let suggestion = Suggestion {
+        count: None,
+        unit: Some(unit),
+    };
+    Mend {
+        start,
+        end,
+        suggestion,
+    }
+}
+
+fn removed_if(condition: bool, start: usize, end: usize) -> Option<Mend>
+    ensures { result ≡ removed_if condition start end }
+{
+    if !condition {
+        return None;
+    }
+    let suggestion = Suggestion {
+        count: None,
+        unit: None,
+    };
+    Some(Mend {
+        start,
+        end,
+        suggestion,
+    })
+}
