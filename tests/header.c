@@ -357,42 +357,58 @@ struct helped {
     const char *text;
     uint32_t options, help;
     const char *suggestion;
-    size_t word_length;
+    size_t start, replaced_length;
 };
 
 static void check_help(void) {
-    static const struct helped rows[] = {
-        {"5 mins", 0, DURATION_STR_HELP_DID_YOU_MEAN, "min", 4},
-        {"1h 5 usecs", 0, DURATION_STR_HELP_DID_YOU_MEAN, "us", 5},
-        {"2 hrs", 0, DURATION_STR_HELP_DID_YOU_MEAN, "h", 3},
-        {"3 mos", DURATION_STR_OPTION_MORE_NAMES, DURATION_STR_HELP_DID_YOU_MEAN, "mon", 3},
-        {"2h 5\xce\xbcseconds 3x", 0, DURATION_STR_HELP_DID_YOU_MEAN, "us", 9},
-        {"5 parsecs", 0, DURATION_STR_HELP_UNITS, "", 0},
-        {"1.5s", 0, DURATION_STR_HELP_FRACTION, "", 0},
-        {"1,000s", 0, DURATION_STR_HELP_DIGITS_ONLY, "", 0},
-        {"1:30", 0, DURATION_STR_HELP_CLOCK_TIME, "", 0},
-        {"-5m", 0, DURATION_STR_HELP_NEGATIVE, "", 0},
-        {"+5m", 0, DURATION_STR_HELP_LEADING_PLUS, "", 0},
-        {"PT5M", 0, DURATION_STR_HELP_ISO_8601, "", 0},
-        {"1h, 30m", 0, DURATION_STR_HELP_ONE_DURATION, "", 0},
-        {"5 min.", 0, DURATION_STR_HELP_NO_POINT, "", 0},
-        {"(1h + 30m) * 2", 0, DURATION_STR_HELP_BRACKETS, "", 0},
-        {"1h / 2", 0, DURATION_STR_HELP_DIVISION, "", 0},
-        {"'5m'", 0, DURATION_STR_HELP_QUOTATION_MARKS, "", 0},
-        {"1h 90", DURATION_STR_OPTION_REQUIRE_UNIT, DURATION_STR_HELP_MISSING_UNIT, "", 0},
-        {"0", DURATION_STR_OPTION_REQUIRE_UNIT, DURATION_STR_HELP_ZERO, "", 0},
-        {"1700000000000000000", 0, DURATION_STR_HELP_LARGE_NUMBER, "", 0},
+    const uint32_t more_names = DURATION_STR_OPTION_MORE_NAMES,
+                   milliseconds = DURATION_STR_OPTION_DEFAULT_UNIT(DURATION_STR_UNIT_MILLISECOND);
+    const struct helped rows[] = {
+        {"5 mins", 0, DURATION_STR_HELP_DID_YOU_MEAN, "min", 2, 4},
+        {"1h 5 usecs", 0, DURATION_STR_HELP_DID_YOU_MEAN, "us", 5, 5},
+        {"2 hrs", 0, DURATION_STR_HELP_DID_YOU_MEAN, "h", 2, 3},
+        {"3 mos", more_names, DURATION_STR_HELP_DID_YOU_MEAN, "mon", 2, 3},
+        {"2h 5\xce\xbcseconds 3x", 0, DURATION_STR_HELP_DID_YOU_MEAN, "us", 4, 9},
+        {"5 parsecs", 0, DURATION_STR_HELP_UNITS, "", 0, 0},
+        {"2h 1.5min 3x", 0, DURATION_STR_HELP_FRACTION, "90s", 3, 6},
+        {"1m .5 mins", 0, DURATION_STR_HELP_FRACTION, "30s", 3, 7},
+        {"18446744073709551.615us", 0, DURATION_STR_HELP_FRACTION, "18446744073709551615ns", 0, 23},
+        {"1.5", 0, DURATION_STR_HELP_FRACTION, "1500ms", 0, 3},
+        {"1.5", milliseconds, DURATION_STR_HELP_FRACTION, "1500us", 0, 3},
+        {"1.5", DURATION_STR_OPTION_REQUIRE_UNIT, DURATION_STR_HELP_FRACTION, "", 0, 0},
+        {"1.5*2", 0, DURATION_STR_HELP_FRACTION, "1500ms", 0, 3},
+        {"1.5*2", DURATION_STR_OPTION_NO_CALC, DURATION_STR_HELP_FRACTION, "", 0, 0},
+        {"1.5H", DURATION_STR_OPTION_LOWERCASE, DURATION_STR_HELP_FRACTION, "", 0, 0},
+        {"0.3ns", 0, DURATION_STR_HELP_FRACTION, "", 0, 0},
+        {"1_000s", 0, DURATION_STR_HELP_DIGITS_ONLY, "", 1, 1},
+        {"1'000s", 0, DURATION_STR_HELP_DIGITS_ONLY, "", 1, 1},
+        {"1,000s", 0, DURATION_STR_HELP_DIGITS_ONLY, "", 0, 0},
+        {"1:30", 0, DURATION_STR_HELP_CLOCK_TIME, "", 0, 0},
+        {"-5m", 0, DURATION_STR_HELP_NEGATIVE, "", 0, 0},
+        {" +5m", 0, DURATION_STR_HELP_LEADING_PLUS, "", 1, 1},
+        {"PT5M", 0, DURATION_STR_HELP_ISO_8601, "", 0, 2},
+        {"PT5M", DURATION_STR_OPTION_LOWERCASE, DURATION_STR_HELP_ISO_8601, "", 0, 0},
+        {"P5M", 0, DURATION_STR_HELP_ISO_8601, "", 0, 0},
+        {"1h, 30m", 0, DURATION_STR_HELP_ONE_DURATION, "", 0, 0},
+        {"5 min.", 0, DURATION_STR_HELP_NO_POINT, "", 5, 1},
+        {"5m.in", 0, DURATION_STR_HELP_NO_POINT, "", 0, 0},
+        {"(1h + 30m) * 2", 0, DURATION_STR_HELP_BRACKETS, "", 0, 0},
+        {"1h / 2", 0, DURATION_STR_HELP_DIVISION, "", 0, 0},
+        {"'5m'", 0, DURATION_STR_HELP_QUOTATION_MARKS, "", 0, 0},
+        {"1h 90", DURATION_STR_OPTION_REQUIRE_UNIT, DURATION_STR_HELP_MISSING_UNIT, "", 0, 0},
+        {"0 ", DURATION_STR_OPTION_REQUIRE_UNIT, DURATION_STR_HELP_ZERO, "s", 2, 0},
+        {"1700000000000000000", 0, DURATION_STR_HELP_LARGE_NUMBER, "", 0, 0},
         {"600", DURATION_STR_OPTION_DEFAULT_UNIT(DURATION_STR_UNIT_YEAR),
-            DURATION_STR_HELP_LARGE_NUMBER, "", 0},
-        {"1700000000000", DURATION_STR_OPTION_DEFAULT_UNIT(DURATION_STR_UNIT_MILLISECOND),
-            DURATION_STR_HELP_NONE, "", 0},
-        {"1m+", 0, DURATION_STR_HELP_NONE, "", 0},
-        {"600y", 0, DURATION_STR_HELP_NONE, "", 0},
-        {"", 0, DURATION_STR_HELP_NONE, "", 0},
-        {"5\xff", 0, DURATION_STR_HELP_NONE, "", 0},
-        {"5 mins", DURATION_STR_OPTION_MORE_NAMES << 1, DURATION_STR_HELP_NONE, "", 0},
-        {"5 mins", DURATION_STR_OPTION_MORE_NAMES, DURATION_STR_HELP_NONE, "", 0},
-        {"90", 0, DURATION_STR_HELP_NONE, "", 0},
+            DURATION_STR_HELP_LARGE_NUMBER, "", 0, 0},
+        {"1700000000000", milliseconds, DURATION_STR_HELP_NONE, "", 0, 0},
+        {"1m+", 0, DURATION_STR_HELP_NONE, "", 0, 0},
+        {"600y", 0, DURATION_STR_HELP_NONE, "", 0, 0},
+        {"", 0, DURATION_STR_HELP_NONE, "", 0, 0},
+        {"5\xff", 0, DURATION_STR_HELP_NONE, "", 0, 0},
+        {"1.5h\xff", 0, DURATION_STR_HELP_NONE, "", 0, 0},
+        {"1.5h", more_names << 1, DURATION_STR_HELP_NONE, "", 0, 0},
+        {"5 mins", more_names, DURATION_STR_HELP_NONE, "", 0, 0},
+        {"90", 0, DURATION_STR_HELP_NONE, "", 0, 0},
     };
     for (size_t at = 0; at < sizeof rows / sizeof *rows; at++) {
         const struct helped *row = &rows[at];
@@ -400,18 +416,22 @@ static void check_help(void) {
         char suggestion[DURATION_STR_SUGGESTION_BUFFER_SIZE + 4], untouched[sizeof suggestion];
         memset(suggestion, '#', sizeof suggestion);
         memset(untouched, '#', sizeof untouched);
-        size_t word_length = 7;
-        const uint32_t help =
-            duration_str_help(row->text, length, row->options, suggestion, &word_length);
+        size_t start = 77, replaced_length = 77;
+        const uint32_t help = duration_str_help(
+            row->text, length, row->options, suggestion, &start, &replaced_length);
         expect(help == row->help, "the help");
-        expect(word_length == row->word_length, "the length of the word");
+        expect(start == row->start && replaced_length == row->replaced_length,
+            "the part that is replaced");
         expect(strcmp(suggestion, row->suggestion) == 0, "the suggestion");
         expect(memcmp(suggestion + end, untouched, sizeof suggestion - end) == 0,
             "what follows the suggestion is unchanged");
-        expect(duration_str_help(row->text, length, row->options, NULL, NULL) == row->help,
+        expect(duration_str_help(row->text, length, row->options, NULL, NULL, NULL) == row->help,
             "the help without a suggestion");
+        replaced_length = 77;
+        duration_str_help(row->text, length, row->options, NULL, NULL, &replaced_length);
+        expect(replaced_length == row->replaced_length, "only the length");
     }
-    expect(duration_str_help(NULL, 0, 0, NULL, NULL) == DURATION_STR_HELP_NONE,
+    expect(duration_str_help(NULL, 0, 0, NULL, NULL, NULL) == DURATION_STR_HELP_NONE,
         "the help for a null text");
 }
 

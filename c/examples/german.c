@@ -11,7 +11,7 @@ static const char *const causes[] = {[DURATION_STR_CAUSE_EMPTY] = "leere Eingabe
     [DURATION_STR_CAUSE_NOT_TEXT] = "kein UTF-8"};
 static const char *const helps[] = {
     [DURATION_STR_HELP_UNITS] = "Einheiten: y, q, mon, w, d, h, min, s, ms, us, ns",
-    [DURATION_STR_HELP_FRACTION] = "Zahlen haben nur Ziffern: 1500ms statt 1.5s",
+    [DURATION_STR_HELP_FRACTION] = "Zahlen haben nur Ziffern",
     [DURATION_STR_HELP_DIGITS_ONLY] = "Zahlen haben nur Ziffern",
     [DURATION_STR_HELP_CLOCK_TIME] = "keine Uhrzeiten: 1h 30m oder 1m 30s",
     [DURATION_STR_HELP_NEGATIVE] = "keine negativen Dauern",
@@ -26,8 +26,8 @@ static const char *const helps[] = {
     [DURATION_STR_HELP_ZERO] = "besser 0s",
     [DURATION_STR_HELP_LARGE_NUMBER] = "mit Einheit, etwa ns"};
 static const char *const kinds[] = {"einer Zahl", "einer Einheit", "+ oder *", "des Endes"};
-/* A later version can have more causes and helps. */
-#define WORDS(list, at) ((at) < sizeof list / sizeof *list && list[at] ? list[at] : "")
+/* A later version can have more causes and helps. For those there are other words. */
+#define WORDS(list, at, other) ((at) < sizeof list / sizeof *list && list[at] ? list[at] : other)
 
 /* On a terminal, other characters can hide the line or change its order. */
 static void put(const char *text, size_t length) {
@@ -51,21 +51,23 @@ int main(int count, char **words) {
     for (int at = 1; at < count; at++) {
         struct duration_str_answer answer;
         const size_t length = strlen(words[at]);
-        char unit[DURATION_STR_SUGGESTION_BUFFER_SIZE];
-        size_t replaced;
-        const uint32_t help = duration_str_help(words[at], length, 0, unit, &replaced);
-        duration_str_parse_with(words[at], length, 0, &answer);
-        fputs(WORDS(causes, answer.cause), stdout);
+        char better[DURATION_STR_SUGGESTION_BUFFER_SIZE];
+        size_t start, replaced;
+        if (duration_str_parse_with(words[at], length, 0, &answer))
+            continue;
+        const uint32_t help = duration_str_help(words[at], length, 0, better, &start, &replaced);
         if (answer.cause == DURATION_STR_CAUSE_SYNTAX)
             say_syntax(words[at], &answer);
-        if (help == DURATION_STR_HELP_DID_YOU_MEAN) {
+        else
+            fputs(WORDS(causes, answer.cause, "keine Dauer"), stdout);
+        if (*better || replaced) {
             fputs(" (besser „", stdout);
-            put(words[at], answer.place);
-            fputs(unit, stdout);
-            put(words[at] + answer.place + replaced, length - answer.place - replaced);
+            put(words[at], start);
+            fputs(better, stdout);
+            put(words[at] + start + replaced, length - start - replaced);
             fputs("“)", stdout);
-        } else if (help != DURATION_STR_HELP_NONE) {
-            printf(" (%s)", WORDS(helps, help));
+        } else if (*WORDS(helps, help, "")) {
+            printf(" (%s)", WORDS(helps, help, ""));
         }
         putchar('\n');
     }

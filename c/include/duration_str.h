@@ -75,7 +75,7 @@
 #define DURATION_STR_ONE_LINE_BUFFER_SIZE 384
 
 /* The size of the buffer that duration_str_help writes into. */
-#define DURATION_STR_SUGGESTION_BUFFER_SIZE 4
+#define DURATION_STR_SUGGESTION_BUFFER_SIZE 24
 
 /* The size of the buffer that duration_str_report writes into. */
 #define DURATION_STR_REPORT_BUFFER_SIZE 867
@@ -462,15 +462,20 @@ size_t duration_str_report(
  * the same help in words. If the line has no help, or if the text is read,
  * returns DURATION_STR_HELP_NONE, which is 0.
  *
- * For DURATION_STR_HELP_DID_YOU_MEAN, writes the name of a unit to the start of
- * `suggestion`, such as `min` for `5 mins`, and to `*word_length` the length of
- * the word that is no unit, in bytes. The user should write the name in place of
- * that word, which begins at the place of the fault. Otherwise writes the empty
- * text and 0. `suggestion` has DURATION_STR_SUGGESTION_BUFFER_SIZE bytes. Each of
- * the two pointers may be null. */
+ * If it is certain what the user should write in place of a part of the text,
+ * writes that to the start of `suggestion`, such as `90min` for `1.5h`, and to
+ * `*start` and `*replaced_length` where that part begins, and how many bytes it
+ * has. If the part is only to be removed, such as the sign of `+5m`, writes the
+ * empty text to `suggestion`. If something is only to be inserted, writes 0 to
+ * `*replaced_length`. If nothing is certain, writes the empty text and two
+ * zeros.
+ *
+ * `suggestion` has DURATION_STR_SUGGESTION_BUFFER_SIZE bytes. Each of the three
+ * pointers may be null. */
 uint32_t duration_str_help(
     const char *text, size_t length, uint32_t options,
-    char suggestion[DURATION_STR_SUGGESTION_BUFFER_SIZE], size_t *word_length);
+    char suggestion[DURATION_STR_SUGGESTION_BUFFER_SIZE], size_t *start,
+    size_t *replaced_length);
 
 /* Finds a unit by its name, such as `h`, `ms` or `minutes`. Returns the unit's
  * number in `enum duration_str_time_unit`, or -1 if no unit has this name or if

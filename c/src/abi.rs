@@ -147,14 +147,17 @@ unsafe extern "C" fn duration_str_help(
     text: *const u8,
     len: usize,
     bits: u32,
-    out: Option<&mut MaybeUninit<[u8; 4]>>,
-    word_length: Option<&mut MaybeUninit<usize>>,
+    out: Option<&mut MaybeUninit<[u8; 24]>>,
+    start: Option<&mut MaybeUninit<usize>>,
+    replaced_length: Option<&mut MaybeUninit<usize>>,
 ) -> u32 {
     let (text, mut number) = (unsafe { bytes(text, len) }, 0);
-    let mut unwanted = MaybeUninit::uninit();
-    let word_length = word_length.unwrap_or(&mut unwanted).write(0);
+    let mut unwanted = [MaybeUninit::uninit(); 2];
+    let [one, other] = &mut unwanted;
+    let start = start.unwrap_or(one).write(0);
+    let replaced_length = replaced_length.unwrap_or(other).write(0);
     written(out.unwrap_or(&mut MaybeUninit::zeroed()), |buffer| {
-        number = help::duration_str_help(text, bits, buffer, word_length);
+        number = help::duration_str_help(text, bits, buffer, start, replaced_length);
         buffer.iter().take_while(|byte| **byte != 0).count()
     });
     number

@@ -1,56 +1,62 @@
 // Made by tools/erase of crates/duration_str_c/src/help.rt.
-//! The help for a refused text.
+//! The help for a refused text, and what to write instead.
 
 use crate::answer::Answer;
 use crate::message::refusal_of;
-use crate::put;
-use duration_str_core::{Fault, Help, MAX_SUGGESTION_LEN};
-
-/// The size of the buffer that `duration_str_help` writes a name into.
-pub const SUGGESTION_BUFFER_SIZE: usize = MAX_SUGGESTION_LEN + 1;
+use crate::{put, rules_of_bits};
+use duration_str_core::{Fault, Help, Rules, SUGGESTION_BUFFER_SIZE};
 
 /// Reads a text under the options whose bits are set, as `duration_str_parse_with` does, and
 /// returns the number of the help for its refusal, as `Help::number` gives it. The number is 0 if
-/// there is no help, or if the text is read. Writes to the start of the buffer the name that the
-/// help says to write, with a zero byte after it. If the help names none, the name is empty. The
-/// rest of the buffer is unchanged. Writes to `word_length` how many bytes of the text, from the
-/// fault's place on, the name replaces. It is 0 if the help names none.
+/// there is no help, or if the text is read.
+///
+/// If it is certain what to write in place of a part of the text, writes that to the start of the
+/// buffer, with a zero byte after it, and the part's first byte and its length to `start` and
+/// `length`. Then the text in the buffer or the part is not empty. If nothing is certain, writes
+/// the empty text and two zeros. The rest of the buffer is unchanged.
 pub fn duration_str_help(
     text: &[u8],
     options: u32,
     suggestion: &mut [u8; SUGGESTION_BUFFER_SIZE],
-    word_length: &mut usize,
+    start: &mut usize,
+    length: &mut usize,
 ) -> u32 {
     let mut answer = Answer::value(0);
     match refusal_of(text, options, &mut answer) {
-        Ok(fault) => {
-            *word_length = word_length_of(&fault);
-            show_help(fault.help(), suggestion)
-        }
-        Err(_) => {
-            *word_length = 0;
-            show_help(None, suggestion)
-        }
+        Ok(fault) => show_help(&fault, rules_of_bits(options), suggestion, start, length),
+        Err(_) => show_no_mend(None, suggestion, start, length),
     }
 }
 
-fn word_length_of(fault: &Fault<'_>) -> usize {
-    let Some(mended) = fault.mended() else {
-        return 0;
+fn show_help(
+    fault: &Fault<'_>,
+    rules: Rules,
+    suggestion: &mut [u8; SUGGESTION_BUFFER_SIZE],
+    start: &mut usize,
+    length: &mut usize,
+) -> u32 {
+    let Some(mended) = fault.mended(rules) else {
+        return show_no_mend(fault.help(), suggestion, start, length);
     };
-    mended.word.len()
+    let _ = put(
+        mended.suggestion.write(&mut [0; SUGGESTION_BUFFER_SIZE]),
+        suggestion,
+    );
+    *start = mended.front.len();
+    *length = mended.replaced.len();
+    number_of(fault.help())
 }
 
-fn show_help(help: Option<Help>, suggestion: &mut [u8; SUGGESTION_BUFFER_SIZE]) -> u32 {
-    let _ = put(name_of(help), suggestion);
+fn show_no_mend(
+    help: Option<Help>,
+    suggestion: &mut [u8; SUGGESTION_BUFFER_SIZE],
+    start: &mut usize,
+    length: &mut usize,
+) -> u32 {
+    let _ = put("", suggestion);
+    *start = 0;
+    *length = 0;
     number_of(help)
-}
-
-fn name_of(help: Option<Help>) -> &'static str {
-    match help {
-        Some(help) => help.suggestion().unwrap_or(""),
-        None => "",
-    }
 }
 
 fn number_of(help: Option<Help>) -> u32 {

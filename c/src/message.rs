@@ -2,8 +2,8 @@
 //! The line and the report about a refused text.
 
 use crate::answer::{Answer, refused};
-use crate::{are_options, options_of_bits, put, read_by, text_of};
-use duration_str_core::{Cause, Fault, ONE_LINE_BUFFER_SIZE, REPORT_BUFFER_SIZE};
+use crate::{are_options, options_of_bits, put, read_by, rules_of_bits, text_of};
+use duration_str_core::{Cause, Fault, ONE_LINE_BUFFER_SIZE, REPORT_BUFFER_SIZE, Rules};
 
 /// Reads a text under the options whose bits are set, as `duration_str_parse_with` does, and writes
 /// a line to the start of the buffer, with a zero byte after it. The line says what is wrong with
@@ -16,7 +16,7 @@ pub fn duration_str_one_line(
     buffer: &mut [u8; ONE_LINE_BUFFER_SIZE],
 ) -> usize {
     match refusal_of(text, options, answer) {
-        Ok(fault) => show_one_line(&fault, buffer),
+        Ok(fault) => show_one_line(&fault, rules_of_bits(options), buffer),
         Err(line) => show(line, buffer),
     }
 }
@@ -30,7 +30,7 @@ pub fn duration_str_report(
     buffer: &mut [u8; REPORT_BUFFER_SIZE],
 ) -> usize {
     match refusal_of(text, options, answer) {
-        Ok(fault) => show_report(&fault, buffer),
+        Ok(fault) => show_report(&fault, rules_of_bits(options), buffer),
         Err(line) => show(line, buffer),
     }
 }
@@ -63,14 +63,14 @@ pub(crate) fn refusal_of<'a>(
     }
 }
 
-fn show_one_line(fault: &Fault<'_>, buffer: &mut [u8; ONE_LINE_BUFFER_SIZE]) -> usize {
+fn show_one_line(fault: &Fault<'_>, rules: Rules, buffer: &mut [u8; ONE_LINE_BUFFER_SIZE]) -> usize {
     let mut line = [0; ONE_LINE_BUFFER_SIZE];
-    put(fault.write_one_line(&mut line), buffer)
+    put(fault.write_one_line(rules, &mut line), buffer)
 }
 
-fn show_report(fault: &Fault<'_>, buffer: &mut [u8; REPORT_BUFFER_SIZE]) -> usize {
+fn show_report(fault: &Fault<'_>, rules: Rules, buffer: &mut [u8; REPORT_BUFFER_SIZE]) -> usize {
     let mut report = [0; REPORT_BUFFER_SIZE];
-    put(fault.write_report(&mut report), buffer)
+    put(fault.write_report(rules, &mut report), buffer)
 }
 
 fn show(text: &str, buffer: &mut [u8]) -> usize {

@@ -29,8 +29,9 @@ struct given {
 
 /* What the calls return and write, and bytes that nothing may write */
 struct memory {
-    uint64_t said[TEXTS], is_read, is_read_with, help, word, unit, is_broken_down, unwritten,
-        nanos[2], rest[2], counts[DURATION_STR_UNIT_COUNT + 2];
+    uint64_t said[TEXTS], is_read, is_read_with, help, unit, is_broken_down, unwritten, nanos[2],
+        rest[2], counts[DURATION_STR_UNIT_COUNT + 2];
+    size_t start[2], replaced[2];
     struct duration_str_answer answers[4];
     char texts[TEXTS][DURATION_STR_REPORT_BUFFER_SIZE + 32];
 };
@@ -39,10 +40,7 @@ static void call_all(
     const char *text, size_t length, uint32_t bits, struct given of, struct memory *to) {
     to->said[LINE] = duration_str_one_line(text, length, bits, &to->answers[0], to->texts[LINE]);
     to->said[REPORT] = duration_str_report(text, length, bits, &to->answers[1], to->texts[REPORT]);
-    size_t word_length;
-    to->help = duration_str_help(text, length, bits, to->texts[HELP], &word_length);
-    to->word = word_length;
-    HOLDS(word_length <= length);
+    to->help = duration_str_help(text, length, bits, to->texts[HELP], to->start, to->replaced);
     to->said[HELP] = strnlen(to->texts[HELP], rooms[HELP]);
     to->said[FORMAT] = duration_str_format(of.nanos, to->texts[FORMAT]);
     to->said[FORMAT_WITH] = duration_str_format_with(
@@ -77,6 +75,9 @@ static void check(char *const *texts, size_t length, uint32_t options, struct gi
     written(to, offsetof(struct memory, unwritten));
     written(to->nanos, to->is_read * sizeof *to->nanos);
     written(to->rest, to->is_broken_down * sizeof *to->rest);
+    written(to->start, sizeof *to->start);
+    written(to->replaced, sizeof *to->replaced);
+    HOLDS(*to->start <= length && *to->replaced <= length - *to->start);
     written(to->counts, to->is_broken_down * DURATION_STR_UNIT_COUNT * sizeof *to->counts);
     for (int at = 0; at < 3; at++)
         written(&to->answers[at], FIELDS);

@@ -44,13 +44,13 @@ said_short bits (inr (inl (known, no_text, is))) h = omega (arith, rw is at h.0)
 said_short bits (inr (inr (inl (known, utf8, nanos, read, is)))) h = omega (arith, rw is at h.0)
 said_short bits (inr (inr (inr (known, utf8, cause, refused, none)))) h = absurd none
 
-pub said_helped : (bits number : ℕ) (bytes line old new : List ℕ) → IsSaidOf bits bytes line
-    → IsHelpShown None old number new → ShowsHelp bits bytes old number new 0
-said_helped bits number bytes line old new (inl (unknown, is)) h = inl (unknown, (h, refl))
-said_helped bits number bytes line old new (inr (inl (known, no_text, is))) h = inr (inl (known, no_text, (h, refl)))
-said_helped bits number bytes line old new (inr (inr (inl (known, utf8, nanos, read, is)))) h =
-    inr (inr (inl (known, utf8, nanos, read, (h, refl))))
-said_helped bits number bytes line old new (inr (inr (inr (known, utf8, cause, refused, none)))) h = absurd none
+pub said_helped : (bits number : ℕ) (bytes line old new : List ℕ) (start len : ℕ) → IsSaidOf bits bytes line
+    → IsHelpShown None None old number new start len → ShowsHelp bits bytes old number new start len
+said_helped bits number bytes line old new start len (inl (unknown, is)) h = inl (unknown, h)
+said_helped bits number bytes line old new start len (inr (inl (known, no_text, is))) h = inr (inl (known, no_text, h))
+said_helped bits number bytes line old new start len (inr (inr (inl (known, utf8, nanos, read, is)))) h =
+    inr (inr (inl (known, utf8, nanos, read, h)))
+said_helped bits number bytes line old new start len (inr (inr (inr (known, utf8, cause, refused, none)))) h = absurd none
 
 none_at : (us : List TimeUnit) (i : ℕ) → length us ≤ i → None ≡ slice_get us i
 none_at [] i beyond = refl

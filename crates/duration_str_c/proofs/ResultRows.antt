@@ -1,9 +1,9 @@
 -- Rows of definitions that say what calls return: what follows from each in one case. A definition
 -- that said less would be refused here.
-use Rattle.std.specs.Prelude.{◌≡◌, ◌≤◌, ◌⊎◌, ℕ, ◌+◌, ◌^◌, ◌∷◌, ◌++◌, [], Any, length, List, None, Some, codes}
+use Rattle.std.specs.Prelude.{◌≡◌, ◌≤◌, ◌⊎◌, ℕ, ◌+◌, ◌^◌, ◌∷◌, ◌++◌, [], Any, List, None, Some, codes}
 use Rattle.std.specs.Duration.{FitsDuration}
 use Rattle.std.specs.Str.{chars}
-use Rattle.std.proofs.Common.{arith, inl, inr, refl}
+use Rattle.std.proofs.Common.{arith, false, inl, inr, refl, true}
 use Rattle.duration_str.proofs.Sentences.AnswerLemmas.{answer_refused, one_reading_holds}
 use Rattle.duration_str.specs.Answer.{expected_at_start}
 use Rattle.duration_str.specs.Breakdown.{ArePartsRounded, sum_of_parts}
@@ -13,32 +13,48 @@ use Rattle.duration_str.specs.Reading.{IsRead, IsRefused}
 use Rattle.duration_str.specs.Rounding.{NoneAbove}
 use Rattle.duration_str.specs.declared.cause.Cause.{Cause}
 use Rattle.duration_str.specs.declared.cause.Cause.TheVariants.{Syntax}
+use Rattle.duration_str.specs.declared.cause.Expected.{Expected}
 use Rattle.duration_str.specs.declared.format.Format.{Format}
-use Rattle.duration_str.specs.declared.help.Help.TheVariants.{DidYouMean, Negative}
+use Rattle.duration_str.specs.declared.help.Help.TheVariants.{DidYouMean}
 use Rattle.duration_str.specs.declared.unit.TimeUnit.TheVariants.{Minute}
 use Rattle.duration_str_c.specs.Answers.{rules_of_bits}
 use Rattle.duration_str_c.specs.Breakdown.{counts_of, IsBrokenDown, IsTooLarge}
 use Rattle.duration_str_c.specs.Format.{IsFormatted}
-use Rattle.duration_str_c.specs.Help.{IsHelpShown, ShowsHelp, word_length}
+use Rattle.duration_str_c.specs.Help.{IsHelpShown, ShowsHelp}
 use Rattle.duration_str_c.specs.Messages.{IsShown}
 use Rattle.duration_str_c.specs.Rounding.{AreRight, NoneRounded}
+use Rattle.std.specs.Fmt.{digits}
 use lib.Utf8.{encode}
 
-pub unit_is_suggested_by_its_name : (number : ℕ) (new : List ℕ)
-    → IsHelpShown (Some (DidYouMean Minute)) (codes "????") number new → new ≡ codes "min" ++ (0 ∷ [])
-unfolding encode
-unit_is_suggested_by_its_name number new shown = shown.1
+abbrev mins : Pieces
+mins = record { front = codes "5 "; replaced = codes "mins"; written = codes "min"; rest = [] }
 
-pub negative_has_its_number : (number : ℕ) (new : List ℕ) → IsHelpShown (Some Negative) (codes "????") number new
-    → number ≡ 6
-negative_has_its_number number new shown = shown.0
+module _ (number start len : ℕ) (new : List ℕ)
+    (shown : IsHelpShown (Some (DidYouMean Minute)) (Some mins) (codes "????") number new start len) where
+  pub help_has_its_number : number ≡ 1
+  help_has_its_number = shown.numbered
 
-pub rest_of_the_buffer_stays : (number : ℕ) (new : List ℕ) → IsHelpShown None (codes "????") number new
-    → new ≡ 0 ∷ codes "???"
-rest_of_the_buffer_stays number new shown = shown.1
+  pub what_to_write_stands_in_front : new ≡ codes "min" ++ (0 ∷ [])
+  what_to_write_stands_in_front = shown.written
 
-pub no_help_is_zero : (number : ℕ) (new : List ℕ) → IsHelpShown None (codes "????") number new → number ≡ 0
-no_help_is_zero number new shown = shown.0
+  pub part_starts_after_the_front : start ≡ 2
+  part_starts_after_the_front = shown.starts
+
+  pub part_is_the_word : len ≡ 4
+  part_is_the_word = shown.long
+
+module _ (number start len : ℕ) (new : List ℕ) (shown : IsHelpShown None None (codes "????") number new start len) where
+  pub no_help_is_zero : number ≡ 0
+  no_help_is_zero = shown.numbered
+
+  pub rest_of_the_buffer_stays : new ≡ 0 ∷ codes "???"
+  rest_of_the_buffer_stays = shown.written
+
+  pub no_part_starts_at_zero : start ≡ 0
+  no_part_starts_at_zero = shown.starts
+
+  pub no_part_is_empty : len ≡ 0
+  no_part_is_empty = shown.long
 
 -- ---- The help for a text
 
@@ -54,23 +70,45 @@ minus_not_read nanos read =
     one_reading_holds.not_both (rules_of_bits 0) (chars (codes "-5m")) nanos (Syntax 0 expected_at_start) read
     ((answer_refused (rules_of_bits 0) (chars (codes "-5m")) (Syntax 0 expected_at_start)).0 refl)
 
-module _ (number len : ℕ) (new : List ℕ) where
-  pub help_is_that_of_the_text : ShowsHelp 0 (codes "-5m") (codes "????") number new len → (number ≡ 6) × (len ≡ 0)
+module _ (number start len : ℕ) (new : List ℕ) where
+  pub help_is_that_of_the_text : ShowsHelp 0 (codes "-5m") (codes "????") number new start len
+      → (number ≡ 6) × (new ≡ 0 ∷ codes "???")
   unfolding chars encode
   help_is_that_of_the_text (inl (unknown, shown)) = absurd (unknown refl)
   help_is_that_of_the_text (inr (inl (known, no_text, shown))) = absurd (no_text (codes "-5m", (refl, refl)))
   help_is_that_of_the_text (inr (inr (inl (known, utf8, nanos, read, shown)))) = absurd (minus_not_read nanos read)
   help_is_that_of_the_text (inr (inr (inr (known, utf8, cause, refused, shown)))) =
-      (rw (minus cause refused) at shown.0.0, rw (minus cause refused) at shown.1)
+      let is = rw (minus cause refused) at shown in (is.numbered, is.written)
 
-  pub unknown_option_has_no_help : ShowsHelp 32 (codes "-5m") (codes "????") number new len → (number ≡ 0) × (len ≡ 0)
-  unknown_option_has_no_help (inl (unknown, shown)) = (shown.0.0, shown.1)
+  pub unknown_option_has_no_help : ShowsHelp 32 (codes "-5m") (codes "????") number new start len → number ≡ 0
+  unknown_option_has_no_help (inl (unknown, shown)) = shown.numbered
   unknown_option_has_no_help (inr (inl (known, no_text, shown))) = absurd cc
   unknown_option_has_no_help (inr (inr (inl (known, utf8, nanos, read, shown)))) = absurd cc
   unknown_option_has_no_help (inr (inr (inr (known, utf8, cause, refused, shown)))) = absurd cc
 
-pub word_is_replaced : (mended : Pieces) (len : ℕ) → len ≡ word_length (Some mended) → len ≡ length mended.word
-word_is_replaced mended len is = is
+-- The default unit is the millisecond, and `+` and `*` are not read.
+abbrev in_millis : ℕ
+in_millis = 0x90001
+
+abbrev after_number : Expected
+after_number = record { number = false; unit_word = true; operator = false; text_end = true }
+
+fraction : IsRefused (rules_of_bits in_millis) (chars (codes "1.5")) (Syntax 1 after_number)
+unfolding chars
+fraction = (answer_refused (rules_of_bits in_millis) (chars (codes "1.5")) (Syntax 1 after_number)).0 refl
+
+pub mend_follows_the_options : (number start len : ℕ) (new : List ℕ)
+    → ShowsHelp in_millis (codes "1.5") (codes "????????") number new start len
+    → (number ≡ 3) × (new ≡ codes "1500us" ++ (0 ∷ codes "?")) × (start ≡ 0) × (len ≡ 3)
+unfolding chars encode digits
+mend_follows_the_options number start len new (inl (unknown, shown)) = absurd (unknown refl)
+mend_follows_the_options number start len new (inr (inl (known, no_text, shown))) =
+    absurd (no_text (codes "1.5", (refl, refl)))
+mend_follows_the_options number start len new (inr (inr (inl (known, utf8, nanos, read, shown)))) =
+    absurd (one_reading_holds.not_both (rules_of_bits in_millis) (chars (codes "1.5")) nanos (Syntax 1 after_number) read fraction)
+mend_follows_the_options number start len new (inr (inr (inr (known, utf8, cause, refused, shown)))) =
+    let same = one_reading_holds.one_cause (rules_of_bits in_millis) (chars (codes "1.5")) cause (Syntax 1 after_number) refused fraction in
+    let is = rw same at shown in (is.numbered, is.written, is.starts, is.long)
 
 -- ---- A message in a buffer
 

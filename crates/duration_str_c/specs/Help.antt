@@ -1,35 +1,42 @@
--- The help for a refused text: its number, in a caller's buffer the name that it says to write, and
--- the length of the word in whose place to write it.
-use Rattle.std.specs.Prelude.{◌≡◌, ℕ, ◌+◌, List, [], ◌∷◌, ◌++◌, length, drop, Option, Some, None, unwrap_or}
+-- The help for a refused text: its number, and what to write in place of which part of the text.
+use Rattle.std.specs.Prelude.{◌≡◌, ℕ, ◌+◌, List, [], ◌∷◌, ◌++◌, length, drop, Option, Some, None}
 use Rattle.duration_str.specs.declared.help.Help.{Help}
-use Rattle.duration_str.specs.OneLine.{help_number, help_of, mended_of, Pieces, suggestion_of}
-use Rattle.duration_str_c.specs.Answers.{IsTold}
+use Rattle.duration_str.specs.OneLine.{help_number, help_of, mended_of, Pieces}
+use Rattle.duration_str_c.specs.Answers.{rules_of_bits, IsTold}
 
 -- the number of a help, or 0 if there is none
 abbrev pub number_of : Option Help → ℕ
 number_of (Some help) = help_number help
 number_of None = 0
 
--- the bytes of the name that a help says to write. There are none if it names none
-abbrev pub name_of : Option Help → List ℕ
-name_of (Some help) = unwrap_or (suggestion_of help) []
-name_of None = []
+-- the bytes to write instead. There are none if there is no mend
+abbrev pub written_of : Option Pieces → List ℕ
+written_of (Some mended) = mended.written
+written_of None = []
 
--- The number is the help's. The help's name and a zero are at the start of the buffer, and the rest
--- of the buffer is unchanged.
-abbrev pub IsHelpShown : Option Help → List ℕ → ℕ → List ℕ → Type 0
-IsHelpShown help old number new =
-    (number ≡ number_of help) × (new ≡ name_of help ++ (0 ∷ drop (length (name_of help) + 1) old))
+-- the byte at which the part begins that is replaced, or 0 if there is no mend
+abbrev pub start_of : Option Pieces → ℕ
+start_of (Some mended) = length mended.front
+start_of None = 0
 
--- how many bytes the word has in whose place a name is to be written, or 0 if there is no such word
-abbrev pub word_length : Option Pieces → ℕ
-word_length (Some mended) = length mended.word
-word_length None = 0
+-- how many bytes the part has that is replaced, or 0 if there is no mend
+abbrev pub length_of : Option Pieces → ℕ
+length_of (Some mended) = length mended.replaced
+length_of None = 0
 
--- The number, the buffer and the length show the help for the case that applies. There is none if
--- an option is unknown, if the bytes are not UTF-8, or if they are read.
-abbrev pub ShowsHelp : ℕ → List ℕ → List ℕ → ℕ → List ℕ → ℕ → Type 0
-ShowsHelp bits bytes old number new len =
-    IsTold (IsHelpShown None old number new × (len ≡ 0)) (IsHelpShown None old number new × (len ≡ 0))
-    (λ nanos. IsHelpShown None old number new × (len ≡ 0))
-    (λ cause. IsHelpShown (help_of bytes cause) old number new × (len ≡ word_length (mended_of bytes cause))) bits bytes
+-- The number is the help's. What to write and a zero are at the start of the buffer, and the rest
+-- of the buffer is unchanged. The start and the length are those of the part that is replaced.
+pub record IsHelpShown (help : Option Help) (mended : Option Pieces) (old : List ℕ) (number : ℕ) (new : List ℕ) (start len : ℕ) : Type 0 where
+  pub numbered : number ≡ number_of help
+  pub written : new ≡ written_of mended ++ (0 ∷ drop (length (written_of mended) + 1) old)
+  pub starts : start ≡ start_of mended
+  pub long : len ≡ length_of mended
+
+-- The number, the buffer, the start and the length show the help for the case that applies. There
+-- is none if an option is unknown, if the bytes are not UTF-8, or if they are read.
+abbrev pub ShowsHelp : ℕ → List ℕ → List ℕ → ℕ → List ℕ → ℕ → ℕ → Type 0
+ShowsHelp bits bytes old number new start len =
+    IsTold (IsHelpShown None None old number new start len) (IsHelpShown None None old number new start len)
+    (λ nanos. IsHelpShown None None old number new start len)
+    (λ cause. IsHelpShown (help_of bytes cause) (mended_of (rules_of_bits bits) bytes cause) old number new start len)
+    bits bytes

@@ -145,9 +145,16 @@ pub(crate) fn read_by(text: &str, bits: u32) -> Result<u64, Fault<'_>>
     if bits == 0 {
         return parse_nanos(text, Rules::of(Options::off()));
     }
+    read_chosen(text, rules_of_bits(bits))
+}
+
+#[inline(always)]
+pub(crate) fn rules_of_bits(bits: u32) -> Rules
+    ensures { meaning_of result ≡ rules_of_bits bits }
+{
     let own = Rules::of(options_of_bits(bits)).default_unit(default_unit_of_bits(bits));
     let more = bits & MORE_NAMES != 0;
-    read_chosen(text, if more { own.more_names() } else { own })
+    if more { own.more_names() } else { own }
 }
 
 /// One copy of the reader serves all options, so that the library is small.

@@ -3,6 +3,7 @@ ghost use Rattle.std.specs.Prelude.{◌≡◌, ◌+◌, ◌<◌, ◌≤◌, ◌�
 ghost use Rattle.std.specs.Str.{chars};
 ghost use Rattle.duration_str.specs.declared.one_line.TheConstants.{MAX_ONE_LINE_LEN};
 ghost use Rattle.duration_str.specs.declared.report.TheConstants.{REPORT_BUFFER_SIZE};
+ghost use Rattle.duration_str.specs.Meaning.{meaning_of};
 ghost use Rattle.duration_str.specs.OneLine.{one_line_of};
 ghost use Rattle.duration_str.specs.Report.{report_of};
 ghost use Rattle.duration_str.specs.Reading.{IsRefused};
@@ -10,8 +11,8 @@ ghost use Rattle.duration_str_c.specs.Answers.{AreOptions, IsAnswerTo, rules_of_
 ghost use Rattle.duration_str_c.specs.Messages.{IsShown, IsSaidOf, ShowsRefusal};
 
 use crate::answer::{Answer, refused};
-use crate::{are_options, options_of_bits, put, read_by, text_of};
-use duration_str::{Cause, Fault, ONE_LINE_BUFFER_SIZE, REPORT_BUFFER_SIZE};
+use crate::{are_options, options_of_bits, put, read_by, rules_of_bits, text_of};
+use duration_str::{Cause, Fault, ONE_LINE_BUFFER_SIZE, REPORT_BUFFER_SIZE, Rules};
 
 /// Reads a text under the options whose bits are set, as `duration_str_parse_with` does, and writes
 /// a line to the start of the buffer, with a zero byte after it. The line says what is wrong with
@@ -24,14 +25,14 @@ pub fn duration_str_one_line(
     buffer: &mut [u8; ONE_LINE_BUFFER_SIZE],
 ) -> usize
     ensures answers { IsAnswerTo options text.now answer.new }
-    ensures text { ShowsRefusal (one_line_of text.now)
+    ensures text { ShowsRefusal (one_line_of (rules_of_bits options) text.now)
         options text.now buffer.old result buffer.new }
     ensures utf8 { IsUtf8 (take result buffer.new) }
     ensures rest { drop result buffer.new ≡ 0 ∷ drop (result + 1) buffer.old }
     ensures short { result ≤ MAX_ONE_LINE_LEN }
 {
     match refusal_of(text, options, answer) {
-        Ok(fault) => show_one_line(&fault, buffer),
+        Ok(fault) => show_one_line(&fault, rules_of_bits(options), buffer),
         Err(line) => show(line, buffer),
     }
 }
@@ -45,14 +46,14 @@ pub fn duration_str_report(
     buffer: &mut [u8; REPORT_BUFFER_SIZE],
 ) -> usize
     ensures answers { IsAnswerTo options text.now answer.new }
-    ensures text { ShowsRefusal (report_of text.now)
+    ensures text { ShowsRefusal (report_of (rules_of_bits options) text.now)
         options text.now buffer.old result buffer.new }
     ensures utf8 { IsUtf8 (take result buffer.new) }
     ensures rest { drop result buffer.new ≡ 0 ∷ drop (result + 1) buffer.old }
     ensures short { result < REPORT_BUFFER_SIZE }
 {
     match refusal_of(text, options, answer) {
-        Ok(fault) => show_report(&fault, buffer),
+        Ok(fault) => show_report(&fault, rules_of_bits(options), buffer),
         Err(line) => show(line, buffer),
     }
 }
@@ -91,24 +92,24 @@ pub(crate) fn refusal_of<'a>(
     }
 }
 
-fn show_one_line(fault: &Fault<'_>, buffer: &mut [u8; ONE_LINE_BUFFER_SIZE]) -> usize
-    ensures shown { IsShown (one_line_of fault.now.text.now fault.now.cause)
+fn show_one_line(fault: &Fault<'_>, rules: Rules, buffer: &mut [u8; ONE_LINE_BUFFER_SIZE]) -> usize
+    ensures shown { IsShown (one_line_of (meaning_of rules) fault.now.text.now fault.now.cause)
         buffer.old result buffer.new }
     ensures utf8 { IsUtf8 (take result buffer.new) }
     ensures short { result ≤ MAX_ONE_LINE_LEN }
 {
     let mut line = [0; ONE_LINE_BUFFER_SIZE];
-    put(fault.write_one_line(&mut line), buffer)
+    put(fault.write_one_line(rules, &mut line), buffer)
 }
 
-fn show_report(fault: &Fault<'_>, buffer: &mut [u8; REPORT_BUFFER_SIZE]) -> usize
-    ensures shown { IsShown (report_of fault.now.text.now fault.now.cause)
+fn show_report(fault: &Fault<'_>, rules: Rules, buffer: &mut [u8; REPORT_BUFFER_SIZE]) -> usize
+    ensures shown { IsShown (report_of (meaning_of rules) fault.now.text.now fault.now.cause)
         buffer.old result buffer.new }
     ensures utf8 { IsUtf8 (take result buffer.new) }
     ensures short { result < REPORT_BUFFER_SIZE }
 {
     let mut report = [0; REPORT_BUFFER_SIZE];
-    put(fault.write_report(&mut report), buffer)
+    put(fault.write_report(rules, &mut report), buffer)
 }
 
 fn show(text: &str, buffer: &mut [u8]) -> usize
