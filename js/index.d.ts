@@ -208,9 +208,6 @@ export type Help =
     // A number without a unit is too large in the default unit.
     | "LARGE_NUMBER";
 
-/** The name of a unit that a help suggests. */
-export type Suggestion = Exclude<PrintedUnit, "µs"> | "us";
-
 interface Refused {
     /** The whole text. */
     readonly text: string;
@@ -218,10 +215,14 @@ interface Refused {
     readonly expected: Expected;
     /** What the user may have meant, or should write instead. It is null if no help applies. */
     readonly help: Help | null;
-    /** The unit, such as `min` for `5 mins`, if the help is `DID_YOU_MEAN`, and otherwise null. */
-    readonly suggestion: Suggestion | null;
     /**
-     * The text with the suggestion in place of the word that is no unit, such as `5 min`, or null
+     * What to write in place of the part of the text that is wrong, such as `90min` for `1.5h`, if
+     * that is certain, and otherwise null. It is empty if that part is only to be removed, such as
+     * the sign of `+5m`.
+     */
+    readonly suggestion: string | null;
+    /**
+     * The text with the suggestion in place of that part, such as `2h 90s` for `2h 1.5min`, or null
      * if there is no suggestion. If the mended text has a syntax fault under the same options, then
      * only after the suggestion.
      */

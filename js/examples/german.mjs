@@ -13,9 +13,8 @@ const CAUSES = {
     NOT_TEXT: "kein UTF-8",
 };
 const HELPS = {
-    DID_YOU_MEAN: "besser „MENDED“",
     UNITS: `Einheiten: ${UNITS}`,
-    FRACTION: "Zahlen haben nur Ziffern: 1500ms statt 1.5s",
+    FRACTION: "Zahlen haben nur Ziffern",
     DIGITS_ONLY: "Zahlen haben nur Ziffern",
     CLOCK_TIME: "keine Uhrzeiten: 1h 30m oder 1m 30s",
     NEGATIVE: "keine negativen Dauern",
@@ -49,9 +48,10 @@ function problem({ code, text, index, found, expected }) {
 
 export function inGerman(fault) {
     const { help, suggestion, mended } = fault;
+    if (mended !== null) {
+        return `${problem(fault)} (besser „${isPrintable(mended) ? mended : suggestion}“)`;
+    }
     // Later versions may have more helps.
     const words = HELPS[help];
-    if (words === undefined) return problem(fault);
-    const better = isPrintable(mended ?? "") ? mended : suggestion;
-    return `${problem(fault)} (${words.replace("MENDED", () => better)})`;
+    return words === undefined ? problem(fault) : `${problem(fault)} (${words})`;
 }

@@ -1,6 +1,6 @@
 // `reader` comes from compiled.js or from plain.js.
 import { reader } from "modules";
-import { CODES } from "./lists.js";
+import { CODES, UNITS } from "./lists.js";
 import { bitsOf, READS_NUMBERS, typeOf } from "./options.js";
 import { DurationError, Fault } from "./refusals.js";
 
@@ -8,10 +8,9 @@ import { DurationError, Fault } from "./refusals.js";
 const PAGE = 65_536;
 const LONE_SURROGATE = /[\ud800-\udfff]/u;
 
-// After the module's own memory come a `struct Answer` and the text to read. These are the offsets
-// of the struct's other fields: the nanoseconds are at 0.
-const PLACE = 8, FOUND_LENGTH = 12, CAUSE = 16, EXPECTED = 20, HELP = 24, UNIT = 28;
-const WORD_LENGTH = 32, REPORT = 36;
+// After the module's own memory come a `struct Answer` and the text to read. The struct has the
+// nanoseconds, the count to write, further numbers of 32 bits, and the report, at these offsets.
+const NANOS = 0, COUNT = 8, NUMBERS = 16, REPORT = 56;
 /** The longest report fits. */
 const REPORT_SIZE = 867;
 /** The offset of the text. The struct's size is a multiple of 8. */
@@ -63,22 +62,23 @@ function indexAt(text, place) {
 
 /** The fault of the text, from the answer and the report that the call has written. */
 function faultOf(text, reportLength) {
-    const number = (field) => fields.getInt32(field, true);
     const bytes = new Uint8Array(calls.memory.buffer, answer + REPORT, reportLength);
     // Spreading the bytes would take eight times as long as `apply`.
     const report = decodeURIComponent(escape(String.fromCharCode.apply(null, bytes)));
-    const code = CODES[number(CAUSE)];
-    const fault = new Fault(text, report, code, number(EXPECTED), number(HELP), number(UNIT));
-    const place = number(PLACE);
+    const numbers = Array.from({ length: 9 }, (_, index) =>
+        fields.getInt32(NUMBERS + 4 * index, true));
+    const [place, foundLength, cause, expected, help, start, length, hasCount, unit] = numbers;
+    const fault = new Fault(text, report, CODES[cause], expected, help);
     if (place >= 0) {
         fault.place = place;
         fault.index = indexAt(text, place);
-        const end = indexAt(text, place + number(FOUND_LENGTH));
-        fault.found = text.slice(fault.index, end) || null;
-        if (fault.suggestion) {
-            const rest = text.slice(indexAt(text, place + number(WORD_LENGTH)));
-            fault.mended = text.slice(0, fault.index) + fault.suggestion + rest;
-        }
+        fault.found = text.slice(fault.index, indexAt(text, place + foundLength)) || null;
+    }
+    if (start >= 0) {
+        const count = hasCount ? fields.getBigUint64(COUNT, true) : "";
+        fault.suggestion = count + (UNITS[unit - 1] ?? "").replace("µ", "u");
+        const rest = text.slice(indexAt(text, start + length));
+        fault.mended = text.slice(0, indexAt(text, start)) + fault.suggestion + rest;
     }
     return fault;
 }
@@ -119,7 +119,7 @@ function read(value, options) {
     return millis < 0 ? faultOf(text, -millis) : millis;
 }
 
-const nanoseconds = () => fields.getBigUint64(0, true);
+const nanoseconds = () => fields.getBigUint64(NANOS, true);
 
 export function tryParseNs(value, options) {
     const result = read(value, options);

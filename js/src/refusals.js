@@ -1,4 +1,4 @@
-import { HELPS, UNITS } from "./lists.js";
+import { HELPS } from "./lists.js";
 
 const SHOWN_LENGTH = 80;
 
@@ -6,9 +6,9 @@ const SHOWN_LENGTH = 80;
 export class Fault {
     #report;
 
-    /** The bits of `expected` are those of `enum duration_str_expected`. `help` and `unit` are the
-     * numbers of a help and of a unit, from 1, or 0. */
-    constructor(text, report, code, expected = 0, help = 0, unit = 0) {
+    /** The bits of `expected` are those of `enum duration_str_expected`. `help` is the number of a
+     * help, from 1, or 0. */
+    constructor(text, report, code, expected = 0, help = 0) {
         this.code = code;
         this.text = text;
         this.index = null;
@@ -21,7 +21,7 @@ export class Fault {
             end: (expected & 8) !== 0,
         };
         this.help = HELPS[help - 1] ?? null;
-        this.suggestion = UNITS[unit - 1]?.replace("µ", "u") ?? null;
+        this.suggestion = null;
         this.mended = null;
         this.message = report.slice(report.lastIndexOf("\n") + 1);
         this.#report = report;

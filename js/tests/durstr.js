@@ -29,7 +29,7 @@ function answer(line) {
 function lineAndHelp({ message, help, suggestion, mended }) {
     if (help === null) return message;
     const told = `${message}\t${HELPS.indexOf(help) + 1}`;
-    return mended === null ? told : `${told} ${suggestion} ${mended}`;
+    return mended === null ? told : `${told} <${suggestion}> ${mended}`;
 }
 
 function rounded(line) {

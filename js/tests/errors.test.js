@@ -174,11 +174,11 @@ test("is shown without a long text where nobody catches it", () => {
 });
 
 test("survives a structured clone and JSON, with all that is wrong", () => {
-    const error = errorOf("5 mins");
-    const { fault } = tryParseNs("5 mins");
+    const error = errorOf("2h 1.5min");
+    const { fault } = tryParseNs("2h 1.5min");
     const { message, ...cause } = fault;
-    assert.deepEqual([cause.help, cause.suggestion], ["DID_YOU_MEAN", "min"]);
-    assert.equal(cause.mended, "5 min");
+    assert.deepEqual([cause.help, cause.suggestion], ["FRACTION", "90s"]);
+    assert.equal(cause.mended, "2h 90s");
     const clone = structuredClone(error);
     assert.deepEqual(
         [clone.message, clone.cause, structuredClone(fault)],
@@ -193,7 +193,7 @@ test("survives a structured clone and JSON, with all that is wrong", () => {
 
 test("is told without an error by tryParse", () => {
     assert.deepEqual(tryParseNs("1h 30m"), { ok: true, value: 5_400_000_000_000n });
-    for (const text of ["", "1m 3-5", "5 mins", "600y", "\ud800"]) {
+    for (const text of ["", "1m 3-5", "5 mins", "+5m", "600y", "\ud800"]) {
         const { ok, fault } = tryParseNs(text);
         const error = errorOf(text);
         const { code, index, place, found, expected, help, message, report } = error;

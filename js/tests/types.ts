@@ -2,7 +2,7 @@
 import {
     type Breakdown, breakdown, DurationError, type Expected, type Fault, formatNs, format,
     type Format, type Help, type Options, parseNs, parse, type Part, type PartFormat, type Parts,
-    parts, pattern, type PrintedUnit, type Refusal, type Suggestion, tryParseNs, tryParse,
+    parts, pattern, type PrintedUnit, type Refusal, tryParseNs, tryParse,
     type Unit, version,
 } from "duration-str";
 
@@ -72,22 +72,21 @@ try {
         cause.mended,
     ];
     const help: Help | null = error.help;
-    const suggestion: Suggestion | null = cause.suggestion;
-    // A suggestion is a name that is read.
-    if (suggestion) parse("1", { defaultUnit: suggestion });
+    const suggestion: string | null = cause.suggestion;
+    if (error.mended !== null) parse(error.mended);
     // @ts-expect-error: it is null if no help applies
     const always: Help = error.help;
     // @ts-expect-error: there is no such help
     if (error.help === "HOURS") throw error;
-    // @ts-expect-error: a suggestion is written in ASCII
-    if (suggestion === "µs") throw error;
+    // @ts-expect-error: it is null if nothing is certain
+    const written: string = error.suggestion;
     // @ts-expect-error: without a place it is null
     const index: number = error.index;
     // @ts-expect-error: there is no such code
     if (error.code === "READ") throw error;
     // @ts-expect-error: the field is read-only
     error.report = "";
-    void [places, any, texts, help, always, index];
+    void [places, any, texts, help, suggestion, always, written, index];
 }
 
 // @ts-expect-error: a number is read only with a default unit

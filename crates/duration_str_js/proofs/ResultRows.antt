@@ -15,6 +15,7 @@ use Rattle.duration_str.specs.declared.format.Units.{Units}
 use Rattle.duration_str_js.specs.Printing.{IsCounted, units_among, with_counts}
 use Rattle.duration_str_js.specs.Reading.{IsReported, rules_of_bits}
 use Rattle.duration_str_js.specs.declared.reading.Refusal.{Refusal}
+use Rattle.std.specs.Fmt.{digits}
 use lib.Utf8.{encode}
 
 abbrev after_number : Expected
@@ -30,13 +31,50 @@ one_cause cause refused =
     ((answer_refused (rules_of_bits 0) (chars (codes "5 mins")) mins).0 refl)
 
 pub what_is_said_of_mins : (refusal : Refusal) (report : List ℕ) → IsReported 0 (codes "5 mins") refusal report
-    → refusal ≡ record { place = pos 2; found_length = 4; cause = 2; expected = 14; help = 1; unit = 7; word_length = 4 }
+    → refusal ≡ record {
+      count = 0;
+      place = pos 2;
+      found_length = 4;
+      cause = 2;
+      expected = 14;
+      help = 1;
+      start = pos 2;
+      length = 4;
+      has_count = 0;
+      unit = 7;
+    }
 unfolding chars encode
 what_is_said_of_mins refusal report (cause, refused, same, is) = rw (one_cause cause refused) at same
 
 pub report_of_mins : (refusal : Refusal) (report : List ℕ) → IsReported 0 (codes "5 mins") refusal report
-    → report ≡ report_of (codes "5 mins") mins
+    → report ≡ report_of (rules_of_bits 0) (codes "5 mins") mins
 report_of_mins refusal report (cause, refused, same, is) = rw (one_cause cause refused) at is
+
+-- The default unit is the millisecond, and `+` and `*` are not read.
+abbrev in_millis : ℕ
+in_millis = 0x90001
+
+abbrev fraction : Cause
+fraction = Syntax 1 (record { number = false; unit_word = true; operator = false; text_end = true })
+
+pub what_is_said_of_a_fraction : (refusal : Refusal) (report : List ℕ) → IsReported in_millis (codes "1.5") refusal report
+    → refusal ≡ record {
+      count = 1500;
+      place = pos 1;
+      found_length = 1;
+      cause = 2;
+      expected = 10;
+      help = 3;
+      start = pos 0;
+      length = 3;
+      has_count = 1;
+      unit = 10;
+    }
+unfolding chars encode digits
+what_is_said_of_a_fraction refusal report (cause, refused, same, is) =
+    let one = one_reading_holds.one_cause (rules_of_bits in_millis) (chars (codes "1.5")) cause fraction refused
+    ((answer_refused (rules_of_bits in_millis) (chars (codes "1.5")) fraction).0 refl) in
+    rw one at same
 
 module _ (old new : List ℕ) (rest : ℕ) (set : Units) (is : IsCounted None whole_format 1_500_000_000 old new rest set) where
   pub parts_are_those_of_the_format : ArePartsRounded None whole_format 1_500_000_000 is.shown is.parts

@@ -1,10 +1,10 @@
 -- Examples that are computed, such as the rules that bits stand for, and the counts of parts.
-use Rattle.std.proofs.Common.{◌≡◌, ◌∷◌, [], false, map, negsuc, None, Some, true}
+use Rattle.std.proofs.Common.{◌≡◌, ◌∷◌, [], false, map, negsuc, None, Option, Some, true}
 use Rattle.duration_str.specs.Options.{off}
 use Rattle.duration_str.specs.declared.cause.Cause.TheVariants.{Empty, Mixed, NotText, NumberTooLarge, OutOfRange, Overflow, Syntax}
 use Rattle.duration_str.specs.declared.cause.Expected.{Expected}
 use Rattle.duration_str.specs.declared.format.Style.TheVariants.{Compact, Long, Short}
-use Rattle.duration_str.specs.declared.help.Help.TheVariants.{DidYouMean, Negative}
+use Rattle.duration_str.specs.declared.mended.Suggestion.{Suggestion}
 use Rattle.duration_str.specs.declared.operator.CondUnit.TheVariants.{Plus, Star}
 use Rattle.duration_str.specs.declared.format.TheConstants.Units.{ALL}
 use Rattle.duration_str.specs.declared.rounding.Rounding.TheVariants.{Down, Nearest, Up}
@@ -13,7 +13,7 @@ use Rattle.duration_str.specs.Format.{set_of}
 use Rattle.duration_str.specs.MoreNames.{more_row_of}
 use Rattle.duration_str.specs.Units.{row_of}
 use Rattle.duration_str_js.specs.Printing.{rounding_numbered, style_numbered, units_among, units_of, with_counts}
-use Rattle.duration_str_js.specs.Reading.{bits_of, cause_number, default_unit_of_bits, number_of, options_of_bits, place_number, rules_of_bits, unit_number}
+use Rattle.duration_str_js.specs.Reading.{bits_of, cause_number, count_of, default_unit_of_bits, has_count, length_of, number_of, options_of_bits, place_number, rules_of_bits, start_number, unit_number}
 
 pub record Bits : Type 0 where
   pub names-more : (rules_of_bits 17).table Minute ≡ more_row_of Minute
@@ -35,6 +35,15 @@ number_or_operator = record { number = true; unit_word = false; operator = true;
 abbrev unit_or_end : Expected
 unit_or_end = record { number = false; unit_word = true; operator = false; text_end = true }
 
+abbrev zero_hours : Option Suggestion
+zero_hours = Some (record { count = Some 0; unit = Some Hour })
+
+abbrev nanosecond : Option Suggestion
+nanosecond = Some (record { count = None; unit = Some NanoSecond })
+
+abbrev nothing : Option Suggestion
+nothing = Some (record { count = None; unit = None })
+
 pub record Refusals : Type 0 where
   pub option-no_calc : options_of_bits 1 ≡ record off { no_calc = true }
   pub option-lowercase : options_of_bits 2 ≡ record off { lowercase = true }
@@ -45,8 +54,12 @@ pub record Refusals : Type 0 where
   pub unit_and_end : bits_of unit_or_end ≡ 10
   pub no_place : place_number None ≡ negsuc 0
   pub help-none : number_of None ≡ 0
-  pub unit-none : unit_number (Some Negative) ≡ 0
-  pub unit-nanosecond : unit_number (Some (DidYouMean NanoSecond)) ≡ 11
+  pub no_start : start_number None ≡ negsuc 0
+  pub no_length : length_of None ≡ 0
+  pub no_suggestion : count_of None ∷ has_count None ∷ unit_number None ∷ [] ≡ 0 ∷ 0 ∷ 0 ∷ []
+  pub zero_hours : count_of zero_hours ∷ has_count zero_hours ∷ unit_number zero_hours ∷ [] ≡ 0 ∷ 1 ∷ 6 ∷ []
+  pub nanosecond_alone : count_of nanosecond ∷ has_count nanosecond ∷ unit_number nanosecond ∷ [] ≡ 0 ∷ 0 ∷ 11 ∷ []
+  pub removed : count_of nothing ∷ has_count nothing ∷ unit_number nothing ∷ [] ≡ 0 ∷ 0 ∷ 0 ∷ []
 
 pub refusals : Refusals
 refusals = assumption

@@ -1,18 +1,18 @@
 -- How a text is read by the rules that bits stand for, and what is said of a refused one.
-use Rattle.std.specs.Prelude.{◌≡◌, ℕ, ◌+◌, ◌-◌, ◌/◌, ◌^◌, ◌==◌, Bool, not, List, length, slice_get, ℤ, pos, negsuc, Option, Some, None, if◌then◌else◌}
+use Rattle.std.specs.Prelude.{◌≡◌, ℕ, ◌+◌, ◌-◌, ◌/◌, ◌^◌, ◌==◌, Bool, not, List, length, slice_get, ℤ, pos, negsuc, Option, Some, None, if◌then◌else◌, is_some, unwrap_or}
 use Rattle.std.specs.Int.Bits.{bit_and}
 use Rattle.std.specs.Str.{chars}
 use Rattle.duration_str.specs.declared.cause.Cause.{Cause}
 use Rattle.duration_str.specs.declared.cause.Cause.TheVariants.{Empty, Syntax, NumberTooLarge, Overflow, Mixed, OutOfRange, NotText}
 use Rattle.duration_str.specs.declared.cause.Expected.{Expected}
 use Rattle.duration_str.specs.declared.help.Help.{Help}
-use Rattle.duration_str.specs.declared.help.Help.TheVariants.{DidYouMean}
+use Rattle.duration_str.specs.declared.mended.Suggestion.{Suggestion}
 use Rattle.duration_str.specs.declared.options.Options.{Options}
 use Rattle.duration_str.specs.declared.unit.TimeUnit.{TimeUnit}
 use Rattle.duration_str.specs.declared.unit.TimeUnit.TheVariants.{Second}
 use Rattle.duration_str.specs.Faults.{found_token, place_of}
 use Rattle.duration_str.specs.MoreNames.{more_rules}
-use Rattle.duration_str.specs.OneLine.{help_number, help_of, mended_of, Pieces}
+use Rattle.duration_str.specs.OneLine.{help_number, help_of, mended_of, Pieces, suggestion_of}
 use Rattle.duration_str.specs.Reading.{IsRefused}
 use Rattle.duration_str.specs.Report.{report_of}
 use Rattle.duration_str.specs.Rules.{Rules, rules_with}
@@ -75,30 +75,55 @@ abbrev pub number_of : Option Help → ℕ
 number_of (Some help) = help_number help
 number_of None = 0
 
--- the index, plus 1, of the unit that a help says to write, or 0 if it names none
-abbrev pub unit_number : Option Help → ℕ
-unit_number (Some (DidYouMean unit)) = rank_of unit + 1
-unit_number help = 0
+-- the count that a suggestion says to write, or 0 if there is none
+abbrev pub count_of : Option Suggestion → ℕ
+count_of (Some suggestion) = unwrap_or suggestion.count 0
+count_of None = 0
 
--- how many bytes the word has in whose place a name is to be written, or 0 if there is no such word
-abbrev pub length_of_word : Option Pieces → ℕ
-length_of_word (Some mended) = length mended.word
-length_of_word None = 0
+-- 1 if a suggestion says to write a count, otherwise 0
+abbrev pub has_count : Option Suggestion → ℕ
+has_count (Some suggestion) = if is_some suggestion.count then 1 else 0
+has_count None = 0
 
--- what is said of these bytes if they are refused for this cause
-abbrev pub refusal_of : Options → List ℕ → Cause → Refusal
-refusal_of o bytes cause = record {
+-- the index of a unit, plus 1, or 0 if there is none
+abbrev pub rank_number : Option TimeUnit → ℕ
+rank_number (Some unit) = rank_of unit + 1
+rank_number None = 0
+
+-- the number of the unit that a suggestion says to write, or 0 if there is none
+abbrev pub unit_number : Option Suggestion → ℕ
+unit_number (Some suggestion) = rank_number suggestion.unit
+unit_number None = 0
+
+-- the byte at which the part begins that is replaced, or -1 if there is no mend
+abbrev pub start_number : Option Pieces → ℤ
+start_number (Some mended) = pos (length mended.front)
+start_number None = negsuc 0
+
+-- how many bytes the part has that is replaced, or 0 if there is no mend
+abbrev pub length_of : Option Pieces → ℕ
+length_of (Some mended) = length mended.replaced
+length_of None = 0
+
+-- what is said of these bytes if they are refused by these rules, which have these options, for
+-- this cause
+abbrev pub refusal_of : Rules → Options → List ℕ → Cause → Refusal
+refusal_of r o bytes cause = record {
+  count = count_of (suggestion_of r bytes cause);
   place = place_number (place_of cause);
   found_length = token_length (found_token o (chars bytes) cause);
   cause = cause_number cause;
   expected = expected_bits cause;
   help = number_of (help_of bytes cause);
-  unit = unit_number (help_of bytes cause);
-  word_length = length_of_word (mended_of bytes cause);
+  start = start_number (mended_of r bytes cause);
+  length = length_of (mended_of r bytes cause);
+  has_count = has_count (suggestion_of r bytes cause);
+  unit = unit_number (suggestion_of r bytes cause);
 }
 
 -- The bytes are refused, and these are what is said of the cause, and the report.
 abbrev pub IsReported : ℕ → List ℕ → Refusal → List ℕ → Type 0
 IsReported bits bytes refusal report =
-    (cause : Cause) × IsRefused (rules_of_bits bits) (chars bytes) cause
-    × (refusal ≡ refusal_of (options_of_bits bits) bytes cause) × (report ≡ report_of bytes cause)
+    let r = rules_of_bits bits in
+    (cause : Cause) × IsRefused r (chars bytes) cause
+    × (refusal ≡ refusal_of r (options_of_bits bits) bytes cause) × (report ≡ report_of r bytes cause)

@@ -4,11 +4,11 @@ ghost use Rattle.std.specs.Str.{chars};
 ghost use Rattle.duration_str.specs.Faults.{found_token, place_of};
 ghost use Rattle.duration_str.specs.Meaning.{meaning_of};
 ghost use Rattle.duration_str.specs.Reading.{IsRead};
-ghost use Rattle.duration_str_js.specs.Reading.{IsReported, bits_of, cause_number, default_unit_of_bits, expected_bits, number_of, options_of_bits, place_number, refusal_of, rules_of_bits, token_length, unit_number, length_of_word};
-ghost use Rattle.duration_str.specs.OneLine.{mended_of};
+ghost use Rattle.duration_str.specs.OneLine.{mended_of, suggestion_of};
+ghost use Rattle.duration_str_js.specs.Reading.{IsReported, bits_of, cause_number, count_of, default_unit_of_bits, expected_bits, has_count, length_of, number_of, options_of_bits, place_number, refusal_of, rules_of_bits, start_number, token_length, unit_number};
 
 use duration_str::{
-    Cause, Expected, Fault, Help, Options, REPORT_BUFFER_SIZE, Rules, TimeUnit, UNITS,
+    Cause, Expected, Fault, Help, Options, REPORT_BUFFER_SIZE, Rules, Suggestion, TimeUnit, UNITS,
     parse_nanos_specialized,
 };
 
@@ -39,10 +39,12 @@ const OUT_OF_RANGE: u32 = 6;
 
 const NOT_TEXT: u32 = 7;
 
-/// Why a text is refused.
+/// Why a text is refused, and what to write in place of a part of it, if that is certain.
 #[repr(C)]
 #[derive(Clone, Copy)]
 pub struct Refusal {
+    /// The count to write, or 0 if there is none.
+    pub count: u64,
     /// The byte offset of the fault, or -1 if the fault has no place.
     pub place: isize,
     /// The length in bytes of the token at the place of a syntax fault. It is 0 at the end of the
@@ -55,11 +57,14 @@ pub struct Refusal {
     pub expected: u32,
     /// The number of the help, as `Help::number` gives it, or 0 if there is none.
     pub help: u32,
-    /// The index in `UNITS` of the unit that the help names, plus 1, or 0 if it names none.
+    /// The byte offset of the part to replace, or -1 if it isn't certain what to write.
+    pub start: isize,
+    /// The length in bytes of the part to replace. It is 0 if there is no such part.
+    pub length: usize,
+    /// 1 if a count is to be written, otherwise 0.
+    pub has_count: u32,
+    /// The index in `UNITS` of the unit whose name is to be written, plus 1, or 0 if there is none.
     pub unit: u32,
-    /// The length in bytes of the word at the place that the unit's name replaces, or 0 if the help
-    /// names none.
-    pub word_length: usize,
 }
 
 /// Reads a text by the rules that the bits stand for, and returns its value in nanoseconds.
@@ -78,11 +83,12 @@ pub fn read<'b>(
     ensures refused { IfErr result (λ report.
         IsReported bits text.now refusal.new report.now) }
 {
-    match parse_nanos_specialized(text, rules_of_bits(bits)) {
+    let rules = rules_of_bits(bits);
+    match parse_nanos_specialized(text, rules) {
         Ok(nanos) => Ok(nanos),
         Err(fault) => {
-            *refusal = refusal_of(&fault, options_of_bits(bits));
-            Err(fault.write_report(buffer))
+            *refusal = refusal_of(&fault, rules, options_of_bits(bits));
+            Err(fault.write_report(rules, buffer))
         }
     }
 }
@@ -121,19 +127,23 @@ fn default_unit_of_bits(bits: u32) -> Option<TimeUnit>
     UNITS.get(number as usize - 1).copied()
 }
 
-fn refusal_of(fault: &Fault<'_>, options: Options) -> Refusal
-    ensures { result ≡ refusal_of options fault.now.text.now fault.now.cause }
+fn refusal_of(fault: &Fault<'_>, rules: Rules, options: Options) -> Refusal
+    ensures { result
+        ≡ refusal_of (meaning_of rules) options fault.now.text.now fault.now.cause }
 {
     let cause = fault.cause();
-    let help = fault.help();
+    let mend = mend_of(fault, rules);
     Refusal {
+        count: count_of(mend.suggestion),
         place: place_number(fault),
         found_length: found_length(fault, options),
         cause: cause_number(cause),
         expected: expected_bits(cause),
-        help: number_of(help),
-        unit: unit_number(help),
-        word_length: word_length(fault),
+        help: number_of(fault.help()),
+        start: mend.start,
+        length: mend.length,
+        has_count: has_count(mend.suggestion),
+        unit: unit_number(mend.suggestion),
     }
 }
 
@@ -158,13 +168,65 @@ fn found_length(fault: &Fault<'_>, options: Options) -> usize
     }
 }
 
-fn word_length(fault: &Fault<'_>) -> usize
-    ensures { result ≡ length_of_word (mended_of fault.now.text.now fault.now.cause) }
+/// The part of a refused text to replace, and what to write instead.
+#[derive(Clone, Copy)]
+struct Mend {
+    start: isize,
+    length: usize,
+    suggestion: Option<Suggestion>,
+}
+
+fn mend_of(fault: &Fault<'_>, rules: Rules) -> Mend
+    ensures start { result.start
+        ≡ start_number (mended_of (meaning_of rules) fault.now.text.now fault.now.cause) }
+    ensures length { result.length
+        ≡ length_of (mended_of (meaning_of rules) fault.now.text.now fault.now.cause) }
+    ensures suggestion { result.suggestion
+        ≡ suggestion_of (meaning_of rules) fault.now.text.now fault.now.cause }
 {
-    let Some(mended) = fault.mended() else {
+    match fault.mended(rules) {
+        Some(mended) => Mend {
+            // No length exceeds `isize::MAX`.
+            start: mended.front.len() as isize,
+            length: mended.replaced.len(),
+            suggestion: Some(mended.suggestion),
+        },
+        None => Mend {
+            start: -1,
+            length: 0,
+            suggestion: None,
+        },
+    }
+}
+
+fn count_of(suggestion: Option<Suggestion>) -> u64
+    ensures { result ≡ count_of suggestion }
+{
+    match suggestion {
+        Some(suggestion) => suggestion.count.unwrap_or(0),
+        None => 0,
+    }
+}
+
+fn has_count(suggestion: Option<Suggestion>) -> u32
+    ensures { result ≡ has_count suggestion }
+{
+    match suggestion {
+        Some(suggestion) => u32::from(suggestion.count.is_some()),
+        None => 0,
+    }
+}
+
+fn unit_number(suggestion: Option<Suggestion>) -> u32
+    ensures { result ≡ unit_number suggestion }
+{
+    let Some(suggestion) = suggestion else {
         return 0;
     };
-    mended.word.len()
+    match suggestion.unit {
+        Some(unit) => unit as u32 + 1,
+        None => 0,
+    }
 }
 
 fn cause_number(cause: Cause) -> u32
@@ -205,14 +267,5 @@ fn number_of(help: Option<Help>) -> u32
     match help {
         Some(help) => help.number(),
         None => 0,
-    }
-}
-
-fn unit_number(help: Option<Help>) -> u32
-    ensures { result ≡ unit_number help }
-{
-    match help {
-        Some(Help::DidYouMean(unit)) => unit as u32 + 1,
-        Some(_) | None => 0,
     }
 }

@@ -1,4 +1,4 @@
-use Rattle.std.proofs.Common.{rules, arith, ◌≡◌, ◌≤◌, ◌<◌, ◌^◌, length, Some, FitsSigned, w64, pos}
+use Rattle.std.proofs.Common.{rules, arith, ◌≡◌, ◌≤◌, ◌<◌, ◌^◌, length, Some}
 use Rattle.std.proofs.lemmas.Grind.{common_steps}
 use Rattle.duration_str.specs.Faults.{place_of}
 use Rattle.duration_str_js.proofs.reading.place_number.Goals as goal
