@@ -6,7 +6,7 @@ use crate::fault::Fault;
 use crate::parser::{FEATURES, chrono_of, parse_with};
 use alloc::string::String;
 use chrono::{NaiveDate, NaiveDateTime, Utc};
-use duration_str_core::{Cause, Options};
+use duration_str_core::{Cause, Options, Rules};
 
 /// Adds the value of a text to the given moment, and returns the sum. A [`NaiveDateTime`] has no
 /// time zone.
@@ -33,7 +33,7 @@ pub fn moment_after(
     let length = chrono_of(parse_with(input, options)?);
     moment
         .checked_add_signed(length)
-        .ok_or(Fault::of(input, Cause::OutOfRange, options))
+        .ok_or(Fault::of(input, Cause::OutOfRange, Rules::of(options)))
 }
 
 /// Subtracts the value of a text from the given moment, and returns the difference.
@@ -60,7 +60,7 @@ pub fn moment_before(
     let length = chrono_of(parse_with(input, options)?);
     moment
         .checked_sub_signed(length)
-        .ok_or(Fault::of(input, Cause::OutOfRange, options))
+        .ok_or(Fault::of(input, Cause::OutOfRange, Rules::of(options)))
 }
 
 /// Adds the value of a text to the present moment, and returns the sum, a moment in UTC.

@@ -35,7 +35,7 @@ use duration_str_core::{self as proved, Options, Rules, TimeUnit};
 pub fn parse_by(input: &str, rules: Rules) -> Result<Duration, Fault<'_>> {
     match proved::parse_by(input, rules) {
         Ok(duration) => Ok(duration),
-        Err(fault) => Err(Fault::new(fault, rules.options)),
+        Err(fault) => Err(Fault::new(fault, rules)),
     }
 }
 

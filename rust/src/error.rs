@@ -1,7 +1,7 @@
 use crate::fault::Fault;
 use alloc::string::{String, ToString};
 use core::fmt;
-use duration_str_core::{Cause, Expected, Help, Mended, Options};
+use duration_str_core::{Cause, Expected, Help, Mended, Rules};
 
 /// A [`Fault`] that owns its text. Calls such as [`parse_duration`](crate::parse_duration) return
 /// this error.
@@ -20,15 +20,15 @@ use duration_str_core::{Cause, Expected, Help, Mended, Options};
 pub struct DurationError {
     text: String,
     cause: Cause,
-    options: Options,
+    rules: Rules,
 }
 
 impl DurationError {
-    pub(crate) fn new(text: &str, cause: Cause, options: Options) -> DurationError {
+    pub(crate) fn new(text: &str, cause: Cause, rules: Rules) -> DurationError {
         DurationError {
             text: text.to_string(),
             cause,
-            options,
+            rules,
         }
     }
 
@@ -42,7 +42,7 @@ impl DurationError {
     /// ```
     #[must_use]
     pub fn as_fault(&self) -> Fault<'_> {
-        Fault::of(&self.text, self.cause, self.options)
+        Fault::of(&self.text, self.cause, self.rules)
     }
 
     /// Returns the whole refused text.
@@ -113,11 +113,12 @@ impl DurationError {
         self.as_fault().help()
     }
 
-    /// Returns the text with the name that the help suggests, as [`Fault::mended`] does.
+    /// Returns the text with something else in place of the part that is wrong, as
+    /// [`Fault::mended`] does.
     ///
     /// ```
-    /// let error = duration_str::parse_duration("5 mins").unwrap_err();
-    /// assert_eq!(error.mended().unwrap().to_string(), "5 min");
+    /// let error = duration_str::parse_duration("1.5h").unwrap_err();
+    /// assert_eq!(error.mended().unwrap().to_string(), "90min");
     /// ```
     #[must_use]
     pub fn mended(&self) -> Option<Mended<'_>> {

@@ -3,7 +3,7 @@ use crate::error::DurationError;
 use alloc::string::{String, ToString};
 use core::fmt;
 use duration_str_core::{
-    self as proved, Cause, Expected, Help, Mended, ONE_LINE_BUFFER_SIZE, Options,
+    self as proved, Cause, Expected, Help, Mended, ONE_LINE_BUFFER_SIZE, Rules,
 };
 
 /// Why a text is refused, and often where.
@@ -28,19 +28,20 @@ use duration_str_core::{
 #[derive(Clone, Copy, PartialEq, Eq, Hash)]
 pub struct Fault<'a> {
     fault: proved::Fault<'a>,
-    options: Options,
+    /// The rules by which the text was read.
+    rules: Rules,
 }
 
 impl<'a> Fault<'a> {
     #[inline]
-    pub(crate) fn new(fault: proved::Fault<'a>, options: Options) -> Fault<'a> {
-        Fault { fault, options }
+    pub(crate) fn new(fault: proved::Fault<'a>, rules: Rules) -> Fault<'a> {
+        Fault { fault, rules }
     }
 
     /// If the cause has a place, it must be a character boundary in the text.
-    pub(crate) fn of(text: &'a str, cause: Cause, options: Options) -> Fault<'a> {
+    pub(crate) fn of(text: &'a str, cause: Cause, rules: Rules) -> Fault<'a> {
         let fault = proved::Fault::new(text, cause).expect("the place is one of this text");
-        Fault::new(fault, options)
+        Fault::new(fault, rules)
     }
 
     /// Returns the whole refused text.
@@ -106,43 +107,47 @@ impl<'a> Fault<'a> {
     #[inline]
     #[must_use]
     pub fn found(&self) -> Option<&'a str> {
-        self.fault.found(self.options)
+        self.fault.found(self.rules.options)
     }
 
     /// Returns the help for the fault: what a user may have meant, or should write instead. It is
     /// `None` if no help applies. The line ends with the help in words.
     ///
-    /// If the help suggests a name, [`mended`](Self::mended) has the text with that name.
+    /// If it is certain what to write instead, [`mended`](Self::mended) says it.
     ///
     /// ```
     /// use duration_str::{Help, Options, TimeUnit, parse_with};
     ///
-    /// let help = parse_with("5 mins", Options::off()).unwrap_err().help();
-    /// assert_eq!(help, Some(Help::DidYouMean(TimeUnit::Minute)));
-    /// assert_eq!(help.and_then(Help::suggestion), Some("min"));
+    /// let help = |text| parse_with(text, Options::off()).unwrap_err().help();
+    /// assert_eq!(help("5 mins"), Some(Help::DidYouMean(TimeUnit::Minute)));
+    /// assert_eq!(help("1.5h"), Some(Help::Fraction));
     /// ```
     #[must_use]
     pub fn help(&self) -> Option<Help> {
         self.fault.help()
     }
 
-    /// Returns the text with the name that the help suggests in place of the word that is no unit.
-    /// It is `None` if the help suggests none.
+    /// Returns the text with something else in place of the part that is wrong, if it is certain
+    /// what to write. Otherwise it returns `None`.
     ///
     /// The mended text displays as a whole, and its fields are the pieces. If it is refused for a
-    /// syntax fault by the same rules, that is not before the end of the name.
+    /// syntax fault by the same rules, that is not before the end of what was written.
+    /// `docs/GRAMMAR.md` in the repository says which texts have a mended text.
     ///
     /// ```
     /// use duration_str::{Options, parse_with};
     ///
     /// let mended = |text| parse_with(text, Options::off()).unwrap_err().mended();
-    /// let one = mended("2h 5 mins").unwrap();
-    /// assert_eq!((one.to_string(), one.word, one.name), ("2h 5 min".to_string(), "mins", "min"));
-    /// assert_eq!(mended("5 foo"), None);
+    /// let one = mended("2h 1.5min 5s").unwrap();
+    /// assert_eq!(one.to_string(), "2h 90s 5s");
+    /// assert_eq!((one.front, one.replaced, one.rest), ("2h ", "1.5min", " 5s"));
+    /// assert_eq!(one.suggestion.to_string(), "90s");
+    /// assert_eq!(mended("5 mins").unwrap().to_string(), "5 min");
+    /// assert_eq!(mended("1:30"), None);
     /// ```
     #[must_use]
     pub fn mended(&self) -> Option<Mended<'a>> {
-        self.fault.mended()
+        self.fault.mended(self.rules)
     }
 
     /// Writes the line to the start of a buffer, and returns it. The call allocates nothing.
@@ -156,7 +161,7 @@ impl<'a> Fault<'a> {
     /// ```
     #[must_use]
     pub fn write_one_line<'b>(&self, buffer: &'b mut [u8; ONE_LINE_BUFFER_SIZE]) -> &'b str {
-        self.fault.write_one_line(buffer)
+        self.fault.write_one_line(self.rules, buffer)
     }
 
     /// Returns the report for a terminal: the text, below it a caret at the place of a syntax
@@ -174,7 +179,7 @@ impl<'a> Fault<'a> {
     #[must_use]
     pub fn report(&self) -> String {
         self.fault
-            .write_report(&mut [0; duration_str_core::REPORT_BUFFER_SIZE])
+            .write_report(self.rules, &mut [0; duration_str_core::REPORT_BUFFER_SIZE])
             .to_string()
     }
 
@@ -217,7 +222,7 @@ impl<'a> Fault<'a> {
     #[inline(never)]
     #[must_use]
     pub fn into_owned(self) -> DurationError {
-        DurationError::new(self.text(), self.cause(), self.options)
+        DurationError::new(self.text(), self.cause(), self.rules)
     }
 }
 

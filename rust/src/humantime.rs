@@ -84,7 +84,7 @@ pub(crate) fn read(text: &str) -> Result<StdDuration, Fault<'_>> {
 fn read_other(text: &str) -> Result<StdDuration, Fault<'_>> {
     match read_with(text, false) {
         Ok(nanos) => Ok(StdDuration::from_nanos(nanos)),
-        Err(fault) => Err(Fault::new(fault, CASE_SENSITIVE)),
+        Err(fault) => Err(Fault::new(fault, Rules::humantime(CASE_SENSITIVE))),
     }
 }
 

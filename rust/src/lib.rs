@@ -105,17 +105,19 @@
 //! assert_eq!(fault.report(), format!("1m 3-5\n    ^\n{line}"));
 //! ```
 //!
-//! The line often ends with [`Help`], in parentheses. `help` returns it as a value, and `mended`
-//! the text with the name that it suggests, if it does. So a program can say everything in its own
-//! words, or in another language, and need not look into the line:
+//! The line often ends with [`Help`], in parentheses. `help` returns it as a value. If it is certain
+//! what to write instead, `mended` returns the text with that. So a program can say everything in
+//! its own words, or in another language, and need not look into the line:
 //!
 //! ```
 //! use duration_str::{Help, parse_duration};
 //!
-//! let refusal = parse_duration("5 mins").unwrap_err();
-//! assert_eq!(refusal.help().and_then(Help::suggestion), Some("min"));
-//! assert_eq!(refusal.mended().unwrap().to_string(), "5 min");
-//! assert_eq!(parse_duration("1:30").unwrap_err().help(), Some(Help::ClockTime));
+//! let refusal = parse_duration("2h 1.5min").unwrap_err();
+//! assert_eq!(refusal.help(), Some(Help::Fraction));
+//! let mended = refusal.mended().unwrap();
+//! assert_eq!(mended.suggestion.to_string(), "90s");
+//! assert_eq!(mended.to_string(), "2h 90s");
+//! assert_eq!(parse_duration("1:30").unwrap_err().mended(), None);
 //! ```
 //!
 //! # What a text means
@@ -226,8 +228,9 @@ pub use derror::{DError, DResult};
 #[doc(inline)]
 pub use duration_str_core::{
     Breakdown, Cause, CondUnit, Expected, FORMAT_BUFFER_SIZE, Format, HUMAN_BUFFER_SIZE, Help,
-    Mended, ONE_LINE_BUFFER_SIZE, Options, Rounding, Rules, Style, TimeUnit, Units, UnknownStyle,
-    UnknownUnit, write_format, write_human, write_rounded,
+    Mended, ONE_LINE_BUFFER_SIZE, Options, Rounding, Rules, SUGGESTION_BUFFER_SIZE, Style,
+    Suggestion, TimeUnit, Units, UnknownStyle, UnknownUnit, write_format, write_human,
+    write_rounded,
 };
 // `MAX_LONG_LEN`, `MAX_PRINTED_LEN`, `UNITS` and `round_to`, below, are hidden, since programs that
 // use this crate don't need them. Examples in the core's documentation take some of them from here.

@@ -34,7 +34,10 @@ fn line_and_help(fault: Fault<'_>) -> String {
         return fault.to_string();
     };
     match fault.mended() {
-        Some(mended) => format!("{fault}\t{} {} {mended}", help.number(), mended.name),
+        Some(mended) => {
+            let number = help.number();
+            format!("{fault}\t{number} <{}> {mended}", mended.suggestion)
+        }
         None => format!("{fault}\t{}", help.number()),
     }
 }

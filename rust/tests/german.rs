@@ -24,10 +24,10 @@ fn problem(fault: &Fault<'_>) -> String {
     }
 }
 
-fn words(help: Help) -> String {
+fn words(help: Help) -> Option<&'static str> {
     let words = match help {
         Help::Units => "Einheiten: y, q, mon, w, d, h, min, s, ms, us, ns",
-        Help::Fraction => "Zahlen haben nur Ziffern: 1500ms statt 1.5s",
+        Help::Fraction => "Zahlen haben nur Ziffern",
         Help::DigitsOnly => "Zahlen haben nur Ziffern",
         Help::ClockTime => "keine Uhrzeiten: 1h 30m oder 1m 30s",
         Help::Negative => "keine negativen Dauern",
@@ -41,20 +41,19 @@ fn words(help: Help) -> String {
         Help::MissingUnit => "mit Einheit: y, q, mon, w, d, h, min, s, ms, us, ns",
         Help::Zero => "besser 0s",
         Help::LargeNumber => "mit Einheit, etwa ns",
-        _ => "", // A later version can have more.
+        _ => return None, // A later version can have more.
     };
-    format!(" ({words})")
+    Some(words)
 }
 
 fn main() {
     for text in std::env::args().skip(1) {
         if let Err(fault) = parse_with(&text, Options::off()) {
-            let mended = fault
-                .mended()
-                .map(|it| it.to_string().escape_debug().to_string());
-            let offer = mended.map(|mended| format!(" (besser „{mended}“)"));
-            let help = offer.or(fault.help().map(words)).unwrap_or_default();
-            println!("{}{help}", problem(&fault));
+            let mended = fault.mended().map(|mended| mended.to_string());
+            let offer = mended.map(|mended| format!("besser „{}“", mended.escape_debug()));
+            let advice = offer.or(fault.help().and_then(words).map(str::to_string));
+            let end = advice.map_or(String::new(), |advice| format!(" ({advice})"));
+            println!("{}{end}", problem(&fault));
         }
     }
 }

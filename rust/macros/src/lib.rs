@@ -51,9 +51,10 @@ fn value(input: TokenStream) -> Result<TokenStream, Refusal> {
     })?;
     let (options, require_unit) = options(tokens)?;
     let default_unit = (!require_unit).then_some(TimeUnit::Second);
+    let rules = Rules::of(options).default_unit(default_unit);
     let mut buffer = [0; ONE_LINE_BUFFER_SIZE];
-    let value = parse_by(text, Rules::of(options).default_unit(default_unit))
-        .map_err(|fault| (fault.write_one_line(&mut buffer).to_string(), span))?;
+    let value = parse_by(text, rules)
+        .map_err(|fault| (fault.write_one_line(rules, &mut buffer).to_string(), span))?;
     let (secs, nanos) = (value.as_secs(), value.subsec_nanos());
     Ok(code(&format!(
         "::core::time::Duration::new({secs}, {nanos})"

@@ -1,5 +1,5 @@
 use crate::{choices, options_of};
-use duration_str::{Cause, DError, DurationError, Options, TimeUnit, parse_with};
+use duration_str::{Cause, DError, DurationError, Options, Rules, TimeUnit, parse_with};
 use duration_str_core::{self as proved, Tokens};
 use std::collections::HashSet;
 
@@ -25,7 +25,8 @@ fn owns_what_the_fault_tells() {
             assert_eq!(owned.place(), fault.place());
             assert_eq!(format!("{owned:#}"), fault.to_string());
             let bare = proved::Fault::new(text, fault.cause()).unwrap();
-            assert_eq!(owned.to_string(), bare.write_one_line(&mut [0; 384]));
+            let rules = Rules::of(options_of(&names));
+            assert_eq!(owned.to_string(), bare.write_one_line(rules, &mut [0; 384]));
             assert_eq!(DError::from(owned), fault.to_derror());
             assert_eq!(fault.cause().to_string(), fault.cause().line());
         }
