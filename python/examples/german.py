@@ -19,9 +19,8 @@ CAUSES = {
     Cause.NOT_TEXT: "kein UTF-8",
 }
 HELPS = {
-    Help.DID_YOU_MEAN: "besser „MENDED“",
     Help.UNITS: f"Einheiten: {UNITS}",
-    Help.FRACTION: "Zahlen haben nur Ziffern: 1500ms statt 1.5s",
+    Help.FRACTION: "Zahlen haben nur Ziffern",
     Help.DIGITS_ONLY: "Zahlen haben nur Ziffern",
     Help.CLOCK_TIME: "keine Uhrzeiten: 1h 30m oder 1m 30s",
     Help.NEGATIVE: "keine negativen Dauern",
@@ -55,8 +54,7 @@ def problem(error):
 def in_german(error):
     # Later versions may have more helps.
     words = HELPS.get(error.help)
-    if words is None:
-        return problem(error)
-    mended = error.mended or ""
-    better = mended if mended.isprintable() else error.suggestion
-    return f"{problem(error)} ({words.replace('MENDED', better)})"
+    if error.mended is not None:
+        better = error.mended if error.mended.isprintable() else error.suggestion
+        words = f"besser „{better}“"
+    return f"{problem(error)} ({words})" if words else problem(error)

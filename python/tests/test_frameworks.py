@@ -211,7 +211,7 @@ class Models(unittest.TestCase):
         self.assertEqual(adapter.validate_json("6e4"), MINUTE)
         self.assertEqual(adapter.validate_json("1500"), MINUTE / 40)
         for value, line in [
-            ("1.5", r'found "\." \(numbers have digits only: write 1500ms for 1\.5s\)'),
+            ("1.5", r'found "\." \(fractions are not read: write 1500us\)'),
             ("-5", 'at column 1, found "-"'),
             ("18446744073709551616", "number of 2\\^64 or more"),
             ("true", r"valid string or integer \[type=duration_type"),

@@ -107,12 +107,12 @@ struct text {
     size_t length;
 };
 
-/* The help for a refused text: a number of `enum duration_str_help_kind`, and the name of the unit
- * that it suggests, if it does, with the length of the word to replace. */
+/* The help for a refused text: a number of `enum duration_str_help_kind`, and what to write in
+ * place of which part of the text. If that is not certain, the text and the length are empty. */
 struct help {
     uint32_t number;
     char suggestion[DURATION_STR_SUGGESTION_BUFFER_SIZE];
-    size_t word_length;
+    size_t start, replaced_length;
 };
 
 static PyObject *size_or_none(bool is_there, size_t size) {
@@ -124,11 +124,12 @@ static PyObject *size_or_none(bool is_there, size_t size) {
 static void raise_error(struct state *state, PyObject *report, PyObject *text,
     const struct duration_str_answer *answer, const char *bytes, Py_ssize_t index,
     struct help help) {
+    const char *suggestion = *help.suggestion || help.replaced_length ? help.suggestion : NULL;
     const char *found = answer->found_length ? bytes + answer->place : NULL;
-    PyObject *error = PyObject_CallFunction(state->kept[ERROR], "NNINIz#NIsn", report, text,
+    PyObject *error = PyObject_CallFunction(state->kept[ERROR], "NNINIz#NIznn", report, text,
         answer->cause, size_or_none(answer->has_place, answer->place), answer->expected, found,
         (Py_ssize_t)answer->found_length, size_or_none(index >= 0, (size_t)index), help.number,
-        help.suggestion, (Py_ssize_t)help.word_length);
+        suggestion, (Py_ssize_t)help.start, (Py_ssize_t)help.replaced_length);
     if (error)
         PyErr_SetObject(state->kept[ERROR], error);
     Py_XDECREF(error);
@@ -182,8 +183,8 @@ static int read_str(struct state *state, PyObject *given, uint32_t options, uint
         return is_read;
     PyObject *report = report_of(text, options, &answer);
     struct help help;
-    help.number =
-        duration_str_help(text.bytes, text.length, options, help.suggestion, &help.word_length);
+    help.number = duration_str_help(
+        text.bytes, text.length, options, help.suggestion, &help.start, &help.replaced_length);
     raise_error(state, report, PyUnicode_FromObject(given), &answer, text.bytes, index, help);
     return -1;
 }

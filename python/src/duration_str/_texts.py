@@ -106,12 +106,13 @@ class DurationError(ValueError):
     """The token at the place of a syntax fault. It is None at the end of the text, and for other
     faults."""
     suggestion: str | None
-    """The name of a unit, such as `min` for `5 mins`, if the help is `Help.DID_YOU_MEAN`. Otherwise
-    it is None."""
+    """What to write in place of the part of the text that is wrong, such as `90min` for `1.5h`, if
+    that is certain. It is empty if that part is only to be removed, such as the sign of `+5m`.
+    Otherwise it is None."""
     mended: str | None
-    """The text with the suggestion in place of the word that is no unit, such as `5 min` for `5
-    mins`. It is None if there is no suggestion. If the mended text is refused for a syntax fault by
-    the same options, then only after the suggestion."""
+    """The text with the suggestion in place of that part, such as `2h 90s` for `2h 1.5min`. It is
+    None if there is no suggestion. If the mended text is refused for a syntax fault by the same
+    options, then only after the suggestion."""
     index: int | None
     """The position of the text in its column, or None if it is in no column."""
     report: str
@@ -121,8 +122,8 @@ class DurationError(ValueError):
 
     def __init__(
         self, report: str, text: str, cause: int, place: int | None = None, expected: int = 0,
-        found: str | None = None, index: int | None = None, help: int = 0, suggestion: str = "",
-        word_length: int = 0,
+        found: str | None = None, index: int | None = None, help: int = 0,
+        suggestion: str | None = None, start: int = 0, replaced_length: int = 0,
     ) -> None:  # fmt: skip
         above, feed, line = report.rpartition("\n")
         line = line if index is None else f"at index {index}: {line}"
@@ -134,16 +135,16 @@ class DurationError(ValueError):
         self.expected = _EXPECTED[expected]
         self.found = found
         self.index = index
-        self.suggestion = suggestion or None
+        self.suggestion = suggestion
         self.mended = None
         self._help = help
         self.pos = place
         if place is not None and not text.isascii():
             self.pos = len(text.encode()[:place].decode())
-        if suggestion and place is not None:
-            bytes = text.encode()
-            rest = bytes[place + word_length :]
-            self.mended = (bytes[:place] + suggestion.encode() + rest).decode()
+        if suggestion is not None:
+            encoded = text.encode()
+            rest = encoded[start + replaced_length :]
+            self.mended = (encoded[:start] + suggestion.encode() + rest).decode()
 
     @property
     def help(self) -> "Help | None":
