@@ -5,8 +5,8 @@ use clap::error::ErrorKind;
 use clap::{Command, CommandFactory, Parser, ValueEnum};
 use clap_complete::Shell;
 use duration_str::{
-    Breakdown, FORMAT_BUFFER_SIZE, Format, Help, Options, Rounding, Style, TimeUnit, Units,
-    UnknownUnit, parse_duration, write_rounded,
+    Breakdown, FORMAT_BUFFER_SIZE, Format, Help, Options, Rounding, Style, Suggestion, TimeUnit,
+    Units, UnknownUnit, parse_duration, write_rounded,
 };
 use std::borrow::Cow;
 use std::ffi::{OsStr, OsString};
@@ -296,10 +296,14 @@ fn unit(word: &str) -> Result<TimeUnit, String> {
         let help = parse_duration(&format!("1{word}"))
             .err()
             .and_then(|error| error.help());
-        help.and_then(Help::suggestion)
-            .map_or(unknown.to_string(), |name| {
-                format!("did you mean \"{name}\"?")
-            })
+        let Some(Help::DidYouMean(unit)) = help else {
+            return unknown.to_string();
+        };
+        let name = Suggestion {
+            count: None,
+            unit: Some(unit),
+        };
+        format!("did you mean \"{name}\"?")
     })
 }
 

@@ -14,7 +14,13 @@ pub struct Refusal {
     expected: Option<Expected>,
     found: Option<Box<str>>,
     help: Option<Help>,
-    mended: Option<Box<str>>,
+    mend: Option<Box<Mend>>,
+}
+
+/// What to write in place of a part of the text, and the text with it.
+struct Mend {
+    suggestion: String,
+    mended: String,
 }
 
 impl Refusal {
@@ -42,6 +48,7 @@ impl Refusal {
         let text = String::from_utf8_lossy(text);
         let column = self.place.map(|place| text[..place].chars().count() + 1);
         let help = self.help.map(|help| HELPS[help.number() as usize - 1]);
+        let mend = self.mend.as_ref();
         let fields = [
             ("text", json!(text)),
             (what, json!(number)),
@@ -50,8 +57,8 @@ impl Refusal {
             ("expected", json!(self.expected.map_or(vec![], kinds_of))),
             ("found", json!(self.found)),
             ("help", json!(help)),
-            ("suggestion", json!(self.help.and_then(Help::suggestion))),
-            ("mended", json!(self.mended)),
+            ("suggestion", json!(mend.map(|mend| &mend.suggestion))),
+            ("mended", json!(mend.map(|mend| &mend.mended))),
             ("message", json!(self.message)),
         ];
         let fields = fields.map(|(name, value)| format!("{name:?}:{value}"));
@@ -61,6 +68,10 @@ impl Refusal {
 
 impl From<Fault<'_>> for Refusal {
     fn from(fault: Fault<'_>) -> Refusal {
+        let mend = fault.mended().map(|mended| Mend {
+            suggestion: mended.suggestion.to_string(),
+            mended: mended.to_string(),
+        });
         Refusal {
             message: fault.to_string(),
             report: fault.report(),
@@ -69,7 +80,7 @@ impl From<Fault<'_>> for Refusal {
             expected: fault.expected(),
             found: fault.found().map(Box::from),
             help: fault.help(),
-            mended: fault.mended().map(|mended| mended.to_string().into()),
+            mend: mend.map(Box::new),
         }
     }
 }

@@ -77,16 +77,24 @@ fn begin_of_json(text: &str) -> String {
 
 #[test]
 fn gives_programs_all_that_a_message_says() {
-    let json = run(&["--json", "5 mins", "2h*3m+1"], b"").1;
+    let json = run(&["--json", "2h 1.5min", "+5m", "2h*3m+1"], b"").1;
     let wanted = [
         concat!(
-            r#"{"text":"5 mins","argument":1,"cause":"SYNTAX","column":3,"#,
-            r#""expected":["unit","operator","end"],"found":"mins","#,
-            r#""help":"DID_YOU_MEAN","suggestion":"min","mended":"5 min","#,
-            r#""message":"unknown unit \"mins\" at column 3 (did you mean \"min\"?)"}"#,
+            r#"{"text":"2h 1.5min","argument":1,"cause":"SYNTAX","column":5,"#,
+            r#""expected":["unit","operator","end"],"found":".","#,
+            r#""help":"FRACTION","suggestion":"90s","mended":"2h 90s","#,
+            r#""message":"expected a unit, '+', '*' or the end at column 5, found \".\" "#,
+            r#"(fractions are not read: write 90s)"}"#,
         ),
         concat!(
-            r#"{"text":"2h*3m+1","argument":2,"cause":"MIXED","column":null,"#,
+            r#"{"text":"+5m","argument":2,"cause":"SYNTAX","column":1,"#,
+            r#""expected":["number"],"found":"+","#,
+            r#""help":"LEADING_PLUS","suggestion":"","mended":"5m","#,
+            r#""message":"expected a number at column 1, found \"+\" "#,
+            r#"(a leading \"+\" is not read)"}"#,
+        ),
+        concat!(
+            r#"{"text":"2h*3m+1","argument":3,"cause":"MIXED","column":null,"#,
             r#""expected":[],"found":null,"help":null,"suggestion":null,"#,
             r#""mended":null,"message":"sum and product mixed in \"2h*3m+1\""}"#,
         ),
