@@ -17,11 +17,18 @@ function complete(text) {
     return text.replace(END, `${unit}${between || " "}${number}${name}`);
 }
 
-/** Writes what the library suggests, in place of each word for which it suggests a unit. */
+/** Each mend takes a look at the whole text, and a text that people type needs few. */
+const MOST_MENDS = 100;
+
+/** Writes what the library is certain of, as often as it says so. */
 function mend(text, options) {
-    const { fault } = tryParseNs(text, options);
-    if (fault?.help === "ZERO") return "0s";
-    return fault?.mended ? mend(fault.mended, options) : text;
+    let mended = text;
+    for (let count = 0; count < MOST_MENDS; count++) {
+        const { fault } = tryParseNs(mended, options);
+        if (typeof fault?.mended !== "string") break;
+        mended = fault.mended;
+    }
+    return mended;
 }
 
 /** The options, and then those with changes by which more texts are read. Of two that both read a
