@@ -153,7 +153,7 @@ def read(data, options):
         expected=[kind for kind in vectors.KINDS if kind in answer.expected],
         found=answer.found or None,
         help=found.code() if found else None,
-        suggestion=found.suggestion if found else None,
+        suggestion=answer.mend.written if answer.mend else None,
         mended=reference.mended(text, answer),
         message=reference.one_line(text, answer),
     )

@@ -88,7 +88,7 @@ def other_helps():
     if codes != [*lists.HELPS]:
         yield f"docs/GRAMMAR.md: the helps are {codes}, and those of the source {[*lists.HELPS]}"
     lines = set(texts_of_vectors())
-    for words in HELP_WORDS.values():
+    for words in itertools.chain(*HELP_WORDS.values()):
         if not any(line.endswith(f" ({words})") for line in lines):
             yield f"docs/GRAMMAR.md: no error in the vectors has the help `{words}`"
 

@@ -116,7 +116,10 @@ class Choice(typing.NamedTuple):
         return [*self.options.words(), f"default_unit={self.default_unit.printed}"]
 
     def answer(self, text):
-        return answer_of(text, self.options, self.default_unit and self.default_unit.length)
+        answer = answer_of(text, self.options, self.default_unit and self.default_unit.length)
+        if answer.cause != "syntax":
+            return answer
+        return answer._replace(mend=mend_of(text, answer, self))
 
 
 def as_packages_mean(choice):
@@ -139,6 +142,14 @@ class Terminal(typing.NamedTuple):
     what: object
 
 
+class Mend(typing.NamedTuple):
+    """Something is written in place of the characters from `start` to `end`."""
+
+    start: int
+    end: int
+    written: str = ""
+
+
 class Answer(typing.NamedTuple):
     """The place is counted in characters."""
 
@@ -148,6 +159,7 @@ class Answer(typing.NamedTuple):
     expected: frozenset = frozenset()
     found: str = ""
     operators: str = ""
+    mend: typing.Optional[Mend] = None
 
 
 # ---- Characters, words and terminals
@@ -687,17 +699,24 @@ FIRST_HELP = {
 }
 # The words of each help, from GRAMMAR's table, in its order
 HELP_TABLE = GRAMMAR.read_text("utf-8").split("\n| name | words | what stands ")[1].split("\n\n")[0]
-HELP_WORDS = dict(re.findall(r"^\| `(\w+)` \| `(.*?)` \|", HELP_TABLE, re.M))
+HELP_WORDS = {
+    name: re.findall("`(.*?)`", words)
+    for name, words in re.findall(r"^\| `(\w+)` \| (.*?) \|", HELP_TABLE, re.M)
+}
 
 
 class Help(typing.NamedTuple):
-    """A help's name, and the name that it suggests, if it does."""
+    """A help's name, and for `DidYouMean` the unit's name"""
 
     name: str
-    suggestion: typing.Optional[str] = None
+    unit: typing.Optional[str] = None
 
-    def words(self):
-        return HELP_WORDS[self.name].replace('"min"', f'"{self.suggestion}"')
+    def words(self, mend):
+        """If there are two kinds of words, the first ones are those with a mend."""
+        words = HELP_WORDS[self.name][0 if mend else -1]
+        if self.name == "Fraction" and mend:
+            return words.replace("90min", mend.written)
+        return words.replace('"min"', f'"{self.unit}"')
 
     def code(self):
         return re.sub("(?<=[a-z])(?=[A-Z0-9])", "_", self.name).upper()
@@ -778,13 +797,71 @@ def help_of(text, answer):
     return name and Help(name)
 
 
-def mended(text, answer):
-    """The text with the suggested name in place of the word, or None."""
+def starts_with_letter(text):
+    return text != "" and kind_in_line(text[0]) == "letter"
+
+
+def mend_of(text, answer, choice):
+    """What is certain to be written instead, or None. GRAMMAR's table says it for each help."""
     found = help_of(text, answer)
-    if not (found and found.suggestion):
+    place, piece = answer.place, piece_at(text, answer.place)
+    end = place + len(piece)
+    match found and found.name:
+        case "DidYouMean":
+            return Mend(place, end, found.unit)
+        case "Fraction":
+            return fraction_mend(text, place, answer.expected, choice)
+        case "Zero":
+            return Mend(place, place, "s")
+        case "LeadingPlus":
+            return Mend(place, end)
+        case "NoPoint" if not starts_with_letter(text[end:]):
+            return Mend(place, end)
+        case "DigitsOnly" if piece in ("_", "'"):
+            return Mend(place, end)
+        case "Iso8601" if piece.upper() == "PT" and not choice.options.lowercase:
+            return Mend(place, end)
+    return None
+
+
+def fraction_mend(text, point, expected, choice):
+    digits = re.search(r"[0-9]*\Z", text[:point])[0]
+    decimals = re.match("[0-9]*", text[point + 1 :])[0]
+    if not digits and "number" not in expected:
         return None
-    word = piece_at(text, answer.place)
-    return text[: answer.place] + found.suggestion + text[answer.place + len(word) :]
+    start, end = point - len(digits), point + 1 + len(decimals)
+    unit, end = unit_after(text, end, choice)
+    if unit is None:
+        return None
+    value = fractions.Fraction(f"{digits}.{decimals}") * unit.length
+    as_written = int(digits + decimals.rstrip("0") or "0")
+    if value.denominator > 1 or value >= LIMIT or as_written >= LIMIT:
+        return None
+    best = next(each for each in UNITS if each.length <= unit.length and value % each.length == 0)
+    return Mend(start, end, f"{value // best.length}{best.printed.replace('µ', 'u')}")
+
+
+def unit_after(text, end, choice):
+    """The unit of a number that ends there, or None, and where the word for it ends."""
+    rest = text[end:].lstrip(BLANKS)
+    word = piece_at(rest, 0) if starts_with_letter(rest) else ""
+    if word:
+        length = unit_of(word, choice.options)
+        name = near_name(word)
+        if length is None and name is None:
+            return None, end
+        named = (each for each in UNITS if each.length == length)
+        unit = next(named, None) or UNITS[PLACES[name]]
+        return unit, len(text) - len(rest) + len(word)
+    can_follow = rest == "" or rest[0] in OPERATORS and not choice.options.no_calc
+    return choice.default_unit if can_follow else None, end
+
+
+def mended(text, answer):
+    """The text with something else in place of the part that is wrong, or None."""
+    if answer.mend is None:
+        return None
+    return text[: answer.mend.start] + answer.mend.written + text[answer.mend.end :]
 
 
 def expected_in_line(expected):
@@ -812,7 +889,7 @@ def report(text, answer):
 @functools.lru_cache(1 << 16)
 def one_line(text, answer):
     found = help_of(text, answer)
-    return problem(text, answer) + (f" ({found.words()})" if found else "")
+    return problem(text, answer) + (f" ({found.words(answer.mend)})" if found else "")
 
 
 def problem(text, answer):

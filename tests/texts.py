@@ -80,6 +80,12 @@ class Texts:
         )
         return str(max(0, about + self.random.randint(-2, 2)))
 
+    def fraction(self):
+        digits = str(self.random.randrange(10 ** self.random.randint(1, 3)))
+        decimals = self.choice((digits, "5", "25", "0", "125", self.number()))
+        zeros = "0" * self.choice((0, 0, 0, 1, 2, 30))
+        return f"{self.choice(('', '0', self.number()))}.{decimals}{zeros}"
+
     def unit(self):
         draw = self.random.random()
         if draw < 0.15:
@@ -112,6 +118,21 @@ class Texts:
             pieces[-2] = ""
         return pieces
 
+    def mendable(self, pieces):
+        """Writes what a mended text may have otherwise. The pieces are those of whole terms."""
+        term = self.random.randrange(len(pieces) // 6) * 6
+        number, unit = pieces[term], pieces[term + 2]
+        match self.random.randrange(10):
+            case 0:
+                pieces.insert(0, self.choice(("+", " + ", "PT", "pt", "P")))
+            case 1:
+                pieces[term + 2] = unit + "."
+            case 2 | 3:
+                at = self.random.randint(0, len(number))
+                pieces[term] = number[:at] + self.choice("_',") + number[at:]
+            case _:
+                pieces[term] = self.fraction()
+
     def spoil(self, pieces):
         at = self.random.randrange(len(pieces))
         match self.random.randrange(6):
@@ -130,6 +151,8 @@ class Texts:
 
     def text(self):
         pieces = self.pieces()
+        if self.random.random() < 0.25:
+            self.mendable(pieces)
         for _ in range(self.choice((0, 0, 1, 1, 2))):
             if pieces:
                 self.spoil(pieces)

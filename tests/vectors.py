@@ -65,7 +65,7 @@ def refusals():
         if cause != "READ":
             found = reference_parser.help_of(text, answer)
             wanted += [reference_parser.one_line(text, answer), spaces_of(text, answer)]
-            wanted += [found.code(), found.suggestion] if found else [None, None]
+            wanted += [found and found.code(), answer.mend and answer.mend.written]
             wanted.append(reference_parser.mended(text, answer))
         yield row, wanted, line
     for row in rows["refused_numbers"]:
