@@ -172,6 +172,29 @@ def other_answers():
             yield f"{name}: the reference parser answers otherwise: `{text}`: {claim}"
 
 
+def other_mended_texts():
+    for row in rows_of_tables("docs/GRAMMAR.md"):
+        for text, claim in claims_of(row, "mended text") if "mended text" in row else ():
+            mended = reference_parser.mended(text, reference_parser.Choice().answer(text))
+            if (f"`{mended}`" if mended else "none") != claim:
+                yield f"docs/GRAMMAR.md: for `{text}` the reference parser has {mended}, not {claim}"
+
+
+# The columns of MIGRATING that say what an error says to write, each with options
+ADVISING = {"here": [], "the module `humantime` here": ["lowercase", "require_unit"]}
+
+
+def other_advice():
+    for row in rows_of_tables("docs/MIGRATING.md"):
+        for column in row.keys() & ADVISING.keys():
+            told = row[column].partition("the error says to write ")[2].partition(";")[0]
+            pairs = zip(*(re.findall("`(.*?)`", cell) for cell in (row.get("text", ""), told)))
+            for text, wanted in pairs:
+                answer = reference_parser.Choice.named(ADVISING[column]).answer(text)
+                if (mended := reference_parser.mended(text, answer)) != wanted:
+                    yield f"docs/MIGRATING.md: for `{text}` the reference parser has {mended}"
+
+
 PRINTED_IN = "printed in these units"
 
 
@@ -394,6 +417,8 @@ def problems():
         other_helps,
         other_lines,
         other_answers,
+        other_mended_texts,
+        other_advice,
         other_printed,
         other_kinds,
         untested_examples,
