@@ -834,8 +834,7 @@ def fraction_mend(text, point, expected, choice):
     if unit is None:
         return None
     value = fractions.Fraction(f"{digits}.{decimals}") * unit.length
-    as_written = int(digits + decimals.rstrip("0") or "0")
-    if value.denominator > 1 or value >= LIMIT or as_written >= LIMIT:
+    if value.denominator > 1 or value >= LIMIT:
         return None
     best = next(each for each in UNITS if each.length <= unit.length and value % each.length == 0)
     return Mend(start, end, f"{value // best.length}{best.printed.replace('µ', 'u')}")

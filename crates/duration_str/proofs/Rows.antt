@@ -717,6 +717,10 @@ pub record MendedRows : Type 0 where
       ≡ term (codes "18446744073709551615.0ns") (codes "18446744073709551615ns") []
   pub mended-too_long : mended (codes "18446744074.0s") (Syntax 11 after_number) ≡ None
   pub mended-too_many_digits : mended (codes "1844674407370955161.6ns") (Syntax 19 after_number) ≡ None
+  pub mended-long_number : mended (codes "5124095.0000000000025h") (Syntax 7 after_number)
+      ≡ term (codes "5124095.0000000000025h") (codes "18446742000000000009ns") []
+  pub mended-many_zeros : mended (codes "0.5000000000000000000000h") (Syntax 1 after_number)
+      ≡ term (codes "0.5000000000000000000000h") (codes "30min") []
   pub mended-before_a_sign : mended (codes "1.5h*2") (Syntax 1 after_number) ≡ term (codes "1.5h") (codes "90min") (codes "*2")
   pub mended-before_a_number : mended (codes "1.5h30m") (Syntax 1 after_number) ≡ term (codes "1.5h") (codes "90min") (codes "30m")
   pub mended-after_a_term : mended (codes "1m .5s") (Syntax 3 after_unit) ≡ pieces (codes "1m ") (codes ".5s") (codes "500ms") []

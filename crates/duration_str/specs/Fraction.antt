@@ -1,6 +1,6 @@
 -- Numbers with a fraction, such as in `1.5h`: their nanoseconds, and the term to write instead,
 -- such as `90min`.
-use Rattle.std.specs.Prelude.{ℕ, ◌*◌, ◌-◌, ◌/◌, ◌%◌, ◌^◌, ◌==◌, Bool, ◌&&◌, [], ◌∷◌, ◌++◌, Option, Some, None, unwrap_or, if◌then◌else◌, nat_le, length, take}
+use Rattle.std.specs.Prelude.{ℕ, ◌*◌, ◌/◌, ◌%◌, ◌^◌, ◌==◌, Bool, ◌&&◌, [], ◌∷◌, ◌++◌, Option, Some, None, unwrap_or, if◌then◌else◌, nat_le, length}
 use Rattle.std.specs.List.{find, list_all}
 use Rattle.duration_str.specs.declared.mended.Suggestion.{Suggestion}
 use Rattle.duration_str.specs.declared.unit.TimeUnit.{TimeUnit}
@@ -14,23 +14,16 @@ abbrev pub end_run : (ℕ → Bool) → Bytes → Bytes
 end_run test [] = []
 end_run test (b ∷ bytes) = if list_all test (b ∷ bytes) then b ∷ bytes else end_run test bytes
 
--- the digits without the zeros at their end
-abbrev pub without_end_zeros : Bytes → Bytes
-without_end_zeros digits = take (length digits - length (end_run (λ d. d == 48) digits)) digits
-
 -- the quotient, if it is a whole number below 2^64
 abbrev pub whole_quotient : ℕ → ℕ → Option ℕ
 whole_quotient m n = if m % n == 0 && fits (m / n) then Some (m / n) else None
 
 -- The nanoseconds of a number with these digits before and after its point, if its unit has this
 -- length: the number without its point times the unit's length, divided by 10 for each digit after
--- the point. Zeros at the end don't count. There are none if the number without its point is 2^64
--- or more, or if the nanoseconds are no whole number, or 2^64 or more
+-- the point. There are none if they are no whole number, or 2^64 or more
 abbrev pub nanos_of_fraction : Bytes → Bytes → ℕ → Option ℕ
 nanos_of_fraction whole decimals unit_nanos =
-    let kept = without_end_zeros decimals in
-    let number = number_of (whole ++ kept) in
-    if fits number then whole_quotient (number * unit_nanos) (10 ^ length kept) else None
+    whole_quotient (number_of (whole ++ decimals) * unit_nanos) (10 ^ length decimals)
 
 abbrev pub Table : Type 0
 Table = TimeUnit → UnitRow
@@ -39,7 +32,7 @@ Table = TimeUnit → UnitRow
 abbrev pub is_whole_in : Table → TimeUnit → ℕ → TimeUnit → Bool
 is_whole_in table u nanos v = nat_le (table v).nanos (table u).nanos && nanos % (table v).nanos == 0
 
--- the longest unit, not longer than this one, of which the nanoseconds are a whole number
+-- the longest unit that divides the nanoseconds and is not longer than this one
 abbrev pub longest_whole : Table → TimeUnit → ℕ → TimeUnit
 longest_whole table u nanos = unwrap_or (find (is_whole_in table u nanos) units) NanoSecond
 

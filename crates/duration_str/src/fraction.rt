@@ -1,14 +1,14 @@
 //! The term to write instead of a number with a fraction, such as `90min` for `1.5h`.
-ghost use Rattle.std.specs.Prelude.{◌≡◌, ◌≢◌, ◌⊎◌, ◌^◌, ◌<◌, ◌≤◌, ◌+◌, ◌*◌, ◌%◌, ◌==◌, length, drop, take, IfSome, IfNone, IsTrue};
+ghost use Rattle.std.specs.Prelude.{◌≡◌, ◌≢◌, ◌^◌, ◌<◌, ◌≤◌, ◌+◌, ◌*◌, ◌%◌, ◌==◌, length, drop, take, IfSome, IfNone, IsTrue};
 ghost use Rattle.std.specs.List.{list_all, prefix_len};
 ghost use Rattle.std.specs.Str.{chars, IsCharBoundary};
-ghost use Rattle.duration_str.specs.Fraction.{as_term, end_run, longest_whole, nanos_of_fraction, whole_quotient, without_end_zeros};
+ghost use Rattle.duration_str.specs.Fraction.{as_term, end_run, longest_whole, nanos_of_fraction};
 ghost use Rattle.duration_str.specs.Internal.Mends.{IsCutOut};
 ghost use Rattle.duration_str.specs.Internal.Numbers.{u64_from};
 ghost use Rattle.duration_str.specs.Meaning.{meaning_of, table_of};
 ghost use Rattle.duration_str.specs.OneLine.{can_end_number, fraction_mend, meant_unit, unit_ahead};
 ghost use Rattle.duration_str.specs.Rules.{unit_of_word};
-ghost use Rattle.duration_str.specs.Text.{is_blank, is_digit, number_after};
+ghost use Rattle.duration_str.specs.Text.{is_blank, is_digit, number_of};
 
 use crate::cause::Expected;
 use crate::help::{begins_with_letter, first_piece, near_unit};
@@ -131,34 +131,55 @@ fn can_end_number(bytes: &[u8], rules: Rules) -> bool
     }
 }
 
+/// Returns the nanoseconds of a number with these digits before and after its point, if they are a
+/// whole number below 2^64.
 fn nanos_of_fraction(whole: &[u8], decimals: &[u8], unit_nanos: u64) -> Option<u64>
     requires whole { IsTrue (list_all is_digit whole.now) }
     requires decimals { IsTrue (list_all is_digit decimals.now) }
     requires long { 0 < unit_nanos }
+    requires short { unit_nanos * 10 < 2 ^ 64 }
     ensures { result ≡ nanos_of_fraction whole.now decimals.now unit_nanos }
 {
-    let kept = without_end_zeros(decimals);
-    let number = number_after(number_after(0, whole)?, kept)?;
-    scaled(number, unit_nanos, kept.len())
-}
-
-/// Returns the digits without the zeros at their end.
-fn without_end_zeros(digits: &[u8]) -> &[u8]
-    ensures { result.now ≡ without_end_zeros digits.now }
-{
-    let mut end = digits.len();
-    while end > 0 && digits[end - 1] == b'0' {
-        end -= 1;
+    let after = nanos_after_point(decimals, unit_nanos)?;
+    let number = number_of(whole)?;
+    // In WebAssembly `checked_mul` would be a call.
+    if number > (u64::MAX - after) / unit_nanos {
+        None
+    } else {
+        Some(number * unit_nanos + after)
     }
-    &digits[..end]
 }
 
-/// Returns the number that has the digits of `start` and then these digits, if it is below 2^64.
-fn number_after(start: u64, digits: &[u8]) -> Option<u64>
-    requires { IsTrue (list_all is_digit digits.now) }
-    ensures { result ≡ u64_from (number_after start digits.now) }
+/// Returns the nanoseconds of the digits after a point, if they are a whole number. From the last
+/// digit to the first, it adds the digit's nanoseconds and divides by 10. So no number is longer
+/// than ten units, however many digits there are.
+fn nanos_after_point(decimals: &[u8], unit_nanos: u64) -> Option<u64>
+    requires decimals { IsTrue (list_all is_digit decimals.now) }
+    requires short { unit_nanos * 10 < 2 ^ 64 }
+    ensures some { IfSome result (λ nanos.
+        nanos * 10 ^ length decimals.now ≡ number_of decimals.now * unit_nanos) }
+    ensures none { IfNone result
+        (number_of decimals.now * unit_nanos % 10 ^ length decimals.now ≢ 0) }
 {
-    let mut number = start;
+    let mut nanos = 0;
+    let mut start = decimals.len();
+    while start > 0 {
+        start -= 1;
+        let tenths = nanos + u64::from(decimals[start] - b'0') * unit_nanos;
+        if tenths % 10 != 0 {
+            return None;
+        }
+        nanos = tenths / 10;
+    }
+    Some(nanos)
+}
+
+/// Returns the number that the digits write, if it is below 2^64.
+fn number_of(digits: &[u8]) -> Option<u64>
+    requires { IsTrue (list_all is_digit digits.now) }
+    ensures { result ≡ u64_from (number_of digits.now) }
+{
+    let mut number = 0u64;
     for b in digits {
         let digit = u64::from(*b - b'0');
         // In WebAssembly `checked_mul` would be a call.
@@ -168,60 +189,6 @@ fn number_after(start: u64, digits: &[u8]) -> Option<u64>
         number = number * 10 + digit;
     }
     Some(number)
-}
-
-/// Returns the product of the two divided by 10 as often as `places` says, if that is a whole
-/// number below 2^64. Each division divides one of the two, so no product needs more than 64 bits.
-fn scaled(number: u64, unit_nanos: u64, places: usize) -> Option<u64>
-    requires { 0 < unit_nanos }
-    ensures { result ≡ whole_quotient (number * unit_nanos) (10 ^ places) }
-{
-    let mut factors = (number, unit_nanos);
-    for _ in 0..places {
-        factors = tenth(factors.0, factors.1)?;
-    }
-    product(factors.0, factors.1)
-}
-
-/// Returns two numbers whose product is a tenth of that of the two, or `None` if that is no whole
-/// number.
-fn tenth(left: u64, right: u64) -> Option<(u64, u64)>
-    requires { 0 < right }
-    ensures some { IfSome result (λ factors. factors.0 * factors.1 * 10 ≡ left * right) }
-    ensures none { IfNone result (left * right % 10 ≢ 0) }
-    ensures long { IfSome result (λ factors. 0 < factors.1) }
-{
-    let (left, right) = divided(left, right, 2)?;
-    divided(left, right, 5)
-}
-
-/// Divides one of the two by a prime, if it divides their product.
-fn divided(left: u64, right: u64, prime: u64) -> Option<(u64, u64)>
-    requires long { 0 < right }
-    requires prime { (prime ≡ 2) ⊎ (prime ≡ 5) }
-    ensures some { IfSome result (λ factors. factors.0 * factors.1 * prime ≡ left * right) }
-    ensures none { IfNone result (left * right % prime ≢ 0) }
-    ensures long { IfSome result (λ factors. 0 < factors.1) }
-{
-    if left % prime == 0 {
-        Some((left / prime, right))
-    } else if right % prime == 0 {
-        Some((left, right / prime))
-    } else {
-        None
-    }
-}
-
-fn product(left: u64, right: u64) -> Option<u64>
-    requires { 0 < right }
-    ensures { result ≡ u64_from (left * right) }
-{
-    // In WebAssembly `checked_mul` would be a call.
-    if left > u64::MAX / right {
-        None
-    } else {
-        Some(left * right)
-    }
 }
 
 /// Returns the nanoseconds as one term, in the longest unit, not longer than this one, of which

@@ -103,24 +103,39 @@ fn can_end_number(bytes: &[u8], rules: Rules) -> bool {
     }
 }
 
+/// Returns the nanoseconds of a number with these digits before and after its point, if they are a
+/// whole number below 2^64.
 fn nanos_of_fraction(whole: &[u8], decimals: &[u8], unit_nanos: u64) -> Option<u64> {
-    let kept = without_end_zeros(decimals);
-    let number = number_after(number_after(0, whole)?, kept)?;
-    scaled(number, unit_nanos, kept.len())
-}
-
-/// Returns the digits without the zeros at their end.
-fn without_end_zeros(digits: &[u8]) -> &[u8] {
-    let mut end = digits.len();
-    while end > 0 && digits[end - 1] == b'0' {
-        end -= 1;
+    let after = nanos_after_point(decimals, unit_nanos)?;
+    let number = number_of(whole)?;
+    // In WebAssembly `checked_mul` would be a call.
+    if number > (u64::MAX - after) / unit_nanos {
+        None
+    } else {
+        Some(number * unit_nanos + after)
     }
-    &digits[..end]
 }
 
-/// Returns the number that has the digits of `start` and then these digits, if it is below 2^64.
-fn number_after(start: u64, digits: &[u8]) -> Option<u64> {
-    let mut number = start;
+/// Returns the nanoseconds of the digits after a point, if they are a whole number. From the last
+/// digit to the first, it adds the digit's nanoseconds and divides by 10. So no number is longer
+/// than ten units, however many digits there are.
+fn nanos_after_point(decimals: &[u8], unit_nanos: u64) -> Option<u64> {
+    let mut nanos = 0;
+    let mut start = decimals.len();
+    while start > 0 {
+        start -= 1;
+        let tenths = nanos + u64::from(decimals[start] - b'0') * unit_nanos;
+        if tenths % 10 != 0 {
+            return None;
+        }
+        nanos = tenths / 10;
+    }
+    Some(nanos)
+}
+
+/// Returns the number that the digits write, if it is below 2^64.
+fn number_of(digits: &[u8]) -> Option<u64> {
+    let mut number = 0u64;
     for b in digits {
         let digit = u64::from(*b - b'0');
         // In WebAssembly `checked_mul` would be a call.
@@ -130,43 +145,6 @@ fn number_after(start: u64, digits: &[u8]) -> Option<u64> {
         number = number * 10 + digit;
     }
     Some(number)
-}
-
-/// Returns the product of the two divided by 10 as often as `places` says, if that is a whole
-/// number below 2^64. Each division divides one of the two, so no product needs more than 64 bits.
-fn scaled(number: u64, unit_nanos: u64, places: usize) -> Option<u64> {
-    let mut factors = (number, unit_nanos);
-    for _ in 0..places {
-        factors = tenth(factors.0, factors.1)?;
-    }
-    product(factors.0, factors.1)
-}
-
-/// Returns two numbers whose product is a tenth of that of the two, or `None` if that is no whole
-/// number.
-fn tenth(left: u64, right: u64) -> Option<(u64, u64)> {
-    let (left, right) = divided(left, right, 2)?;
-    divided(left, right, 5)
-}
-
-/// Divides one of the two by a prime, if it divides their product.
-fn divided(left: u64, right: u64, prime: u64) -> Option<(u64, u64)> {
-    if left % prime == 0 {
-        Some((left / prime, right))
-    } else if right % prime == 0 {
-        Some((left, right / prime))
-    } else {
-        None
-    }
-}
-
-fn product(left: u64, right: u64) -> Option<u64> {
-    // In WebAssembly `checked_mul` would be a call.
-    if left > u64::MAX / right {
-        None
-    } else {
-        Some(left * right)
-    }
 }
 
 /// Returns the nanoseconds as one term, in the longest unit, not longer than this one, of which

@@ -8,7 +8,7 @@ use Rattle.std.specs.Str.Parse.{ParsesUnsigned}
 pub decimal_digits : IsNumeralModel (λ ds. IsTrue (list_all is_digit ds)) (number_after 0)
 decimal_digits = numerals_by_fold _ (search rules) number_after (search rules)
 
-number_after-is : (n : ℕ) (cs : List ℕ) → number_after n cs ≡ n * 10 ^ length cs + number_of cs
+pub number_after-is : (n : ℕ) (cs : List ℕ) → number_after n cs ≡ n * 10 ^ length cs + number_of cs
 number_after-is n [] = omega arith
 number_after-is n (c ∷ cs) =
     let here = number_after-is (n * 10 + (c - 48)) cs in

@@ -1,26 +1,26 @@
 -- A text that is only a number with a fraction and its unit: its mended text has the same value.
 use Rattle.std.specs.List.{prefix_len}
-use Rattle.duration_str.proofs.Common.{[], add-zero, ahead, all_names_in, and_from, and_parts, ap, append-nil, append_assoc, arith, BeginsSentence, Bool, byte_len, bytes_eq, cases_Bool, chars, chars-append, chars-encodes, codes, comparison_form, decimal, digits_decimal, drop, drop_all, Empty, encode_ascii, encode_utf8_all, encodes-chars, EndsRun, eqb-true, Expected, false, false_from_ne_true, find, Humantime, if◌then◌else◌, inl, inr, is_ascii_alphabetic, is_blank, is_digit, is_unit_letter, IsBlank, IsRead, IsRefused, IsUtf8, length, length-append, lexemes_of, List, list_all, list_all-append, list_any, map, meaning_of, Mixed, More, more_names, nat_le, nat_lt, nat_tests, None, not, NotText, number, number_after, number_of, NumberTooLarge, off, Option, option_map, Options, or_right, other, OutOfRange, Overflow, Own, pow-suc, refl, Rules, Second, Some, Spells, Stops, suc, sym, Syntax, table_of, take, take_while, take_while-cons, Terminal, terminal_of, terminals_of, TimeUnit, to_ascii_lowercase, Token, tokens_from, tokens_of, true, unit_of_word, units, UnitTable, unwrap_or, word, ℕ, ◌%◌, ◌&&◌, ◌*◌, ◌++◌, ◌+◌, ◌-◌, ◌/◌, ◌<◌, ◌==◌, ◌^◌, ◌||◌, ◌∙◌, ◌∷◌, ◌≡◌, ◌≤◌}
+use Rattle.duration_str.proofs.Common.{[], add-zero, ahead, all_names_in, and_from, and_parts, ap, append-nil, arith, BeginsSentence, Bool, byte_len, bytes_eq, cases_Bool, chars, chars-append, chars-encodes, codes, comparison_form, decimal, digits_decimal, drop, drop_all, Empty, encode_ascii, encode_utf8_all, encodes-chars, EndsRun, eqb-true, Expected, false, false_from_ne_true, find, Humantime, if◌then◌else◌, inl, inr, is_ascii_alphabetic, is_blank, is_digit, is_unit_letter, IsBlank, IsRead, IsRefused, IsUtf8, length, length-append, lexemes_of, List, list_all, list_all-append, list_any, map, meaning_of, Mixed, More, more_names, nat_le, nat_lt, nat_tests, None, not, NotText, number, number_of, NumberTooLarge, off, Option, option_map, Options, or_right, other, OutOfRange, Overflow, Own, refl, Rules, Second, Some, Spells, Stops, suc, sym, Syntax, table_of, take, take_while, take_while-cons, Terminal, terminal_of, terminals_of, TimeUnit, to_ascii_lowercase, Token, tokens_from, tokens_of, true, unit_of_word, units, UnitTable, unwrap_or, word, ℕ, ◌%◌, ◌&&◌, ◌*◌, ◌++◌, ◌+◌, ◌-◌, ◌/◌, ◌<◌, ◌==◌, ◌^◌, ◌||◌, ◌∙◌, ◌∷◌, ◌≡◌, ◌≤◌}
 use Rattle.std.proofs.lemmas.List.{drop-drop, take_all}
-use Rattle.std.proofs.Math.Nat.{div-le_self, mul_assoc, mul_right_comm}
+use Rattle.std.proofs.Math.Nat.{div-le_self}
 use Rattle.std.proofs.Math.Seq.{drop-append_seam, take-append_seam}
 use Rattle.std.proofs.lemmas.List.Folds.{list_all_at}
-use Rattle.std.proofs.lemmas.Nat.{div-add-mod', pow-add}
+use Rattle.std.proofs.lemmas.Nat.{div-add-mod'}
 use Rattle.std.specs.Prelude.{slice_index}
 use Rattle.duration_str.specs.declared.help.Help.{Help}
 use Rattle.duration_str.specs.declared.help.Help.TheVariants.{DidYouMean, DigitsOnly, Fraction, Iso8601, LeadingPlus, NoPoint, Zero}
 use Rattle.duration_str.specs.declared.mended.Mend.{Mend}
 use Rattle.duration_str.specs.declared.rules.Rules.{Rules as CodeRules}
-use Rattle.duration_str.specs.Fraction.{end_run, is_whole_in, longest_whole, without_end_zeros}
+use Rattle.duration_str.specs.Fraction.{is_whole_in, longest_whole}
 use Rattle.duration_str.specs.Mended.{mended_text, MendedFractions}
 use Rattle.duration_str.specs.OneLine.{begins_with_letter, first_piece, fraction_mend, fraction_with, help_name, is_letter, is_like, meant_unit, mend_for, near_unit, Pieces, pieces_of, small_words, suggestion_text, syntax_help, unit_ahead, with_micro_sign}
 use Rattle.duration_str.proofs.Characters.CharacterLemmas.{all_weaker, digit-not_blank}
-use Rattle.duration_str.proofs.Characters.NumberLemmas.{decimal_digits, decimal_terminal, number_after-append}
+use Rattle.duration_str.proofs.Characters.NumberLemmas.{decimal_digits, decimal_terminal}
 use Rattle.duration_str.proofs.Characters.PackedLemmas.{no_name}
 use Rattle.duration_str.proofs.Characters.UnitLemmas.{all_units, named_passes}
 use Rattle.duration_str.proofs.Cutting.TokenLemmas.{tokens_step}
 use Rattle.duration_str.proofs.Printer.FractionLemmas.{end_all}
-use Rattle.duration_str.proofs.LawProofs.MendedBytes.{blank_no_letter, blank_small, digit_small, end_parts, EndParts, first_char, is_small, past_small, plain_no_letter, run_cons, run_stops, small_chars, small_len, small_utf8}
+use Rattle.duration_str.proofs.LawProofs.MendedBytes.{blank_no_letter, blank_small, digit_small, first_char, is_small, past_small, plain_no_letter, run_cons, run_stops, small_chars, small_len, small_utf8}
 use Rattle.duration_str.proofs.LawProofs.MendedHelp.{Reason, reason}
 use Rattle.duration_str.proofs.LawProofs.MendedNames.{IsWritten, name_read, name_scalars, own_more, written}
 use Rattle.duration_str.proofs.LawProofs.MendedNumbers.{digits_token}
@@ -33,39 +33,14 @@ use Rattle.duration_str.specs.declared.unit.TimeUnit.TheVariants.{NanoSecond}
 
 -- ---- The value
 
-zeros_after : (n : ℕ) (zeros : List ℕ) → list_all (λ d. d == 48) zeros ≡ true → number_after n zeros ≡ n * 10 ^ length zeros
-zeros_after n [] all = omega arith
-zeros_after n (d ∷ zeros) all =
-    let parts = and_parts (d == 48) (list_all (λ d. d == 48) zeros) all in
-    let zero : d - 48 ≡ 0 = omega (arith, eqb-true d 48 parts.0) in
-    let later : number_after (n * 10 + 0) zeros ≡ (n * 10 + 0) * 10 ^ length zeros = zeros_after (n * 10 + 0) zeros parts.1 in
-    rw zero (omega (arith, later, ap (λ (x : ℕ). n * x) (pow-suc 10 (length zeros))))
-
 whole_times : (n d : ℕ) → n % d ≡ 0 → n / d * d ≡ n
 whole_times n d e = omega (arith, div-add-mod' n d, e)
 
 -- The value times 10 for each digit after the point.
-scaled : (whole decimals : List ℕ) (l nanos : ℕ)
-    → IsQuotient (number_of (whole ++ without_end_zeros decimals) * l) (10 ^ length (without_end_zeros decimals)) nanos
+scaled : (whole decimals : List ℕ) (l nanos : ℕ) → IsQuotient (number_of (whole ++ decimals) * l) (10 ^ length decimals) nanos
     → nanos * 10 ^ length decimals ≡ number_of (whole ++ decimals) * l
 scaled whole decimals l nanos q =
-    let e : EndParts (λ d. d == 48) decimals = end_parts (λ d. d == 48) decimals in
-    let zeros = end_run (λ d. d == 48) decimals in
-    let front = e.front in
-    let n : length decimals - length zeros ≡ length front = omega (arith, ap length e.parts, length-append front zeros) in
-    let kept : without_end_zeros decimals ≡ front =
-    ap (λ (i : ℕ). take i decimals) n ∙ ap (take (length front)) e.parts ∙ take-append_seam front zeros in
-    let part : IsQuotient (number_of (whole ++ front) * l) (10 ^ length front) nanos = rw kept at q in
-    let exact : nanos * 10 ^ length front ≡ number_of (whole ++ front) * l =
-    ap (λ (x : ℕ). x * 10 ^ length front) (sym part.quotient) ∙ whole_times _ (10 ^ length front) part.whole in
-    let numbers : number_of (whole ++ decimals) ≡ number_of (whole ++ front) * 10 ^ length zeros =
-    ap (λ (xs : List ℕ). number_of (whole ++ xs)) e.parts ∙ ap number_of (sym (append_assoc whole front zeros))
-    ∙ number_after-append 0 (whole ++ front) zeros ∙ zeros_after (number_of (whole ++ front)) zeros e.all in
-    let power : 10 ^ length decimals ≡ 10 ^ length front * 10 ^ length zeros =
-    ap (λ (i : ℕ). 10 ^ i) (ap length e.parts ∙ length-append front zeros) ∙ pow-add 10 (length front) (length zeros) in
-    ap (λ (x : ℕ). nanos * x) power ∙ sym (mul_assoc nanos (10 ^ length front) (10 ^ length zeros))
-    ∙ ap (λ (x : ℕ). x * 10 ^ length zeros) exact ∙ mul_right_comm (number_of (whole ++ front)) l (10 ^ length zeros)
-    ∙ ap (λ (x : ℕ). x * l) (sym numbers)
+    ap (λ (n : ℕ). n * 10 ^ length decimals) (sym q.quotient) ∙ whole_times _ (10 ^ length decimals) q.whole
 
 -- ---- One term is read
 

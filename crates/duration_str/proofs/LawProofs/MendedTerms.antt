@@ -6,7 +6,7 @@ use Rattle.std.proofs.Math.Nat.{div-le_self}
 use Rattle.std.proofs.Math.Seq.{take-append_seam}
 use Rattle.duration_str.specs.declared.mended.Mend.{Mend}
 use Rattle.duration_str.specs.declared.rules.Rules.{Rules as CodeRules}
-use Rattle.duration_str.specs.Fraction.{as_term, end_run, longest_whole, nanos_of_fraction, whole_quotient, without_end_zeros}
+use Rattle.duration_str.specs.Fraction.{as_term, end_run, longest_whole, nanos_of_fraction, whole_quotient}
 use Rattle.duration_str.specs.OneLine.{begins_with_letter, can_end_number, first_piece, fraction_mend, fraction_with, help_name, is_letter, meant_unit, unit_ahead}
 use Rattle.duration_str.proofs.Characters.CharacterLemmas.{all_weaker}
 use Rattle.duration_str.proofs.Characters.NumberLemmas.{decimal_digits}
@@ -60,11 +60,8 @@ quotient_parts m n nanos is = elim (cases_Bool (m % n == 0 && fits (m / n))) [
 ]
 
 pub value_parts : (whole decimals : List ℕ) (l nanos : ℕ) → nanos_of_fraction whole decimals l ≡ Some nanos
-    → IsQuotient (number_of (whole ++ without_end_zeros decimals) * l) (10 ^ length (without_end_zeros decimals)) nanos
-value_parts whole decimals l nanos is = elim (cases_Bool (fits (number_of (whole ++ without_end_zeros decimals)))) [
-  | inl small ↦ quotient_parts _ _ nanos (rw small at is)
-  | inr large ↦ absurd (cc (rw large at is))
-]
+    → IsQuotient (number_of (whole ++ decimals) * l) (10 ^ length decimals) nanos
+value_parts whole decimals l nanos is = quotient_parts _ _ nanos is
 
 -- ---- What follows the number
 

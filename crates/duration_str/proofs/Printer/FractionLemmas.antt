@@ -2,33 +2,20 @@
 use Rattle.duration_str.proofs.Common.{ahead, append_assoc, IsAscii-from_digits, cases_lt, encode_utf8_all, is_blank, IsCharBoundary, IsCharBoundary-at_seam, IsCharBoundary-start, IsUtf8, IsUtf8-append, IsUtf8-drop, IsUtf8-from_ascii, length-append, length-take-le, Rules, take-append-drop}
 use Rattle.std.proofs.lemmas.Str.{IsCharBoundary-after_ascii}
 use Rattle.std.specs.Str.{IsAscii}
-use Rattle.duration_str.specs.OneLine.{begins_with_letter, first_piece, meant_unit, unit_ahead}
-use Rattle.duration_str.proofs.Common.{[], and_from, and_parts, ap, arith, Bool, cases_Bool, drop, drop-cons, eqb-true, false, false_from_ne_true, find, fits, get_or, inl, inr, is_digit, IsTrue, length, length-drop, List, list_all, ne_eqb, None, number_after, number_of, pow-suc, refl, Some, suc, sym, take, TimeUnit, true, u64_from, units, zero, nat_tests, ℕ, ◌%◌, ◌&&◌, ◌*◌, ◌++◌, ◌+◌, ◌-◌, ◌/◌, ◌<◌, ◌==◌, ◌^◌, ◌∙◌, ◌∷◌, ◌≡◌, ◌≢◌, ◌≤◌, ◌⊎◌}
-use Rattle.std.proofs.Math.Nat.{mul-div_cancel, mul-mod_left, mul_assoc, mul_comm, mul_right_comm, pow-le-pow_right}
+use Rattle.duration_str.proofs.Common.{[], ap, arith, Bool, cases_Bool, drop, drop-cons, false, false_from_ne_true, find, fits, get_or, inl, inr, is_digit, IsTrue, length, length-drop, List, list_all, ne_eqb, None, number_after, number_of, pow-suc, refl, Some, suc, sym, take, TimeUnit, true, u64_from, units, zero, nat_tests, ℕ, ◌%◌, ◌&&◌, ◌*◌, ◌++◌, ◌+◌, ◌-◌, ◌/◌, ◌<◌, ◌==◌, ◌^◌, ◌∙◌, ◌∷◌, ◌≡◌, ◌≢◌, ◌≤◌, ◌⊎◌}
+use Rattle.std.proofs.Math.Nat.{div-lt_iff_lt-mul, le-div_iff_mul-le, le-mul_of_pos_right, mul-add-mod_self_right, mul-div_cancel, mul-mod_left, mul_assoc, mul_comm, pow-le-pow_right}
 use Rattle.std.proofs.Common.{nat_le}
 use Rattle.std.proofs.lemmas.Bool.{lt-leb}
-use Rattle.std.proofs.lemmas.List.{drop_all, get_or-drop}
+use Rattle.std.proofs.lemmas.List.{get_or-drop}
 use Rattle.std.proofs.lemmas.List.Folds.{list_all_at}
-use Rattle.std.proofs.lemmas.Nat.{div-add-mod', mul-mod, pow-add}
+use Rattle.std.proofs.lemmas.Nat.{div-add-mod', pow-add}
 use Rattle.std.specs.List.{prefix_len}
-use Rattle.duration_str.specs.Fraction.{end_run, is_whole_in, nanos_of_fraction, Table, whole_quotient, without_end_zeros}
+use Rattle.duration_str.specs.OneLine.{begins_with_letter, first_piece, meant_unit, unit_ahead}
+use Rattle.duration_str.specs.Fraction.{end_run, is_whole_in, nanos_of_fraction, Table, whole_quotient}
 use Rattle.duration_str.proofs.LawProofs.MendedBytes.{EndParts, end_parts}
-use Rattle.duration_str.proofs.Characters.NumberLemmas.{decimal_digits, number_after-append}
+use Rattle.duration_str.proofs.Characters.NumberLemmas.{decimal_digits, number_after-append, number_after-is}
 
 -- ---- Runs of bytes
-
-pub run_more : (test : ℕ → Bool) (bytes : List ℕ) (n : ℕ) → n < length bytes → test (get_or bytes n 0) ≡ true
-    → n + prefix_len test (drop n bytes) ≡ prefix_len test bytes
-    → n + 1 + prefix_len test (drop (n + 1) bytes) ≡ prefix_len test bytes
-run_more test bytes n within passes held =
-    let here : prefix_len test (drop n bytes) ≡ 1 + prefix_len test (drop (suc n) bytes) =
-    rw (drop-cons bytes n 0 within, passes) refl in
-    let next : suc n ≡ n + 1 = omega arith in
-    rw (← next) (omega (arith, held, here))
-
-pub run_all : (test : ℕ → Bool) (bytes : List ℕ) (n : ℕ) → length bytes ≤ n
-    → n + prefix_len test (drop n bytes) ≡ prefix_len test bytes → n ≡ prefix_len test bytes
-run_all test bytes n most held = omega (arith, rw (drop_all n bytes most) at held)
 
 pub run_stops : (test : ℕ → Bool) (bytes : List ℕ) (n : ℕ) → n < length bytes → test (get_or bytes n 0) ≡ false
     → n + prefix_len test (drop n bytes) ≡ prefix_len test bytes → n ≡ prefix_len test bytes
@@ -59,16 +46,6 @@ pub end_whole : (test : ℕ → Bool) (bytes : List ℕ) (n : ℕ) → n ≤ 0 �
     → end_run test bytes ≡ drop n bytes
 end_whole test bytes zero none all = end_all test bytes all
 end_whole test bytes (suc n) none all = absurd (omega (arith, none))
-
-pub zeros_none : (test : ℕ → Bool) (bytes : List ℕ) (n : ℕ) → n ≤ length bytes → end_run test bytes ≡ drop n bytes
-    → take (length bytes - length (end_run test bytes)) bytes ≡ take n bytes
-zeros_none test bytes n within is =
-    let len : length bytes - length (end_run test bytes) ≡ n = omega (arith, ap length is, length-drop n bytes) in
-    ap (λ (m : ℕ). take m bytes) len
-
-pub end_back : (test : ℕ → Bool) (bytes : List ℕ) (n : ℕ) → n < length bytes → test (get_or bytes n 0) ≡ true
-    → list_all test (drop (suc n) bytes) ≡ true → list_all test (drop n bytes) ≡ true
-end_back test bytes n within passes all = rw (drop-cons bytes n 0 within, passes, all) refl
 
 run_passes : (test : ℕ → Bool) (bytes : List ℕ) (n : ℕ) → n < prefix_len test bytes
     → (n < length bytes) × (test (get_or bytes n 0) ≡ true)
@@ -185,124 +162,119 @@ digit_small digits n digit all within is = elim (cases_Bool (is_digit (get_or di
   | inr fails ↦ absurd (cc (list_all_at is_digit digits n 0 within fails, all))
 ]
 
-pub all_taken : (test : ℕ → Bool) (n : ℕ) (bytes : List ℕ) → list_all test bytes ≡ true → list_all test (take n bytes) ≡ true
-all_taken test zero bytes all = refl
-all_taken test (suc n) [] all = refl
-all_taken test (suc n) (b ∷ bytes) all =
-    let both = and_parts (test b) (list_all test bytes) all in and_from (test b) _ both.0 (all_taken test n bytes both.1)
-
-module _ (whole decimals : List ℕ) (unit_nanos : ℕ) where
-  large_whole : fits (number_of (whole ++ without_end_zeros decimals)) ≡ false
-      → None ≡ nanos_of_fraction whole decimals unit_nanos
-  large_whole large = rw large refl
-
-  pub whole_none : None ≡ u64_from (number_after 0 whole) → None ≡ nanos_of_fraction whole decimals unit_nanos
-  whole_none is = large_whole (rw (number_after-append 0 whole (without_end_zeros decimals))
-      (fits_less _ _ (least_after (number_of whole) (without_end_zeros decimals)) (u64_none _ is)))
-
-  pub number_none : (n : ℕ) → Some n ≡ u64_from (number_after 0 whole)
-      → None ≡ u64_from (number_after n (without_end_zeros decimals)) → None ≡ nanos_of_fraction whole decimals unit_nanos
-  number_none n first is =
-      let same = (u64_some _ _ first).0 in
-      large_whole (rw (number_after-append 0 whole (without_end_zeros decimals), ← same) (u64_none _ is))
-
-  pub number_some : (n m : ℕ) → Some n ≡ u64_from (number_after 0 whole)
-      → Some m ≡ u64_from (number_after n (without_end_zeros decimals))
-      → whole_quotient (m * unit_nanos) (10 ^ length (without_end_zeros decimals)) ≡ nanos_of_fraction whole decimals unit_nanos
-  number_some n m first is =
-      let same = (u64_some _ _ first).0 in
-      let both = u64_some _ _ is in
-      let all : number_of (whole ++ without_end_zeros decimals) ≡ m =
-      number_after-append 0 whole (without_end_zeros decimals)
-      ∙ ap (λ (k : ℕ). number_after k (without_end_zeros decimals)) (sym same) ∙ sym both.0 in
-      let small : fits m ≡ true = rw (← both.0) at both.1 in
-      rw (all, small) refl
-
--- ---- Divisions by 2 and 5
-
-no_factor : (x y : ℕ) → x < 5 → y < 5 → x ≢ 0 → y ≢ 0 → x * y % 5 ≢ 0
-no_factor zero y lx ly nx ny e = absurd (nx refl)
-no_factor (suc zero) y lx ly nx ny e = ny (omega (arith, e))
-no_factor (suc (suc zero)) y lx ly nx ny e = ny (omega (arith, e))
-no_factor (suc (suc (suc zero))) y lx ly nx ny e = ny (omega (arith, e))
-no_factor (suc (suc (suc (suc zero)))) y lx ly nx ny e = ny (omega (arith, e))
-no_factor (suc (suc (suc (suc (suc x))))) y lx ly nx ny e = absurd (omega (arith, lx))
-
-no_factor_two : (x y : ℕ) → x < 2 → y < 2 → x ≢ 0 → y ≢ 0 → x * y % 2 ≢ 0
-no_factor_two zero y lx ly nx ny e = absurd (nx refl)
-no_factor_two (suc zero) y lx ly nx ny e = ny (omega (arith, e))
-no_factor_two (suc (suc x)) y lx ly nx ny e = absurd (omega (arith, lx))
-
-pub not_divided : (left right prime : ℕ) → (prime ≡ 2) ⊎ (prime ≡ 5) → left % prime ≢ 0 → right % prime ≢ 0
-    → left * right % prime ≢ 0
-not_divided left right prime (inl two) nl nr e =
-    no_factor_two (left % 2) (right % 2) (omega arith) (omega arith) (rw two at nl) (rw two at nr)
-    (sym (mul-mod left right 2) ∙ rw two at e)
-not_divided left right prime (inr five) nl nr e =
-    no_factor (left % 5) (right % 5) (omega arith) (omega arith) (rw five at nl) (rw five at nr)
-    (sym (mul-mod left right 5) ∙ rw five at e)
-
-pub divided_left : (left right prime : ℕ) → (prime ≡ 2) ⊎ (prime ≡ 5) → left % prime ≡ 0
-    → left / prime * right * prime ≡ left * right
-divided_left left right prime which none =
-    let back : left / prime * prime ≡ left = exact_quotient left prime which none in
-    mul_right_comm (left / prime) right prime ∙ ap (λ (n : ℕ). n * right) back
-  where
-    exact_quotient : (n prime : ℕ) → (prime ≡ 2) ⊎ (prime ≡ 5) → n % prime ≡ 0 → n / prime * prime ≡ n
-    exact_quotient n prime (inl two) none = rw two (omega (arith, rw two at none))
-    exact_quotient n prime (inr five) none = rw five (omega (arith, rw five at none))
-
-pub divided_right : (left right prime : ℕ) → (prime ≡ 2) ⊎ (prime ≡ 5) → right % prime ≡ 0
-    → left * (right / prime) * prime ≡ left * right
-divided_right left right prime which none =
-    ap (λ (n : ℕ). n * prime) (mul_comm left (right / prime)) ∙ divided_left right left prime which none ∙ mul_comm right left
-
-pub long_quotient : (right prime : ℕ) → (prime ≡ 2) ⊎ (prime ≡ 5) → 0 < right → right % prime ≡ 0 → 0 < right / prime
-long_quotient right prime (inl two) long none = rw two (omega (arith, rw two at none))
-long_quotient right prime (inr five) long none = rw five (omega (arith, rw five at none))
-
-pub tenth_some : (a b c d e f : ℕ) → c * d * 2 ≡ a * b → e * f * 5 ≡ c * d → e * f * 10 ≡ a * b
-tenth_some a b c d e f two five = omega (arith, two, five)
-
-pub tenth_none : (a b c d : ℕ) → c * d * 2 ≡ a * b → c * d % 5 ≢ 0 → a * b % 10 ≢ 0
-tenth_none a b c d two five e = five (omega (arith, two, e))
-
-pub tenth_odd : (n : ℕ) → n % 2 ≢ 0 → n % 10 ≢ 0
-tenth_odd n odd e = odd (omega (arith, e))
-
--- ---- Quotients by powers of 10
-
-pub power_more : (p q n i : ℕ) → q * 10 ≡ p → p * 10 ^ i ≡ n → q * 10 ^ (i + 1) ≡ n
-power_more p q n i tenth held =
-    let next : i + 1 ≡ suc i = omega arith in
-    rw (next, pow-suc 10 i) (omega (arith, held, tenth, ap (λ (x : ℕ). x * 10 ^ i) tenth))
+-- ---- The nanoseconds of a number with a fraction
 
 pub quotient_some : (p n k : ℕ) → p * 10 ^ k ≡ n → whole_quotient n (10 ^ k) ≡ u64_from p
 quotient_some p n k held =
     let some : 0 < 10 ^ k = pow-le-pow_right {n = 10} (omega arith) {i = 0} (omega arith) in
     rw (← held, mul-mod_left p (10 ^ k), mul-div_cancel p some) refl
 
-pub quotient_none : (p n i k : ℕ) → p * 10 ^ i ≡ n → i < k → p % 10 ≢ 0 → whole_quotient n (10 ^ k) ≡ None
-quotient_none p n i k held less other =
+-- A number that ends with `i` zeros and a digit other than 0 before them can't be divided more than
+-- `i` times by 10.
+pub not_whole : (p n i k : ℕ) → p * 10 ^ i ≡ n → i < k → p % 10 ≢ 0 → n % 10 ^ k ≢ 0
+not_whole p n i k held less other divides =
     let q = n / 10 ^ k in
     let j = k - i - 1 in
     let some : 0 < 10 ^ i = pow-le-pow_right {n = 10} (omega arith) {i = 0} (omega arith) in
     let power : 10 ^ k ≡ 10 ^ i * 10 * 10 ^ j =
     ap (λ (m : ℕ). 10 ^ m) (let e : k ≡ i + 1 + j = omega arith in e) ∙ pow-add 10 (i + 1) j
     ∙ ap (λ (m : ℕ). m * 10 ^ j) (pow-add 10 i 1) in
-    let divides : n % 10 ^ k ≡ 0 → ⊥ = λ e.
-    let whole : q * 10 ^ k ≡ n = omega (arith, div-add-mod' n (10 ^ k), e) in
+    let whole : q * 10 ^ k ≡ n = omega (arith, div-add-mod' n (10 ^ k), divides) in
     let back : q * 10 ^ j * 10 * 10 ^ i ≡ p * 10 ^ i =
     regroup q (10 ^ i) (10 ^ j) ∙ ap (λ (m : ℕ). q * m) (sym power) ∙ whole ∙ sym held in
     let same : q * 10 ^ j * 10 ≡ p =
     sym (mul-div_cancel (q * 10 ^ j * 10) some) ∙ ap (λ (m : ℕ). m / 10 ^ i) back ∙ mul-div_cancel p some in
-    other (rw (← same) (mul-mod_left (q * 10 ^ j) 10)) in
-    rw (false_from_ne_true (n % 10 ^ k == 0) (λ t. divides (eqb-true _ _ t))) refl
+    other (rw (← same) (mul-mod_left (q * 10 ^ j) 10))
   where
     regroup : (q a b : ℕ) → q * b * 10 * a ≡ q * (a * 10 * b)
     regroup q a b =
         ap (λ (n : ℕ). n * a) (mul_assoc q b 10) ∙ mul_assoc q (b * 10) a
         ∙ ap (λ (n : ℕ). q * n) (mul_comm (b * 10) a ∙ ap (λ (n : ℕ). a * n) (mul_comm b 10) ∙ sym (mul_assoc a 10 b))
+
+-- Digits after a number, times a unit, are the number's part and that of the digits.
+apart : (n u : ℕ) (digits : List ℕ)
+    → number_after n digits * u ≡ n * u * 10 ^ length digits + number_of digits * u
+apart n u digits = omega (arith, ap (λ (m : ℕ). m * u) (number_after-is n digits))
+
+digits_from : (digits : List ℕ) (n : ℕ) → n < length digits
+    → drop n digits ≡ get_or digits n 0 ∷ drop (n + 1) digits
+digits_from digits n within = let e : n + 1 ≡ suc n = omega arith in rw e (drop-cons digits n 0 within)
+
+module _ (digits : List ℕ) (n digit u nanos : ℕ) (within : n < length digits) (is : digit ≡ get_or digits n 0 - 48)
+    (held : nanos * 10 ^ length (drop (n + 1) digits) ≡ number_of (drop (n + 1) digits) * u) where
+  -- One more digit before the others: its nanoseconds are added, and the sum is divided by 10.
+  pub digit_before : (next : ℕ) → next * 10 ≡ nanos + digit * u
+      → next * 10 ^ length (drop n digits) ≡ number_of (drop n digits) * u
+  digit_before next tenth =
+      let later = drop (n + 1) digits in
+      let power = 10 ^ length later in
+      let first : 0 * 10 + (get_or digits n 0 - 48) ≡ digit = omega (arith, is) in
+      let number : number_of (get_or digits n 0 ∷ later) * u ≡ digit * u * power + number_of later * u =
+      ap (λ (d : ℕ). number_after d later * u) first ∙ apart digit u later in
+      let scaled : next * 10 * power ≡ (nanos + digit * u) * power = ap (λ (m : ℕ). m * power) tenth in
+      rw (digits_from digits n within)
+      (omega (arith, held, number, scaled, ap (λ (m : ℕ). next * m) (pow-suc 10 (length later))))
+
+  -- If the sum is no multiple of 10, all the digits stand for no whole number.
+  pub digit_other : (nanos + digit * u) % 10 ≢ 0 → number_of digits * u % 10 ^ length digits ≢ 0
+  digit_other other =
+      let later = drop (n + 1) digits in
+      let front = number_of (take n digits) in
+      let power = 10 ^ length later in
+      let first : front * 10 + (get_or digits n 0 - 48) ≡ front * 10 + digit = omega (arith, is) in
+      let parts : number_of digits ≡ number_after (front * 10 + digit) later =
+      ap number_of (sym (take-append-drop n digits)) ∙ number_after-append 0 (take n digits) (drop n digits)
+      ∙ ap (number_after front) (digits_from digits n within)
+      ∙ ap (λ (m : ℕ). number_after m later) first in
+      let whole : (front * u * 10 + (nanos + digit * u)) * power ≡ number_of digits * u =
+      omega (arith, held, ap (λ (m : ℕ). m * u) parts, apart (front * 10 + digit) u later) in
+      let rest : (front * u * 10 + (nanos + digit * u)) % 10 ≢ 0 = λ e. other (omega (arith, e)) in
+      not_whole _ _ (length later) (length digits) whole (omega (arith, within, length-drop (n + 1) digits)) rest
+
+module _ (whole decimals : List ℕ) (u : ℕ) where
+  number_parts : number_of (whole ++ decimals) * u ≡ number_of whole * u * 10 ^ length decimals + number_of decimals * u
+  number_parts = ap (λ (n : ℕ). n * u) (number_after-append 0 whole decimals) ∙ apart (number_of whole) u decimals
+
+  pub after_none : number_of decimals * u % 10 ^ length decimals ≢ 0 → None ≡ nanos_of_fraction whole decimals u
+  after_none other =
+      let rest : number_of (whole ++ decimals) * u % 10 ^ length decimals ≢ 0 = λ e.
+      other (sym (mul-add-mod_self_right (number_of whole * u) (10 ^ length decimals) (number_of decimals * u))
+      ∙ ap (λ (n : ℕ). n % 10 ^ length decimals) (sym number_parts) ∙ e) in
+      rw (ne_eqb _ 0 rest) refl
+
+  pub after_some : (after : ℕ) → after * 10 ^ length decimals ≡ number_of decimals * u
+      → u64_from (number_of whole * u + after) ≡ nanos_of_fraction whole decimals u
+  after_some after held =
+      sym (quotient_some (number_of whole * u + after) _ (length decimals) (omega (arith, held, number_parts)))
+
+  pub whole_none : 0 < u → (after : ℕ) → after * 10 ^ length decimals ≡ number_of decimals * u
+      → None ≡ u64_from (number_of whole) → None ≡ nanos_of_fraction whole decimals u
+  whole_none long after held none =
+      let more : number_of whole ≤ number_of whole * u + after = omega (arith, le-mul_of_pos_right (number_of whole) long) in
+      let large : fits (number_of whole * u + after) ≡ false = fits_less _ _ more (u64_none _ none) in
+      let is : None ≡ u64_from (number_of whole * u + after) = rw large refl in
+      is ∙ after_some after held
+
+  pub sum_none : 0 < u → (number after : ℕ) → after * 10 ^ length decimals ≡ number_of decimals * u
+      → Some number ≡ u64_from (number_of whole) → (2 ^ 64 - 1 - after) / u < number → after < 2 ^ 64
+      → None ≡ nanos_of_fraction whole decimals u
+  sum_none long number after held some above small =
+      let same : number ≡ number_of whole = (u64_some _ _ some).0 in
+      let past : 2 ^ 64 - 1 - after < number * u = (div-lt_iff_lt-mul long).0 above in
+      let sum : 2 ^ 64 ≤ number * u + after = omega (arith, past, small) in
+      let large : 2 ^ 64 ≤ number_of whole * u + after = rw same at sum in
+      u64_large _ large ∙ after_some after held
+
+  pub sum_some : 0 < u → (number after : ℕ) → after * 10 ^ length decimals ≡ number_of decimals * u
+      → Some number ≡ u64_from (number_of whole) → number ≤ (2 ^ 64 - 1 - after) / u → after < 2 ^ 64
+      → Some (number * u + after) ≡ nanos_of_fraction whole decimals u
+  sum_some long number after held some below small =
+      let same : number ≡ number_of whole = (u64_some _ _ some).0 in
+      let most : number * u ≤ 2 ^ 64 - 1 - after = (le-div_iff_mul-le long).0 below in
+      let less : number * u + after < 2 ^ 64 = omega (arith, most, small) in
+      let fit : fits (number * u + after) ≡ true = grind (arith, nat_tests) in
+      let is : Some (number * u + after) ≡ u64_from (number * u + after) = rw fit refl in
+      is ∙ ap (λ (n : ℕ). u64_from (n * u + after)) same ∙ after_some after held
 
 -- ---- The longest unit in which a number is whole
 

@@ -7,7 +7,7 @@ use Rattle.duration_str.specs.declared.help.Help.{Help}
 use Rattle.duration_str.specs.declared.help.Help.TheVariants.{DidYouMean, Fraction, MissingUnit, Zero}
 use Rattle.duration_str.specs.declared.mended.Mend.{Mend}
 use Rattle.duration_str.specs.declared.mended.Suggestion.{Suggestion}
-use Rattle.duration_str.specs.Fraction.{as_term, longest_whole, nanos_of_fraction, Table, whole_quotient, without_end_zeros}
+use Rattle.duration_str.specs.Fraction.{as_term, longest_whole, Table, whole_quotient}
 use Rattle.duration_str.specs.OneLine.{at_column, count_text, expected_words, first_piece, found_words, fraction_mend, fraction_with, fraction_words, help_at, help_end, mend_for, suggestion_text, unit_text, is_clear, is_like, is_plain, is_unknown_unit, missing_unit_help, help_name, near_unit, one_line_of, overflow_help, overflow_words, problem_at, quoted, quoted_end, shown, syntax_help, text_problem, unit_help}
 use Rattle.std.specs.Char.Escape.{escape_default, escape_unicode, hex_digit_at, short_escape}
 use Rattle.std.specs.Prelude.{not}
@@ -255,21 +255,14 @@ module _ (r : Rules) (u : TimeUnit) (start end : ℕ) where
     | inr other ↦ rw other ends_none
   ]
 
-  nanos_end : (whole decimals : List ℕ) (unit_nanos : ℕ) → Ends (option_map mend_at (nanos_of_fraction whole decimals unit_nanos))
-  nanos_end whole decimals unit_nanos = elim (cases_Bool (fits (number_of (whole ++ without_end_zeros decimals)))) [
-    | inl small ↦
-        let kept = without_end_zeros decimals in
-        rw small (quotient_ends (number_of (whole ++ kept) * unit_nanos) (10 ^ length kept))
-    | inr large ↦ rw large ends_none
-  ]
-
 ends_unless : (b : Bool) (mend : Option Mend) → Ends mend → Ends (if b then None else mend)
 ends_unless true mend ends = ends_none
 ends_unless false mend ends = ends
 
 with_ends : (r : Rules) (whole decimals : List ℕ) (start end : ℕ) (unit : Option (TimeUnit × ℕ))
     → Ends (fraction_with r whole decimals start end unit)
-with_ends r whole decimals start end (Some (u, more)) = nanos_end r u start (end + more) whole decimals (r.table u).nanos
+with_ends r whole decimals start end (Some (u, more)) =
+    quotient_ends r u start (end + more) (number_of (whole ++ decimals) * (r.table u).nanos) (10 ^ length decimals)
 with_ends r whole decimals start end None = ends_none
 
 fraction_ends : (r : Rules) (text : List ℕ) (place : ℕ) (expected : Expected) → Ends (fraction_mend r text place expected)
