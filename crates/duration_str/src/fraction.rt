@@ -1,17 +1,17 @@
 //! The term to write instead of a number with a fraction, such as `90min` for `1.5h`.
-ghost use Rattle.std.specs.Prelude.{◌≡◌, ◌≢◌, ◌^◌, ◌<◌, ◌≤◌, ◌+◌, ◌*◌, ◌%◌, ◌==◌, length, drop, take, IfSome, IfNone, IsTrue};
+ghost use Rattle.std.specs.Prelude.{◌≡◌, ◌≢◌, ◌^◌, ◌<◌, ◌≤◌, ◌+◌, ◌*◌, ◌%◌, ◌==◌, length, take, IfSome, IfNone, IsTrue};
 ghost use Rattle.std.specs.List.{list_all, prefix_len};
 ghost use Rattle.std.specs.Str.{chars, IsCharBoundary};
 ghost use Rattle.duration_str.specs.Fraction.{as_term, end_run, longest_whole, nanos_of_fraction};
-ghost use Rattle.duration_str.specs.Internal.Mends.{IsCutOut};
+ghost use Rattle.duration_str.specs.Internal.Mends.{IsCutOut, offered_unit};
 ghost use Rattle.duration_str.specs.Internal.Numbers.{u64_from};
 ghost use Rattle.duration_str.specs.Meaning.{meaning_of, table_of};
-ghost use Rattle.duration_str.specs.OneLine.{can_end_number, fraction_mend, meant_unit, unit_ahead};
+ghost use Rattle.duration_str.specs.OneLine.{can_end_number, fraction_mend, meant_unit, near_unit, unit_ahead};
 ghost use Rattle.duration_str.specs.Rules.{unit_of_word};
 ghost use Rattle.duration_str.specs.Text.{is_blank, is_digit, number_of};
 
 use crate::cause::Expected;
-use crate::help::{begins_with_letter, first_piece, near_unit};
+use crate::help::{Help, found_at};
 use crate::mended::{Mend, Suggestion};
 use crate::operator::CondUnit;
 use crate::packed::packed_word;
@@ -76,22 +76,30 @@ fn first_digits(bytes: &[u8]) -> &[u8]
     &bytes[..len]
 }
 
-/// Returns the unit of a number before this text, and how many bytes of the text say so.
+/// Returns the unit of the number before this text, and the length of the blanks and the word that
+/// name it. The length is 0 if the number has the default unit.
 fn unit_ahead(text: &str, rules: Rules) -> Option<(TimeUnit, usize)>
     ensures unit { result ≡ unit_ahead (meaning_of rules) text.now }
     ensures boundary { IfSome result (λ found. IsCharBoundary text.now found.1) }
 {
     let blanks = blanks_len(text.as_bytes());
-    let next = range_from(text, blanks);
-    let word = first_piece(next);
-    if begins_with_letter(word) {
-        return Some((meant_unit(word, rules)?, blanks + word.len()));
+    let found = found_at(text, blanks, UNIT_ALONE);
+    if found.is_unknown_unit {
+        let unit = meant_unit(found.piece, found.help, rules)?;
+        return Some((unit, blanks + found.piece.len()));
     }
-    if !can_end_number(next.as_bytes(), rules) {
+    if !can_end_number(range_from(text, blanks).as_bytes(), rules) {
         return None;
     }
     Some((rules.default_unit?, 0))
 }
+
+const UNIT_ALONE: Expected = Expected {
+    number: false,
+    unit_word: true,
+    operator: false,
+    text_end: false,
+};
 
 /// Returns how many blanks the bytes begin with.
 fn blanks_len(bytes: &[u8]) -> usize
@@ -104,13 +112,14 @@ fn blanks_len(bytes: &[u8]) -> usize
     len
 }
 
-/// Returns the unit that a word names, or otherwise the unit that it is near.
-fn meant_unit(word: &str, rules: Rules) -> Option<TimeUnit>
+/// Returns the unit that a word names, or otherwise the unit that it is near, which is in its help.
+fn meant_unit(word: &str, help: Option<Help>, rules: Rules) -> Option<TimeUnit>
+    requires { offered_unit help ≡ near_unit (chars word.now) }
     ensures { result ≡ meant_unit (meaning_of rules) (chars word.now) }
 {
-    match named_unit(word, rules) {
-        Some(unit) => Some(unit),
-        None => near_unit(word),
+    match (named_unit(word, rules), help) {
+        (Some(unit), _) | (None, Some(Help::DidYouMean(unit))) => Some(unit),
+        _ => None,
     }
 }
 
@@ -191,8 +200,8 @@ fn number_of(digits: &[u8]) -> Option<u64>
     Some(number)
 }
 
-/// Returns the nanoseconds as one term, in the longest unit, not longer than this one, of which
-/// they are a whole number.
+/// Returns the nanoseconds as one term. Its unit is the longest that divides them and is not longer
+/// than this one.
 fn as_term(table: UnitTable, unit: TimeUnit, nanos: u64) -> Suggestion
     ensures { result ≡ as_term (table_of table) unit nanos }
 {

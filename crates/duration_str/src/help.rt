@@ -204,7 +204,7 @@ pub(crate) fn overflow_help(text: &[u8]) -> Option<Help>
     }
 }
 
-pub(crate) fn first_piece(text: &str) -> &str
+fn first_piece(text: &str) -> &str
     ensures piece { chars result.now ≡ first_piece (chars text.now) }
     ensures short { length result.now ≤ length text.now }
 {
@@ -230,7 +230,7 @@ fn is_like(first: char, c: char) -> bool
     c.is_ascii_digit() && first.is_ascii_digit() || is_letter(c) && is_letter(first)
 }
 
-pub(crate) fn begins_with_letter(text: &str) -> bool
+fn begins_with_letter(text: &str) -> bool
     ensures { result ≡ begins_with_letter (chars text.now) }
 {
     match text.chars().next() {
@@ -240,7 +240,7 @@ pub(crate) fn begins_with_letter(text: &str) -> bool
 }
 
 #[inline(never)]
-fn is_letter(c: char) -> bool
+pub(crate) fn is_letter(c: char) -> bool
     ensures { result ≡ is_letter c }
 {
     if c.is_ascii() {
@@ -252,7 +252,7 @@ fn is_letter(c: char) -> bool
 }
 
 /// Returns the unit for which people write a word that the library's own table lacks.
-pub(crate) fn near_unit(word: &str) -> Option<TimeUnit>
+fn near_unit(word: &str) -> Option<TimeUnit>
     ensures { result ≡ near_unit (chars word.now) }
 {
     if word == "mo" || word == "mos" {

@@ -2,7 +2,7 @@
 //! The term to write instead of a number with a fraction, such as `90min` for `1.5h`.
 
 use crate::cause::Expected;
-use crate::help::{begins_with_letter, first_piece, near_unit};
+use crate::help::{Help, found_at};
 use crate::mended::{Mend, Suggestion};
 use crate::operator::CondUnit;
 use crate::packed::packed_word;
@@ -59,19 +59,27 @@ fn first_digits(bytes: &[u8]) -> &[u8] {
     &bytes[..len]
 }
 
-/// Returns the unit of a number before this text, and how many bytes of the text say so.
+/// Returns the unit of the number before this text, and the length of the blanks and the word that
+/// name it. The length is 0 if the number has the default unit.
 fn unit_ahead(text: &str, rules: Rules) -> Option<(TimeUnit, usize)> {
     let blanks = blanks_len(text.as_bytes());
-    let next = range_from(text, blanks);
-    let word = first_piece(next);
-    if begins_with_letter(word) {
-        return Some((meant_unit(word, rules)?, blanks + word.len()));
+    let found = found_at(text, blanks, UNIT_ALONE);
+    if found.is_unknown_unit {
+        let unit = meant_unit(found.piece, found.help, rules)?;
+        return Some((unit, blanks + found.piece.len()));
     }
-    if !can_end_number(next.as_bytes(), rules) {
+    if !can_end_number(range_from(text, blanks).as_bytes(), rules) {
         return None;
     }
     Some((rules.default_unit?, 0))
 }
+
+const UNIT_ALONE: Expected = Expected {
+    number: false,
+    unit_word: true,
+    operator: false,
+    text_end: false,
+};
 
 /// Returns how many blanks the bytes begin with.
 fn blanks_len(bytes: &[u8]) -> usize {
@@ -82,11 +90,11 @@ fn blanks_len(bytes: &[u8]) -> usize {
     len
 }
 
-/// Returns the unit that a word names, or otherwise the unit that it is near.
-fn meant_unit(word: &str, rules: Rules) -> Option<TimeUnit> {
-    match named_unit(word, rules) {
-        Some(unit) => Some(unit),
-        None => near_unit(word),
+/// Returns the unit that a word names, or otherwise the unit that it is near, which is in its help.
+fn meant_unit(word: &str, help: Option<Help>, rules: Rules) -> Option<TimeUnit> {
+    match (named_unit(word, rules), help) {
+        (Some(unit), _) | (None, Some(Help::DidYouMean(unit))) => Some(unit),
+        _ => None,
     }
 }
 
@@ -147,8 +155,8 @@ fn number_of(digits: &[u8]) -> Option<u64> {
     Some(number)
 }
 
-/// Returns the nanoseconds as one term, in the longest unit, not longer than this one, of which
-/// they are a whole number.
+/// Returns the nanoseconds as one term. Its unit is the longest that divides them and is not longer
+/// than this one.
 fn as_term(table: UnitTable, unit: TimeUnit, nanos: u64) -> Suggestion {
     let longest = longest_whole(table, unit, nanos);
     Suggestion {

@@ -177,7 +177,7 @@ pub(crate) fn overflow_help(text: &[u8]) -> Option<Help> {
     }
 }
 
-pub(crate) fn first_piece(text: &str) -> &str {
+fn first_piece(text: &str) -> &str {
     let mut chars = text.chars();
     let Some(first) = chars.next() else {
         return text;
@@ -198,7 +198,7 @@ fn is_like(first: char, c: char) -> bool {
     c.is_ascii_digit() && first.is_ascii_digit() || is_letter(c) && is_letter(first)
 }
 
-pub(crate) fn begins_with_letter(text: &str) -> bool {
+fn begins_with_letter(text: &str) -> bool {
     match text.chars().next() {
         Some(c) => is_letter(c),
         None => false,
@@ -206,7 +206,7 @@ pub(crate) fn begins_with_letter(text: &str) -> bool {
 }
 
 #[inline(never)]
-fn is_letter(c: char) -> bool {
+pub(crate) fn is_letter(c: char) -> bool {
     if c.is_ascii() {
         return c.is_ascii_alphabetic();
     }
@@ -216,7 +216,7 @@ fn is_letter(c: char) -> bool {
 }
 
 /// Returns the unit for which people write a word that the library's own table lacks.
-pub(crate) fn near_unit(word: &str) -> Option<TimeUnit> {
+fn near_unit(word: &str) -> Option<TimeUnit> {
     if word == "mo" || word == "mos" {
         return Some(TimeUnit::Month);
     }

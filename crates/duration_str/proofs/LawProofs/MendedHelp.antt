@@ -3,6 +3,7 @@ use Rattle.duration_str.proofs.Common.{and_parts, arith, Bool, bytes_eq, bytes_e
 use Rattle.std.specs.Prelude.{slice_index}
 use Rattle.duration_str.specs.declared.help.Help.{Help}
 use Rattle.duration_str.specs.declared.help.Help.TheVariants.{Brackets, ClockTime, DidYouMean, DigitsOnly, Division, Fraction, Iso8601, LeadingPlus, Negative, NoPoint, OneDuration, QuotationMarks, Zero}
+use Rattle.duration_str.specs.Internal.Mends.{offered_unit}
 use Rattle.duration_str.specs.OneLine.{digit_help, first_help, help_at, is_unknown_unit, missing_unit_help, near_unit, sign_help, syntax_help, unit_help}
 
 -- whether these bytes are a separator of digits
@@ -129,14 +130,30 @@ module _ (text : List ℕ) (place : ℕ) (expected : Expected) (piece : List ℕ
   reason_unit None (Some help) h near unknown = reason_placed (Some help) h
   reason_unit None None h near unknown = tt
 
+  placed : Placed (help_at expected text place (encode_utf8_all piece))
+  placed =
+      let bytes = encode_utf8_all piece in
+      help_placed (take place text) (slice_index (take place text) (length (take place text) - 1))
+      (slice_index text (place + length bytes)) bytes expected text place refl refl refl
+
   pub reason : Reason text place expected piece (syntax_help text place expected piece)
   reason =
       let help = help_at expected text place (encode_utf8_all piece) in
-      let bytes = encode_utf8_all piece in
-      let placed : Placed help =
-      help_placed (take place text) (slice_index (take place text) (length (take place text) - 1))
-      (slice_index text (place + length bytes)) bytes expected text place refl refl refl in
       elim (cases_Bool (is_unknown_unit expected piece)) [
         | inl unknown ↦ rw unknown (reason_unit (near_unit piece) help placed refl unknown)
         | inr known ↦ rw known (reason_missing help placed)
       ]
+
+  none_offered : (help : Option Help) → Placed help → offered_unit (Some (unit_help None help)) ≡ None
+  none_offered None h = refl
+  none_offered (Some (DidYouMean unit)) h = absurd h
+  none_offered (Some help) h = refl
+
+  -- For a word that is no unit, the help offers the unit that it is near.
+  pub offered_near : is_unknown_unit expected piece ≡ true
+      → offered_unit (syntax_help text place expected piece) ≡ near_unit piece
+  offered_near unknown = rw unknown (by (near_unit piece))
+    where
+      by : (unit : Option TimeUnit) → offered_unit (Some (unit_help unit (help_at expected text place (encode_utf8_all piece)))) ≡ unit
+      by (Some unit) = refl
+      by None = none_offered _ placed

@@ -1,5 +1,5 @@
 -- Lemmas about numbers with a fraction.
-use Rattle.duration_str.proofs.Common.{ahead, append_assoc, IsAscii-from_digits, cases_lt, encode_utf8_all, is_blank, IsCharBoundary, IsCharBoundary-at_seam, IsCharBoundary-start, IsUtf8, IsUtf8-append, IsUtf8-drop, IsUtf8-from_ascii, length-append, length-take-le, Rules, take-append-drop}
+use Rattle.duration_str.proofs.Common.{append_assoc, IsAscii-from_digits, cases_lt, is_blank, IsCharBoundary, IsCharBoundary-at_seam, IsCharBoundary-start, IsUtf8, IsUtf8-append, IsUtf8-drop, IsUtf8-from_ascii, length-append, length-take-le, take-append-drop}
 use Rattle.std.proofs.lemmas.Str.{IsCharBoundary-after_ascii}
 use Rattle.std.specs.Str.{IsAscii}
 use Rattle.duration_str.proofs.Common.{[], ap, arith, Bool, cases_Bool, drop, drop-cons, false, false_from_ne_true, find, fits, get_or, inl, inr, is_digit, IsTrue, length, length-drop, List, list_all, ne_eqb, None, number_after, number_of, pow-suc, refl, Some, suc, sym, take, TimeUnit, true, u64_from, units, zero, nat_tests, ℕ, ◌%◌, ◌&&◌, ◌*◌, ◌++◌, ◌+◌, ◌-◌, ◌/◌, ◌<◌, ◌==◌, ◌^◌, ◌∙◌, ◌∷◌, ◌≡◌, ◌≢◌, ◌≤◌, ◌⊎◌}
@@ -10,7 +10,6 @@ use Rattle.std.proofs.lemmas.List.{get_or-drop}
 use Rattle.std.proofs.lemmas.List.Folds.{list_all_at}
 use Rattle.std.proofs.lemmas.Nat.{div-add-mod', pow-add}
 use Rattle.std.specs.List.{prefix_len}
-use Rattle.duration_str.specs.OneLine.{begins_with_letter, first_piece, meant_unit, unit_ahead}
 use Rattle.duration_str.specs.Fraction.{end_run, is_whole_in, nanos_of_fraction, Table, whole_quotient}
 use Rattle.duration_str.proofs.LawProofs.MendedBytes.{EndParts, end_parts}
 use Rattle.duration_str.proofs.Characters.NumberLemmas.{decimal_digits, number_after-append, number_after-is}
@@ -117,12 +116,6 @@ number_start text place utf8 boundary =
     (omega (arith, len), rw e at seam)
 
 -- ---- The unit of a number with a fraction
-
-pub unit_named : (r : Rules) (text piece : List ℕ) (blanks len : ℕ) (u : TimeUnit) → blanks ≡ prefix_len is_blank text
-    → piece ≡ first_piece (ahead text blanks) → len ≡ length (encode_utf8_all piece) → begins_with_letter piece ≡ true
-    → Some u ≡ meant_unit r piece → Some (u, blanks + len) ≡ unit_ahead r text
-unit_named r text piece blanks len u run is bytes letter means =
-    rw (← run, ← is, letter, ← means, bytes) refl
 
 -- ---- Numbers
 

@@ -74,16 +74,6 @@ piece_boundary bytes piece utf8 is =
     let cut : IsCut bytes = cut_piece bytes utf8 in
     IsCharBoundary-at_seam bytes piece (encode_utf8_all cut.rest) (rw is cut.whole) cut.utf8
 
-pub piece_whole : (bytes piece : List ℕ) → IsUtf8 bytes → piece ≡ encode_utf8_all (first_piece (chars bytes))
-    → bytes ≡ piece ++ drop (length piece) bytes
-piece_whole bytes piece utf8 is =
-    let cut : IsCut bytes = cut_piece bytes utf8 in
-    let rest = encode_utf8_all cut.rest in
-    let parts : bytes ≡ piece ++ rest = rw is cut.whole in
-    let after : drop (length piece) bytes ≡ rest =
-    ap (λ (bs : List ℕ). drop (length piece) bs) parts ∙ drop-append_seam piece rest in
-    parts ∙ ap (λ (bs : List ℕ). piece ++ bs) (sym after)
-
 pub after_piece : (bytes : List ℕ) (utf8 : IsUtf8 bytes)
     → drop (length (encode_utf8_all (first_piece (chars bytes)))) bytes ≡ encode_utf8_all (cut_piece bytes utf8).rest
 after_piece bytes utf8 =

@@ -1,7 +1,10 @@
--- The part of a text that a mend replaces.
-use Rattle.std.specs.Prelude.{◌≤◌}
+-- The part of a text that a mend replaces, and the unit that a help offers.
+use Rattle.std.specs.Prelude.{◌≤◌, None, Option, Some}
 use Rattle.std.specs.Str.{IsCharBoundary}
+use Rattle.duration_str.specs.declared.help.Help.{Help}
+use Rattle.duration_str.specs.declared.help.Help.TheVariants.{DidYouMean}
 use Rattle.duration_str.specs.declared.mended.Mend.{Mend}
+use Rattle.duration_str.specs.declared.unit.TimeUnit.{TimeUnit}
 use Rattle.duration_str.specs.Text.{Bytes}
 
 -- The part starts and ends at character boundaries of the text.
@@ -9,3 +12,8 @@ pub record IsCutOut (text : Bytes) (mend : Mend) : Type 0 where
   pub starts : IsCharBoundary text mend.start
   pub ends : IsCharBoundary text mend.end
   pub ordered : mend.start ≤ mend.end
+
+-- the unit that a help asks for, if it is `DidYouMean`
+abbrev pub offered_unit : Option Help → Option TimeUnit
+offered_unit (Some (DidYouMean unit)) = Some unit
+offered_unit help = None
