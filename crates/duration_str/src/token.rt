@@ -1,5 +1,5 @@
 //! The tokens of a text: numbers, words, operators, and other single characters except blanks.
-ghost use Rattle.std.specs.Prelude.{◌≡◌, ◌+◌, ◌%◌, ◌^◌, ◌≤◌, ◌<◌, [], ◌&&◌, ◌||◌, ◌==◌, true, length, take, is_some, Option, IsSome, IsTrue, if◌then◌else◌, false, Some, IsUtf8};
+ghost use Rattle.std.specs.Prelude.{◌≡◌, ◌+◌, ◌%◌, ◌^◌, ◌≤◌, ◌<◌, [], ◌&&◌, ◌||◌, ◌==◌, true, length, take, is_some, Option, IsTrue, if◌then◌else◌, false, Some};
 ghost use Rattle.std.specs.List.{list_all};
 ghost use Rattle.std.specs.Option.{ForSome, ForNone};
 ghost use Rattle.std.specs.Str.{chars};
@@ -278,7 +278,7 @@ impl<'a> Tokens<'a> {
     {
         match sort {
             TokenStart::Number => {
-                let _ = self.take_number();
+                let _ = self.take_digits();
                 What::Number
             }
             TokenStart::Word => What::Word(self.take_word(Rules::of(self.options))),

@@ -209,7 +209,7 @@ impl<'a> Tokens<'a> {
     fn take_token(&mut self, sort: TokenStart) -> What {
         match sort {
             TokenStart::Number => {
-                let _ = self.take_number();
+                let _ = self.take_digits();
                 What::Number
             }
             TokenStart::Word => What::Word(self.take_word(Rules::of(self.options))),

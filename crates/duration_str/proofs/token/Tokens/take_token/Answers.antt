@@ -1,5 +1,5 @@
 use Rattle.duration_str.proofs.Common.{number, options_of, refl, rules_of, rules}
-use Rattle.duration_str.proofs.Cutting.StepLemmas.{other_what}
+use Rattle.duration_str.proofs.Cutting.StepLemmas.{other_what, takes_number}
 use Rattle.duration_str.proofs.token.Tokens.take_token.Goals as goal
 
 pub returns-in-Operator : goal.returns-in-Operator
@@ -14,4 +14,6 @@ returns-in-Other c =
 
 pub returns-in-Number : goal.returns-in-Number
 returns-in-Number c =
-    let taken = c.take_number.ensures in record { terminal = number taken.n; token = taken.token (rules_of (options_of c.args.self.now)); has = refl }
+    let e = c.take_digits.ensures in
+    let taken = takes_number (rw c.in-Number.is at c.requires) e.kept e.digits e.stops refl in
+    record { terminal = number taken.n; token = taken.token (rules_of (options_of c.args.self.now)); has = refl }
