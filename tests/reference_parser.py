@@ -778,8 +778,13 @@ def missing_unit_help(text, expected):
     return "MissingUnit" if text.strip(BLANKS + "0") else "Zero"
 
 
+def first_kind(text):
+    """`letter`, `digit`, or None for the end and other characters"""
+    return kind_in_line(text[0]) if text else None
+
+
 def is_unknown_unit(piece, expected):
-    return "unit" in expected and piece != "" and kind_in_line(piece[0]) == "letter"
+    return "unit" in expected and first_kind(piece) == "letter"
 
 
 def help_of(text, answer):
@@ -797,10 +802,6 @@ def help_of(text, answer):
     return name and Help(name)
 
 
-def starts_with_letter(text):
-    return text != "" and kind_in_line(text[0]) == "letter"
-
-
 def mend_of(text, answer, choice):
     """What is certain to be written instead, or None. GRAMMAR's table says it for each help."""
     found = help_of(text, answer)
@@ -815,7 +816,7 @@ def mend_of(text, answer, choice):
             return Mend(place, place, "s")
         case "LeadingPlus":
             return Mend(place, end)
-        case "NoPoint" if not starts_with_letter(text[end:]):
+        case "NoPoint" if first_kind(text[end:]) is None:
             return Mend(place, end)
         case "DigitsOnly" if piece in ("_", "'"):
             return Mend(place, end)
@@ -843,7 +844,7 @@ def fraction_mend(text, point, expected, choice):
 def unit_after(text, end, choice):
     """The unit of a number that ends there, or None, and where the word for it ends."""
     rest = text[end:].lstrip(BLANKS)
-    word = piece_at(rest, 0) if starts_with_letter(rest) else ""
+    word = piece_at(rest, 0) if first_kind(rest) == "letter" else ""
     if word:
         length = unit_of(word, choice.options)
         name = near_name(word)

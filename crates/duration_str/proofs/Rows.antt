@@ -753,7 +753,8 @@ pub record MendedRows : Type 0 where
   pub mended-plus : mended (codes "+5m") (Syntax 0 number_alone) ≡ term (codes "+") [] (codes "5m")
   pub mended-plus_and_point : mended (codes " +.5s") (Syntax 1 number_alone) ≡ pieces (codes " ") (codes "+") [] (codes ".5s")
   pub mended-point : mended (codes "5 min.") (Syntax 5 after_unit) ≡ pieces (codes "5 min") (codes ".") [] []
-  pub mended-point_before_a_digit : mended (codes "5m.5s") (Syntax 2 after_unit) ≡ pieces (codes "5m") (codes ".") [] (codes "5s")
+  pub mended-point_before_a_digit : mended (codes "5m.5s") (Syntax 2 after_unit) ≡ None
+  pub mended-point_before_a_blank : mended (codes "5m. 5s") (Syntax 2 after_unit) ≡ pieces (codes "5m") (codes ".") [] (codes " 5s")
   pub mended-point_before_a_letter : mended (codes "5m.in") (Syntax 2 after_unit) ≡ None
   pub mended-underscore : mended (codes "1_000s") (Syntax 1 after_number) ≡ pieces (codes "1") (codes "_") [] (codes "000s")
   pub mended-apostrophe : mended (codes "1'000s") (Syntax 1 after_number) ≡ pieces (codes "1") (codes "'") [] (codes "000s")

@@ -226,8 +226,8 @@ abbrev pub can_end_number : Rules → Bytes → Bool
 can_end_number r [] = true
 can_end_number r (b ∷ bytes) = not r.options.no_calc && is_some (operator_of b)
 
--- the unit of a number before these bytes, and how many of the bytes say so: the blanks and the
--- letters that they begin with, or none if the number has the default unit
+-- the unit of the number before these bytes, and the length of the blanks and the word that name
+-- it. The length is 0 if the number has the default unit
 abbrev pub unit_ahead : Rules → Bytes → Option (TimeUnit × ℕ)
 unit_ahead r bytes =
     let blanks = prefix_len is_blank bytes in
@@ -238,7 +238,8 @@ unit_ahead r bytes =
     else None
 
 -- The mend of a number with these digits before and after its point. It starts at byte `start`, its
--- digits end at byte `end`, and this is its unit, with the number of bytes that say so
+-- digits end at byte `end`, and this is its unit, with the length of the blanks and the word that
+-- name it
 abbrev pub fraction_with : Rules → Bytes → Bytes → ℕ → ℕ → Option (TimeUnit × ℕ) → Option Mend
 fraction_with r whole decimals start end (Some (u, more)) =
     option_map (λ nanos. record { start = start; end = end + more; suggestion = as_term r.table u nanos })
@@ -256,15 +257,20 @@ fraction_mend r text place expected =
     if length decimals == 0 || (length whole == 0 && not expected.number) then None
     else fraction_with r whole decimals (place - length whole) end (unit_ahead r (drop end text))
 
+-- whether a point can go that these characters follow directly: they begin with no letter, which
+-- would join the unit's word, and with no digit, since the point can begin a fraction
+abbrev pub ends_unit : Characters → Bool
+ends_unit [] = true
+ends_unit (c ∷ text) = not (is_letter c || is_digit c)
+
 -- The mend for a help, if it has one that is certain, given the bytes of the piece at byte `place`.
--- A point after a unit is not removed where letters follow it, which would join the unit's letters
 abbrev pub mend_for : Rules → Bytes → ℕ → Expected → Bytes → Option Help → Option Mend
 mend_for r text place expected piece (Some (DidYouMean unit)) =
     Some (record { start = place; end = place + length piece; suggestion = name_alone unit })
 mend_for r text place expected piece (Some Fraction) = fraction_mend r text place expected
 mend_for r text place expected piece (Some LeadingPlus) = removed_if true place (place + length piece)
 mend_for r text place expected piece (Some NoPoint) =
-    removed_if (not (begins_with_letter (chars (drop (place + length piece) text)))) place (place + length piece)
+    removed_if (ends_unit (chars (drop (place + length piece) text))) place (place + length piece)
 mend_for r text place expected piece (Some DigitsOnly) =
     removed_if (bytes_eq piece (codes "_") || bytes_eq piece (codes "'")) place (place + length piece)
 mend_for r text place expected piece (Some Iso8601) =

@@ -1,17 +1,17 @@
 //! What to write in place of a part of a refused text, and the text that this gives.
-ghost use Rattle.std.specs.Prelude.{◌≡◌, ℕ, ◌^◌, ◌<◌, ◌≤◌, ◌+◌, ◌++◌, ◌==◌, ◌||◌, not, length, take, drop, encode_utf8_all, option_map, IfSome, Some};
-ghost use Rattle.std.specs.Str.{chars, bytes_eq, IsCharBoundary};
+ghost use Rattle.std.specs.Prelude.{◌≡◌, ℕ, ◌^◌, ◌<◌, ◌≤◌, ◌+◌, ◌++◌, ◌==◌, ◌||◌, not, length, take, encode_utf8_all, option_map, IfSome, Some};
+ghost use Rattle.std.specs.Str.{chars, IsCharBoundary};
 ghost use Rattle.duration_str.specs.Buffers.{IsInFront};
 ghost use Rattle.duration_str.specs.Internal.Positions.{ahead};
 ghost use Rattle.duration_str.specs.Internal.Mends.{IsCutOut};
 ghost use Rattle.duration_str.specs.Meaning.{meaning_of};
-ghost use Rattle.duration_str.specs.OneLine.{HasPieces, begins_with_letter, first_piece, mend_for, mend_of, mended_of, pieces_of, removed_if, suggestion_of, suggestion_text, unit_text};
+ghost use Rattle.duration_str.specs.OneLine.{HasPieces, ends_unit, first_piece, mend_for, mend_of, mended_of, pieces_of, removed_if, suggestion_of, suggestion_text, unit_text};
 ghost use Rattle.duration_str.specs.declared.mended.TheConstants.{MAX_SUGGESTION_LEN};
 
 use crate::cause::{Cause, Expected};
 use crate::fault::Fault;
 use crate::fraction::fraction_mend;
-use crate::help::{Found, Help, begins_with_letter, found_at, help_name};
+use crate::help::{Found, Help, found_at, help_name, is_letter};
 use crate::message::{put, put_decimal};
 use crate::rules::Rules;
 use crate::slice::{range_from, range_to};
@@ -23,8 +23,8 @@ pub const MAX_SUGGESTION_LEN: usize = 23;
 /// The size of a buffer that has room for the text of every suggestion.
 pub const SUGGESTION_BUFFER_SIZE: usize = 24;
 
-/// What to write in place of a part of a refused text: a count and a unit, such as `90min`, or only
-/// a unit, such as `min`. It is neither if that part is only to be removed.
+/// What to write in place of a part of a refused text: a count and then a unit's name, such as
+/// `90min`, or only a name, such as `min`. It is empty if that part is to be removed.
 ///
 /// ```
 /// use duration_str::{Options, Suggestion, TimeUnit, parse_with};
@@ -109,7 +109,8 @@ pub(crate) struct Mend {
 }
 
 /// A refused text, and what to write instead of a part of it. The refused text is `front`,
-/// `replaced` and `rest`. The mended text is `front`, what the suggestion says, and `rest`.
+/// `replaced` and `rest`, one after the other. The mended text is `front`, the suggestion and
+/// `rest`.
 ///
 /// ```
 /// use duration_str::{Options, parse_with};
@@ -123,29 +124,30 @@ pub(crate) struct Mend {
 pub struct Mended<'a> {
     /// The text before the part that is replaced.
     pub front: &'a str,
-    /// The part that is replaced. It is empty if something is only inserted.
+    /// The part that is replaced. It is empty if the suggestion is to be inserted.
     pub replaced: &'a str,
-    /// What to write instead. It says nothing if the part is only removed.
+    /// What to write instead. It is empty if the part is to be removed.
     pub suggestion: Suggestion,
     /// The text after the part that is replaced.
     pub rest: &'a str,
 }
 
 impl<'a> Fault<'a> {
-    /// Returns what to write in place of a part of the text, if that is certain. These are the
-    /// rules by which the text was read.
+    /// Returns the mended text: the refused text with a suggestion in place of the part that is
+    /// wrong. It returns `None` if it isn't certain what to write. `rules` must be those with which
+    /// the text was read.
     ///
-    /// A mended text can be refused by the same rules, too, but no syntax fault is before the end
-    /// of what was written. The help says what is mended:
+    /// The mended text can be refused by these rules, too, but it has no syntax fault before the
+    /// end of the suggestion. The help says what the suggestion replaces:
     ///
     /// - `DidYouMean`: the word becomes the unit's name.
-    /// - `Fraction`: the number and its unit become one term. It has the longest unit, not longer
-    ///   than the number's own, in which its value is a whole number. `1.5h` becomes `90min`. A
-    ///   number without a unit has the default unit, and must be last or before an operator. There
-    ///   is no mend if the value is no whole number of nanoseconds, or 2^64 or more. Nor is there
-    ///   one if the digits, without the zeros at their end, write 2^64 or more.
+    /// - `Fraction`: one term replaces the number and its unit, such as `90min` for `1.5h`. Its
+    ///   unit is the longest that gives a whole number and is not longer than the one in the text.
+    ///   A number without a unit counts the default unit, if the end or an operator that is read
+    ///   follows. There is no mended text if the value is no whole number of nanoseconds, or 2^64
+    ///   nanoseconds or more.
     /// - `LeadingPlus`: the sign is removed.
-    /// - `NoPoint`: the point is removed, unless a letter follows it.
+    /// - `NoPoint`: the point is removed, unless a letter or a digit follows it directly.
     /// - `DigitsOnly`: `_` or `'` is removed.
     /// - `Iso8601`: `PT` is removed, unless `lowercase` is on.
     /// - `Zero`: `s` is inserted.
@@ -218,11 +220,22 @@ fn mend_for(
         Help::DidYouMean(unit) => Some(named(place, end, unit)),
         Help::Fraction => fraction_mend(text, place, expected, rules),
         Help::LeadingPlus => removed_if(true, place, end),
-        Help::NoPoint => removed_if(!begins_with_letter(range_from(text, end)), place, end),
+        Help::NoPoint => removed_if(ends_unit(range_from(text, end)), place, end),
         Help::DigitsOnly => removed_if(piece == "_" || piece == "'", place, end),
         Help::Iso8601 => removed_if(piece.len() == 2 && !rules.options.lowercase, place, end),
         Help::Zero => Some(named(place, place, TimeUnit::Second)),
         _ => None,
+    }
+}
+
+/// Returns whether a point can go that this text follows directly: it begins with no letter, which
+/// would join the unit's word, and with no digit, since the point can begin a fraction.
+fn ends_unit(text: &str) -> bool
+    ensures { result ≡ ends_unit (chars text.now) }
+{
+    match text.chars().next() {
+        Some(c) => !is_letter(c) && !c.is_ascii_digit(),
+        None => true,
     }
 }
 

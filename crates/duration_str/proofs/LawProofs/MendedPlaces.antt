@@ -1,12 +1,12 @@
 -- The bytes of a text before and after the place of a syntax fault, and mends there.
 use Rattle.std.specs.List.{prefix_len}
-use Rattle.duration_str.proofs.Common.{ahead, ap, append_assoc, arith, Bool, byte_len, chars, chars-append, drop, encode_utf8_all, Expected, false, is_ascii_alphabetic, is_blank, is_digit, IsBlank, IsRefused, IsTrue, IsUtf8, IsUtf8-drop, IsUtf8-take, length, length-take-le, List, meaning_of, nat_le, nat_tests, not, not-true, refl, scalars, Some, sym, Syntax, take, take-append-drop, TimeUnit, true, ℕ, ◌++◌, ◌+◌, ◌-◌, ◌||◌, ◌∙◌, ◌≡◌, ◌≤◌}
+use Rattle.duration_str.proofs.Common.{[], ahead, ap, append_assoc, arith, Bool, byte_len, chars, chars-append, drop, encode_utf8_all, Expected, false, is_ascii_alphabetic, is_blank, is_digit, IsBlank, IsRefused, IsTrue, IsUtf8, IsUtf8-drop, IsUtf8-take, length, length-take-le, List, meaning_of, nat_le, nat_tests, not, refl, scalars, Some, sym, Syntax, take, take-append-drop, TimeUnit, true, ℕ, ◌++◌, ◌+◌, ◌-◌, ◌||◌, ◌∙◌, ◌∷◌, ◌≡◌, ◌≤◌}
 use Rattle.std.specs.Prelude.{slice_index}
 use Rattle.std.proofs.lemmas.List.{drop-drop}
 use Rattle.duration_str.specs.declared.mended.Mend.{Mend}
 use Rattle.duration_str.specs.declared.rules.Rules.{Rules as CodeRules}
 use Rattle.duration_str.specs.Fraction.{end_run}
-use Rattle.duration_str.specs.OneLine.{begins_with_letter, help_name, name_alone, nothing, removed_if, suggestion_text}
+use Rattle.duration_str.specs.OneLine.{begins_with_letter, ends_unit, help_name, is_letter, name_alone, nothing, removed_if, suggestion_text}
 use Rattle.duration_str.proofs.LawProofs.MendedBytes.{blank_small, digit_small, end_cut, EndCut, ends_by_last, ends_chars, first_digit, past_small, run_parts, RunParts, small_chars, some_end}
 use Rattle.duration_str.proofs.LawProofs.MendedNames.{joined_chars, mends, name_bytes, name_read, name_scalars, written}
 use Rattle.duration_str.proofs.LawProofs.MendedNumbers.{apart_blank, apart_word, ends_in, front_begins, IsApart, joined_digits, kept}
@@ -88,11 +88,19 @@ no_digit b h = grind (arith, nat_tests)
 pub apart_at_point : (s : CodeRules) (text rest : List ℕ) (place : ℕ) → IsUtf8 (take place text)
     → (let before = take place text in
     let last = slice_index before (length before - 1) in (is_ascii_alphabetic last || nat_le 0x80 last) ≡ true)
-    → not (begins_with_letter rest) ≡ true → IsApart s.options (chars (take place text)) rest
+    → ends_unit rest ≡ true → IsApart s.options (chars (take place text)) rest
 apart_at_point s text rest place utf8 letter other =
     let before = take place text in
     let ends = ends_by_last is_digit before refl ∙ no_digit (slice_index before (length before - 1)) letter in
-    apart_word s.options (chars before) rest (ends_chars before utf8 ends) (not-true _ other)
+    apart_word s.options (chars before) rest (ends_chars before utf8 ends) (no_letter rest other)
+  where
+    neither : (a b : Bool) → not (a || b) ≡ true → a ≡ false
+    neither true b e = absurd cc
+    neither false b e = refl
+
+    no_letter : (cs : List ℕ) → ends_unit cs ≡ true → begins_with_letter cs ≡ false
+    no_letter [] e = refl
+    no_letter (c ∷ cs) e = neither (is_letter c) (is_digit c) e
 
 -- ---- A sign between digits is removed
 
