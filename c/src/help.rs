@@ -11,9 +11,10 @@ use duration_str_core::{Fault, Help, Rules, SUGGESTION_BUFFER_SIZE};
 /// there is no help, or if the text is read.
 ///
 /// If it is certain what to write in place of a part of the text, writes that to the start of the
-/// buffer, with a zero byte after it, and the part's first byte and its length to `start` and
-/// `length`. Then the text in the buffer or the part is not empty. If nothing is certain, writes
-/// the empty text and two zeros. The rest of the buffer is unchanged.
+/// buffer, with a zero byte after it, the byte at which the part starts to `start`, and its length
+/// in bytes to `length`. The text in the buffer is empty if the part is to be removed, and the
+/// length is 0 if something is to be inserted. If nothing is certain, writes the empty text and two
+/// zeros. The rest of the buffer is unchanged.
 pub fn duration_str_help(
     text: &[u8],
     options: u32,

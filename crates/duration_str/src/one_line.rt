@@ -4,13 +4,12 @@
 //! Each private function that writes returns the index where its part ends, or `None` if there is
 //! no room. So no contract requires room for a part. One proof, for the whole line, shows that
 //! everything fits.
-ghost use Rattle.std.specs.Prelude.{◌≡◌, ◌≤◌, ◌<◌, ◌++◌, ◌+◌, ◌-◌, ◌&&◌, ◌==◌, not, slice_index, length, take, map, encode_utf8_all, IsTrue, ◌||◌, None, if◌then◌else◌};
-ghost use Rattle.std.specs.Char.{digit_char, to_ascii_lowercase};
+ghost use Rattle.std.specs.Prelude.{◌≡◌, ◌≤◌, ◌<◌, ◌++◌, ◌+◌, ◌-◌, ◌&&◌, ◌==◌, not, length, take, encode_utf8_all, IsTrue, ◌||◌, None, if◌then◌else◌};
+ghost use Rattle.std.specs.Char.{digit_char};
 ghost use Rattle.std.specs.Char.Escape.{escape_unicode, short_escape};
 ghost use Rattle.std.specs.List.{list_all, list_any};
-ghost use Rattle.std.specs.Str.{chars, bytes_eq, IsCharBoundary};
+ghost use Rattle.std.specs.Str.{chars, IsCharBoundary};
 ghost use Rattle.duration_str.specs.Buffers.{IsInFront};
-ghost use Rattle.duration_str.specs.Text.{is_blank, is_digit};
 ghost use Rattle.duration_str.specs.Internal.Escapes.{hex_digits};
 ghost use Rattle.duration_str.specs.Internal.Positions.{ahead};
 ghost use Rattle.duration_str.specs.Faults.{place_of};
@@ -52,9 +51,9 @@ impl Fault<'_> {
     /// Writes the fault in one line to the start of a buffer, and returns the line. It says what is
     /// wrong, and for a syntax fault at which column, and what stands there. A quote shows at most
     /// 40 characters. In it, `"`, the backslash, control characters and most characters that can't
-    /// be seen are escaped. These are the rules by which the text was read. For a fraction they
-    /// decide what to write instead. The buffer's old contents do not matter. The call allocates
-    /// nothing and cannot fail.
+    /// be seen are escaped. `rules` must be those with which the text was read: for a fraction they
+    /// decide what the line says to write. The buffer's old contents do not matter. The call
+    /// allocates nothing and cannot fail.
     ///
     /// ```text
     /// let rules = Rules::of(Options::off());

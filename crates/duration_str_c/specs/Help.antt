@@ -1,4 +1,5 @@
--- The help for a refused text: its number, and what to write in place of which part of the text.
+-- The help for a refused text: its number, the suggestion, and the part of the text that the
+-- suggestion replaces.
 use Rattle.std.specs.Prelude.{◌≡◌, ℕ, ◌+◌, List, [], ◌∷◌, ◌++◌, length, drop, Option, Some, None}
 use Rattle.duration_str.specs.declared.help.Help.{Help}
 use Rattle.duration_str.specs.OneLine.{help_number, help_of, mended_of, Pieces}

@@ -58,9 +58,9 @@ pub fn needs_letters(text: &str, rules: Rules) -> Option<bool>
     }
 }
 
-/// Returns what a prompt offers in place of a refused text: its mended text. If the offer has a
-/// syntax fault by the same rules, then only after what was written. So the prompt can put the
-/// cursor there.
+/// Returns what a prompt offers in place of a refused text: its mended text. By the same rules the
+/// offer can have a further syntax fault, but none before the end of the suggestion. So the prompt
+/// can put the cursor there.
 ///
 /// ```text
 /// offered("5 mins 3x", Rules::of(Options::off())) // `5 `, `min` and ` 3x`
@@ -80,10 +80,10 @@ pub fn offered(text: &str, rules: Rules) -> Option<Mended<'_>>
     }
 }
 
-/// Returns the duration that a prompt takes a refused text for, if one term is written in place of
-/// the whole text. It does so for a number with a fraction and its unit, as in `1.5h`. The duration
-/// is then exact: times 10 for each digit after the point, it is the number without its point times
-/// the unit's length.
+/// Returns the duration that a prompt takes in place of a refused text, if one term is written for
+/// the whole text. So it is for a number with a fraction and its unit, such as `1.5h`. The duration
+/// is exact: multiplied by 10 for each digit after the point, it is the number without its point
+/// times the unit's length.
 ///
 /// ```text
 /// taken_for("1.5h", Rules::of(Options::off()))    // Some(Duration::from_secs(5_400))

@@ -35,9 +35,9 @@ impl Fault<'_> {
     /// Writes the fault in one line to the start of a buffer, and returns the line. It says what is
     /// wrong, and for a syntax fault at which column, and what stands there. A quote shows at most
     /// 40 characters. In it, `"`, the backslash, control characters and most characters that can't
-    /// be seen are escaped. These are the rules by which the text was read. For a fraction they
-    /// decide what to write instead. The buffer's old contents do not matter. The call allocates
-    /// nothing and cannot fail.
+    /// be seen are escaped. `rules` must be those with which the text was read: for a fraction they
+    /// decide what the line says to write. The buffer's old contents do not matter. The call
+    /// allocates nothing and cannot fail.
     ///
     /// ```text
     /// let rules = Rules::of(Options::off());
