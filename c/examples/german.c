@@ -1,4 +1,5 @@
 /* `german TEXT..` says in German what is wrong with each text, without the library's words. */
+#include <stdbool.h>
 #include <stdio.h>
 #include <string.h>
 
@@ -30,9 +31,18 @@ static const char *const kinds[] = {"einer Zahl", "einer Einheit", "+ oder *", "
 #define WORDS(list, at, other) ((at) < sizeof list / sizeof *list && list[at] ? list[at] : other)
 
 /* On a terminal, other characters can hide the line or change its order. */
+static bool is_shown(char byte) { return byte >= ' ' && byte <= '~'; }
+
+static bool are_shown(const char *text, size_t length) {
+    for (size_t at = 0; at < length; at++)
+        if (!is_shown(text[at]))
+            return false;
+    return true;
+}
+
 static void put(const char *text, size_t length) {
     for (size_t at = 0; at < length; at++)
-        putchar(text[at] >= ' ' && text[at] <= '~' ? text[at] : '?');
+        putchar(is_shown(text[at]) ? text[at] : '?');
 }
 
 static void say_syntax(const char *text, const struct duration_str_answer *answer) {
@@ -60,14 +70,14 @@ int main(int count, char **words) {
             say_syntax(words[at], &answer);
         else
             fputs(WORDS(causes, answer.cause, "keine Dauer"), stdout);
-        if (*better || replaced) {
-            fputs(" (besser „", stdout);
-            put(words[at], start);
-            fputs(better, stdout);
-            put(words[at] + start + replaced, length - start - replaced);
-            fputs("“)", stdout);
+        const char *const rest = words[at] + start + replaced;
+        const bool is_mended = *better || replaced;
+        if (is_mended && are_shown(words[at], start) && are_shown(rest, strlen(rest))) {
+            printf(" (besser „%.*s%s%s“)", (int)start, words[at], better, rest);
         } else if (*WORDS(helps, help, "")) {
             printf(" (%s)", WORDS(helps, help, ""));
+        } else if (*better) {
+            printf(" (besser „%s“)", better);
         }
         putchar('\n');
     }

@@ -48,10 +48,12 @@ function problem({ code, text, index, found, expected }) {
 
 export function inGerman(fault) {
     const { help, suggestion, mended } = fault;
-    if (mended !== null) {
-        return `${problem(fault)} (besser „${isPrintable(mended) ? mended : suggestion}“)`;
-    }
     // Later versions may have more helps.
-    const words = HELPS[help];
+    let words = HELPS[help];
+    if (mended !== null && isPrintable(mended)) {
+        words = `besser „${mended}“`;
+    } else if (suggestion && words === undefined) {
+        words = `besser „${suggestion}“`;
+    }
     return words === undefined ? problem(fault) : `${problem(fault)} (${words})`;
 }

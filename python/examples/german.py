@@ -54,7 +54,8 @@ def problem(error):
 def in_german(error):
     # Later versions may have more helps.
     words = HELPS.get(error.help)
-    if error.mended is not None:
-        better = error.mended if error.mended.isprintable() else error.suggestion
-        words = f"besser „{better}“"
+    if error.mended is not None and error.mended.isprintable():
+        words = f"besser „{error.mended}“"
+    elif error.suggestion and not words:
+        words = f"besser „{error.suggestion}“"
     return f"{problem(error)} ({words})" if words else problem(error)
