@@ -392,6 +392,7 @@ static void check_help(void) {
         {"1h, 30m", 0, DURATION_STR_HELP_ONE_DURATION, "", 0, 0},
         {"5 min.", 0, DURATION_STR_HELP_NO_POINT, "", 5, 1},
         {"5m.in", 0, DURATION_STR_HELP_NO_POINT, "", 0, 0},
+        {"5m.5s", 0, DURATION_STR_HELP_NO_POINT, "", 0, 0},
         {"(1h + 30m) * 2", 0, DURATION_STR_HELP_BRACKETS, "", 0, 0},
         {"1h / 2", 0, DURATION_STR_HELP_DIVISION, "", 0, 0},
         {"'5m'", 0, DURATION_STR_HELP_QUOTATION_MARKS, "", 0, 0},
@@ -427,9 +428,14 @@ static void check_help(void) {
             "what follows the suggestion is unchanged");
         expect(duration_str_help(row->text, length, row->options, NULL, NULL, NULL) == row->help,
             "the help without a suggestion");
-        replaced_length = 77;
+        start = replaced_length = 77;
         duration_str_help(row->text, length, row->options, NULL, NULL, &replaced_length);
         expect(replaced_length == row->replaced_length, "only the length");
+        duration_str_help(row->text, length, row->options, NULL, &start, NULL);
+        expect(start == row->start, "only the start");
+        memset(suggestion, '#', sizeof suggestion);
+        duration_str_help(row->text, length, row->options, suggestion, NULL, NULL);
+        expect(strcmp(suggestion, row->suggestion) == 0, "only the suggestion");
     }
     expect(duration_str_help(NULL, 0, 0, NULL, NULL, NULL) == DURATION_STR_HELP_NONE,
         "the help for a null text");

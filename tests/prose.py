@@ -187,9 +187,12 @@ ADVISING = {"here": [], "the module `humantime` here": ["lowercase", "require_un
 def other_advice():
     for row in rows_of_tables("docs/MIGRATING.md"):
         for column in row.keys() & ADVISING.keys():
-            told = row[column].partition("the error says to write ")[2].partition(";")[0]
-            pairs = zip(*(re.findall("`(.*?)`", cell) for cell in (row.get("text", ""), told)))
-            for text, wanted in pairs:
+            _, says, told = row[column].partition("the error says to write ")
+            texts = re.findall("`(.*?)`", row.get("text", "")) if says else []
+            advised = re.findall("`(.*?)`", told.partition(";")[0])
+            if len(texts) != len(advised):
+                yield f"docs/MIGRATING.md: not one advice for each text: {row[column]}"
+            for text, wanted in zip(texts, advised):
                 answer = reference_parser.Choice.named(ADVISING[column]).answer(text)
                 if (mended := reference_parser.mended(text, answer)) != wanted:
                     yield f"docs/MIGRATING.md: for `{text}` the reference parser has {mended}"
