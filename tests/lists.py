@@ -62,7 +62,7 @@ def camel(name):
 
 
 def describing_patterns(first, further, names):
-    """How a comment goes on that begins with `first`, which says what the list of patterns has."""
+    """The comment above the patterns of units, without its beginning `first`."""
     lowercase, cn_unit, more_names = names
     text = f"{first}without options, with `{lowercase}`, with `{cn_unit}`, and with both. "
     text += f"The last four are the same with `{more_names}`."

@@ -119,7 +119,7 @@ class Texts:
         return pieces
 
     def mendable(self, pieces):
-        """Writes what a mended text may have otherwise. The pieces are those of whole terms."""
+        """Makes a fault that may have a mended text. Each term has six pieces."""
         term = self.random.randrange(len(pieces) // 6) * 6
         number, unit = pieces[term], pieces[term + 2]
         match self.random.randrange(10):

@@ -17,15 +17,15 @@ function complete(text) {
     return text.replace(END, `${unit}${between || " "}${number}${name}`);
 }
 
-/** Each mend takes a look at the whole text, and a text that people type needs few. */
+/** A text that people type needs few mends. For each of them, the library reads the whole text. */
 const MOST_MENDS = 100;
 
-/** Writes what the library is certain of, as often as it says so. */
+/** Takes the mended text, and its mended text, and so on, until there is none. */
 function mend(text, options) {
     let mended = text;
     for (let count = 0; count < MOST_MENDS; count++) {
         const { fault } = tryParseNs(mended, options);
-        if (typeof fault?.mended !== "string") break;
+        if (fault?.mended == null) break;
         mended = fault.mended;
     }
     return mended;

@@ -152,10 +152,10 @@ unsafe extern "C" fn duration_str_help(
     replaced_length: Option<&mut MaybeUninit<usize>>,
 ) -> u32 {
     let (text, mut number) = (unsafe { bytes(text, len) }, 0);
-    let mut unwanted = [MaybeUninit::uninit(); 2];
-    let [one, other] = &mut unwanted;
-    let start = start.unwrap_or(one).write(0);
-    let replaced_length = replaced_length.unwrap_or(other).write(0);
+    let mut unwanted_start = MaybeUninit::uninit();
+    let mut unwanted_length = MaybeUninit::uninit();
+    let start = start.unwrap_or(&mut unwanted_start).write(0);
+    let replaced_length = replaced_length.unwrap_or(&mut unwanted_length).write(0);
     written(out.unwrap_or(&mut MaybeUninit::zeroed()), |buffer| {
         number = help::duration_str_help(text, bits, buffer, start, replaced_length);
         buffer.iter().take_while(|byte| **byte != 0).count()

@@ -200,8 +200,8 @@ impl Run<'_> {
     }
 
     /// Whether the answer to the input's last line gets no line end, if that line has none.
-    fn stays_open(&self, is_open: bool) -> bool {
-        is_open && (self.choices.field.is_some() || self.choices.header.is_some())
+    fn stays_open(&self, lacks_end: bool) -> bool {
+        lacks_end && (self.choices.field.is_some() || self.choices.header.is_some())
     }
 
     fn line(&mut self, line: &[u8], number: u64) -> io::Result<()> {

@@ -173,7 +173,8 @@ impl Choices {
         Err(clap::Error::raw(ErrorKind::ArgumentConflict, told))
     }
 
-    /// In a column of numbers, a refused text that stays can look like a converted one.
+    /// Returns what to print for a refused text. If `--refused` doesn't say it, a field that is
+    /// converted becomes empty, since the text could look like a converted one.
     pub fn refused(&self) -> Refused {
         let default = match (self.field, self.to) {
             (Some(_), Some(_)) if !self.sum => Refused::Empty,

@@ -1,5 +1,5 @@
-"""Columns as lists of values, and `parse_many`. NumPy, pandas and Arrow are imported only by the
-caller."""
+"""Columns as lists of values, and `parse_many`. pandas and Arrow are never imported here, and NumPy
+only for a column that has a type."""
 
 from __future__ import annotations
 
@@ -76,7 +76,8 @@ def _is_arrow(column: Any) -> bool:
 
 
 def kind_of(column: Any, takes_timedeltas: bool = True) -> Kind:
-    """Raises DurationTypeError for a column of a type that is not read, whatever its values are."""
+    """Returns the kind of a column's values. Raises DurationTypeError if its type is not read,
+    whatever its values are."""
     if type(column) is list:  # A shortcut: a list is no buffer.
         return "object"
     if isinstance(column, (str, bytes, bytearray)):

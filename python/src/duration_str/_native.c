@@ -107,8 +107,9 @@ struct text {
     size_t length;
 };
 
-/* The help for a refused text: a number of `enum duration_str_help_kind`, and what to write in
- * place of which part of the text. If that is not certain, the text and the length are empty. */
+/* The help for a refused text: a number of `enum duration_str_help_kind`, and the suggestion, with
+ * the part that it replaces. If nothing is certain, the suggestion is empty and the numbers are
+ * 0. */
 struct help {
     uint32_t number;
     char suggestion[DURATION_STR_SUGGESTION_BUFFER_SIZE];

@@ -69,7 +69,7 @@ impl Default for Options {
     }
 }
 
-/// A fault, which has the rules by which its text was read, can be kept in a set.
+/// The `Fault` of the crate `duration-str` keeps the rules, and can be kept in a set.
 impl Hash for Rules {
     fn hash<H: Hasher>(&self, state: &mut H) {
         (discriminant(&self.table), self.default_unit, self.options).hash(state);
