@@ -216,15 +216,15 @@ interface Refused {
     /** What the user may have meant, or should write instead. It is null if no help applies. */
     readonly help: Help | null;
     /**
-     * What to write in place of the part of the text that is wrong, such as `90min` for `1.5h`, if
-     * that is certain, and otherwise null. It is empty if that part is only to be removed, such as
-     * the sign of `+5m`.
+     * What to write in place of the part of the text that is wrong, such as `90min` for `1.5h`. It
+     * is the empty text if that part is to be removed, such as the sign of `+5m`. It is null if it
+     * isn't certain what to write.
      */
     readonly suggestion: string | null;
     /**
      * The text with the suggestion in place of that part, such as `2h 90s` for `2h 1.5min`, or null
-     * if there is no suggestion. If the mended text has a syntax fault under the same options, then
-     * only after the suggestion.
+     * if there is no suggestion. Under the same options the mended text can have a further syntax
+     * fault, but none before the end of the suggestion.
      */
     readonly mended: string | null;
 }

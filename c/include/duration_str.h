@@ -462,13 +462,13 @@ size_t duration_str_report(
  * the same help in words. If the line has no help, or if the text is read,
  * returns DURATION_STR_HELP_NONE, which is 0.
  *
- * If it is certain what the user should write in place of a part of the text,
- * writes that to the start of `suggestion`, such as `90min` for `1.5h`, and to
- * `*start` and `*replaced_length` where that part begins, and how many bytes it
- * has. If the part is only to be removed, such as the sign of `+5m`, writes the
- * empty text to `suggestion`. If something is only to be inserted, writes 0 to
- * `*replaced_length`. If nothing is certain, writes the empty text and two
- * zeros.
+ * If it is certain what to write in place of a part of the text, writes three
+ * things: to `suggestion` what to write, such as `90min` for `1.5h`, to
+ * `*start` the byte at which the part begins, and to `*replaced_length` its
+ * length in bytes. The suggestion is empty if the part is to be removed, such
+ * as the sign of `+5m`. The length is 0 if something is to be inserted. If
+ * nothing is certain, writes the empty text and two zeros. So there is a mended
+ * text if `*suggestion || *replaced_length`.
  *
  * `suggestion` has DURATION_STR_SUGGESTION_BUFFER_SIZE bytes. Each of the three
  * pointers may be null. */

@@ -28,7 +28,7 @@ use duration_str_core::{
 #[derive(Clone, Copy, PartialEq, Eq, Hash)]
 pub struct Fault<'a> {
     fault: proved::Fault<'a>,
-    /// The rules by which the text was read.
+    /// The rules with which the text was read.
     rules: Rules,
 }
 
@@ -127,12 +127,12 @@ impl<'a> Fault<'a> {
         self.fault.help()
     }
 
-    /// Returns the text with something else in place of the part that is wrong, if it is certain
-    /// what to write. Otherwise it returns `None`.
+    /// Returns the mended text: the refused text with a suggestion in place of the part that is
+    /// wrong. It returns `None` if it isn't certain what to write.
     ///
-    /// The mended text displays as a whole, and its fields are the pieces. If it is refused for a
-    /// syntax fault by the same rules, that is not before the end of what was written.
-    /// `docs/GRAMMAR.md` in the repository says which texts have a mended text.
+    /// The mended text displays as a whole, and its fields are the pieces. It can have a further
+    /// syntax fault, but none before the end of the suggestion. `docs/GRAMMAR.md` in the repository
+    /// says which texts have a mended text.
     ///
     /// ```
     /// use duration_str::{Options, parse_with};
@@ -143,6 +143,7 @@ impl<'a> Fault<'a> {
     /// assert_eq!((one.front, one.replaced, one.rest), ("2h ", "1.5min", " 5s"));
     /// assert_eq!(one.suggestion.to_string(), "90s");
     /// assert_eq!(mended("5 mins").unwrap().to_string(), "5 min");
+    /// assert_eq!(mended("+5m").unwrap().to_string(), "5m");
     /// assert_eq!(mended("1:30"), None);
     /// ```
     #[must_use]

@@ -106,13 +106,13 @@ class DurationError(ValueError):
     """The token at the place of a syntax fault. It is None at the end of the text, and for other
     faults."""
     suggestion: str | None
-    """What to write in place of the part of the text that is wrong, such as `90min` for `1.5h`, if
-    that is certain. It is empty if that part is only to be removed, such as the sign of `+5m`.
-    Otherwise it is None."""
+    """What to write in place of the part of the text that is wrong, such as `90min` for `1.5h`. It
+    is the empty text if that part is to be removed, such as the sign of `+5m`. It is None if it
+    isn't certain what to write."""
     mended: str | None
     """The text with the suggestion in place of that part, such as `2h 90s` for `2h 1.5min`. It is
-    None if there is no suggestion. If the mended text is refused for a syntax fault by the same
-    options, then only after the suggestion."""
+    None if there is no suggestion. Under the same options the mended text can have a further
+    syntax fault, but none before the end of the suggestion."""
     index: int | None
     """The position of the text in its column, or None if it is in no column."""
     report: str

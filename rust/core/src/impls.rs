@@ -140,7 +140,7 @@ impl fmt::Display for UnknownStyle {
 
 impl Error for UnknownStyle {}
 
-/// Prints what to write, such as `90min`. It is empty if a part of the text is only to be removed.
+/// Prints what to write, such as `90min`. It is empty if a part of the text is to be removed.
 ///
 /// ```
 /// use duration_str::{Suggestion, TimeUnit};
