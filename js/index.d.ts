@@ -222,9 +222,9 @@ interface Refused {
      */
     readonly suggestion: string | null;
     /**
-     * The text with the suggestion in place of that part, such as `2h 90s` for `2h 1.5min`, or null
-     * if there is no suggestion. Under the same options the mended text can have a further syntax
-     * fault, but none before the end of the suggestion.
+     * The text with the suggestion in place of that part, such as `2h 90s` for `2h 1.5min`. It is
+     * null if `suggestion` is null. Under the same options the mended text can have a further
+     * syntax fault, but none before the end of the suggestion.
      */
     readonly mended: string | null;
 }

@@ -111,8 +111,8 @@ class DurationError(ValueError):
     isn't certain what to write."""
     mended: str | None
     """The text with the suggestion in place of that part, such as `2h 90s` for `2h 1.5min`. It is
-    None if there is no suggestion. Under the same options the mended text can have a further
-    syntax fault, but none before the end of the suggestion."""
+    None if `suggestion` is None. Under the same options the mended text can have a further syntax
+    fault, but none before the end of the suggestion."""
     index: int | None
     """The position of the text in its column, or None if it is in no column."""
     report: str
