@@ -5,9 +5,8 @@ import re
 import textwrap
 
 from lists import camel, found
-from prose import HEADER, read, section
+from prose import HEADER, layer_of, read, section
 
-RATTLE = "crates/duration_str/src"
 TYPES = "js/index.d.ts"
 PYTHON = "python/src/duration_str"
 RUST = "rust/src/formatted.rs"
@@ -35,7 +34,7 @@ def paragraphs():
         (printing, HEADER, " of `enum duration_str_style`.\n *\n", "\n *\n", " * ", 79),
         (printing, TYPES, " from `y` to `ns`.\n *\n", "\n */", " * ", 100),
         (printing, RUST, "# What is printed\n///\n", "\n///\n", "/// ", 100),
-        (printing, f"{RATTLE}/printing.rt", "do not matter.\n///\n", "\n///\n", "/// ", 100),
+        (printing, layer_of("src/printing.rt"), "do not matter.\n///\n", "\n///\n", "/// ", 100),
         (parts, HEADER, " if you don't want\n * the rest.\n *\n", "\n *\n", " * ", 79),
         (parts, TYPES, " or a bigint\n * of nanoseconds.\n *\n", "\n *\n", " * ", 100),
         (parts, RUST, " of its magnitude.\n    ///\n", "\n    ///\n", "    /// ", 100),
@@ -83,7 +82,7 @@ def options(descriptions, sentences):
     fields = [
         filled(sentences[name], 100, "    /// ") + f"\n    pub {name}: bool," for name in switches
     ]
-    yield f"{RATTLE}/options.rt", "pub struct Options {\n", "\n}", "\n".join(fields)
+    yield layer_of("src/options.rt"), "pub struct Options {\n", "\n}", "\n".join(fields)
     rows = [f".It Cm {name}\n{in_mdoc(sentences[name])}" for name in switches]
     yield "program/durstr.1.in", "-width lowercase\n", "\n.El", "\n".join(rows)
     rows = [filled(what, 79, f"  {name:14}", " " * 16) for name, what in descriptions.items()]

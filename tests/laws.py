@@ -8,6 +8,13 @@ default unit only within another record.
 """
 import re
 
+# The files of laws, each with its crate
+FILES = (
+    ("duration_str_reading", "ReadingLaws"),
+    ("duration_str_printing", "PrintingLaws"),
+    ("duration_str", "Laws"),
+)
+
 # For each module: what is assumed of the rules `r`, and of the default unit.
 FEWER = {
     "by_own_table": ("r ≡ rules_with (r.options) (r.default_unit)", "⊤"),
@@ -17,28 +24,45 @@ FEWER = {
 
 def weaken(crates):
     """Adds these modules to `uses` in a copy of the crates."""
-    specs = (crates / "duration_str/specs/Laws.antt").read_text("utf-8")
     laws = (crates / "duration_str/src/laws.rt").read_text("utf-8")
-    # The laws whose definitions are in other files than specs/Laws.antt stay.
-    others = "".join(re.findall(r"^ghost use (?!.*\.Laws\.).*\n", laws, re.M))
+    # The laws whose definitions are in other files than these stay.
+    others = "".join(re.findall(r"^ghost use (?!.*\.\w*Laws\.).*\n", laws, re.M))
     laws = re.findall(r"^pub fn (\w+)\(\)\n(.*?)^\{\}", laws, re.M | re.S)
-    imports, *definitions = specs.replace("{Year}", "{Year, Second}").split("\n\n")
+    imports, definitions = {}, []
+    for crate, file in FILES:
+        head, *items = (crates / f"{crate}/specs/{file}.antt").read_text("utf-8").split("\n\n")
+        for path, names in re.findall(r"^use ([\w.]+)\.\{(.*)\}$", head, re.M):
+            imports.setdefault(path, {}).update(dict.fromkeys(names.split(", ")))
+        definitions += [(f"{crate}.specs.{file}", item) for item in items]
+    units = "Rattle.duration_str_units.specs.declared.unit.TimeUnit.TheVariants"
+    imports.setdefault(units, {})["Second"] = None
+    rules = imports.setdefault("Rattle.duration_str_units.specs.Rules", {})
+    rules |= dict.fromkeys(("rules_of", "rules_with"))
+    imports.setdefault("Rattle.std.specs.Prelude", {}).update(dict.fromkeys(("⊤", "Some", "◌≡◌")))
     for module, (of_rules, of_unit) in FEWER.items():
-        unchanged, weaker = [], {}
-        for definition in definitions:
+        unchanged, weaker = {}, {}
+        for file, definition in definitions:
             name = re.search(r"^(?:pub record|abbrev pub) (\w+)", definition, re.M)[1]
             text = definition.replace("(r : Rules)", f"(r : Rules) (fewer : {of_rules})")
             unit = "(default_unit : Option TimeUnit)"
             text = re.sub(rf"(?<!\) ){re.escape(unit)}", f"{unit} (fewer : {of_unit})", text)
             if text == definition or name == "IsMostWithin":
-                unchanged.append(name)
+                unchanged.setdefault(file, []).append(name)
             else:
                 weaker[name] = text
-        use = f"use Rattle.duration_str.specs.Laws.{{{', '.join(unchanged)}}}"
-        text = "\n\n".join([f"{imports}\n{use}", *weaker.values()])
+        # (a weaker law that another file cites is here)
+        cited = {
+            path: [name for name in names if name not in weaker] for path, names in imports.items()
+        }
+        uses = [f"use {path}.{{{', '.join(names)}}}" for path, names in cited.items() if names]
+        same = [f"use Rattle.{file}.{{{', '.join(names)}}}" for file, names in unchanged.items()]
+        own = [use for use in uses if not use.split(".{")[0].endswith("Laws")]
+        text = "\n\n".join(["\n".join([*own, *same]), *weaker.values()])
         (crates / f"uses/specs/{module}.antt").write_text(text, "utf-8")
         code = (
-            f"{others}ghost {use};\nghost use Rattle.uses.specs.{module}.{{{', '.join(weaker)}}};\n"
+            others
+            + "".join(f"ghost {use};\n" for use in same)
+            + f"ghost use Rattle.uses.specs.{module}.{{{', '.join(weaker)}}};\n"
         )
         for law, contract in laws:
             code += f"pub fn {law}()\n{contract}{{\n    duration_str::laws::{law}();\n}}\n"

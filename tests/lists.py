@@ -28,15 +28,15 @@ def found(pattern, name):
 
 
 def variants(name, source):
-    (body,) = found(rf"^pub enum {name} \{{([^}}]*)\}}", f"duration_str/src/{source}")
+    (body,) = found(rf"^pub enum {name} \{{([^}}]*)\}}", source)
     return re.findall(r"^    (\w+),$", body.lower(), re.M)
 
 
 # The styles and the ways of rounding are in the order of the source's enumerations, and the causes
 # in that of their numbers.
-STYLES = variants("Style", "format.rt")
-ROUNDINGS = variants("Rounding", "rounding.rt")
-(helps,) = found(r"^pub enum Help \{([^}]*)\}", "duration_str/src/help.rt")
+STYLES = variants("Style", "duration_str_printing/src/format.rt")
+ROUNDINGS = variants("Rounding", "duration_str_printing/src/rounding.rt")
+(helps,) = found(r"^pub enum Help \{([^}]*)\}", "duration_str_help/src/help.rt")
 # Each help has its comment.
 HELPS = {
     re.sub(r"(?<=[a-z])(?=[A-Z0-9])", "_", name).upper(): comment.replace("\n    /// ", " ")

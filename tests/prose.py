@@ -13,13 +13,27 @@ import reference_parser
 from reference_parser import HELP_WORDS
 
 ROOT = pathlib.Path(__file__).resolve().parent.parent
-CRATE = ROOT / "crates/duration_str"
+# The library and the crates below it
+LAYERS = (
+    "duration_str_units",
+    "duration_str_printing",
+    "duration_str_reading",
+    "duration_str_help",
+    "duration_str_refusals",
+    "duration_str",
+)
 HEADER = "c/include/duration_str.h"
 VECTORS = "rust/vectors.json"
 
 
 def read(name):
     return (ROOT / name).read_text(encoding="utf-8")
+
+
+def layer_of(name):
+    """The path of a file of the library, such as specs/Text.antt, in the crate that has it."""
+    names = [f"crates/{each}/{name}" for each in LAYERS]
+    return next(each for each in names if (ROOT / each).exists())
 
 
 def tracked_files(*patterns):
@@ -57,7 +71,7 @@ def wrong_links(name):
 
 
 def wrong_paths(name, folders):
-    near = (ROOT, (ROOT / name).parent, CRATE)
+    near = (ROOT, (ROOT / name).parent, *(ROOT / "crates" / each for each in LAYERS))
     for path in re.findall(rf"`((?:{'|'.join(folders)})/[\w./-]*)[` ]", prose(name)):
         if not any((folder / path).exists() for folder in near):
             yield f"{name}: names a path that is not there: {path}"
@@ -350,7 +364,8 @@ def other_sentences_on_proofs():
 
 
 def other_quotes():
-    names = tracked_files("crates/duration_str/src/*.rt", "crates/duration_str/specs/*.antt")
+    parts = ("src/*.rt", "specs/*.antt")
+    names = tracked_files(*(f"crates/{each}/{part}" for each in LAYERS for part in parts))
     lines = "\n".join(map(read, names)).splitlines()
     known = {" ".join(re.sub("pub |const ", "", line).split()) for line in lines}
     quoted = section("crates/duration_str/CALLING.md", "## The main contracts")

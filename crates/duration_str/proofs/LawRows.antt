@@ -1,81 +1,24 @@
 -- Rows of clauses of laws that no caller in `uses` needs: what follows from each in one case. A
 -- clause that said less would be refused here.
-use Rattle.std.specs.Prelude.{◌≡◌, ◌≢◌, ℕ, ◌*◌, ◌+◌, ◌<◌, ◌≤◌, List, [], ◌∷◌, ◌++◌, length, map, None, Some, codes, true}
-use Rattle.std.specs.Duration.{FitsDuration}
-use Rattle.duration_str.specs.Laws.{HasNoChinese, OlderTexts, OneRounding, OptionsIdle, PlaceAndKinds}
+use Rattle.std.specs.Prelude.{◌≡◌, ℕ, ◌*◌, ◌+◌, ◌≤◌, List, ◌++◌, length, map, Some, codes}
+use Rattle.duration_str.specs.Laws.{OlderTexts}
 use Rattle.duration_str.specs.Mended.{IsFraction, MendedFractions, MendedTexts}
-use Rattle.duration_str.specs.Options.{off}
-use Rattle.duration_str.specs.Reading.{IsRead, IsRefused}
-use Rattle.duration_str.specs.Answer.{last_of}
-use Rattle.duration_str.specs.Format.{IsGreatestWithin, lengths_within, whole_format}
-use Rattle.duration_str.specs.Grammar.{IsSentenceOf, operator, Terminal, terminal_of}
+use Rattle.duration_str_units.specs.Options.{off}
+use Rattle.duration_str_reading.specs.Reading.{IsRead, IsRefused}
+use Rattle.duration_str_reading.specs.Grammar.{IsSentenceOf, terminal_of}
 use Rattle.duration_str.specs.Older.{older_rules}
-use Rattle.duration_str.specs.Place.{BeginsSentence, IsFront}
-use Rattle.duration_str.specs.Printing.{weighted_sum}
-use Rattle.duration_str.specs.Rounding.{IsRounded, IsRoundedDown, IsRoundedUp, PrintsWhole}
-use Rattle.duration_str.specs.Rules.{Rules, rules_of, rules_with}
-use Rattle.duration_str.specs.declared.format.Format.{Format}
+use Rattle.duration_str_units.specs.Rules.{rules_of}
 use Rattle.std.proofs.Common.{refl}
-use Rattle.duration_str.specs.Meaning.{meaning_of}
-use Rattle.duration_str.specs.OneLine.{mended_of, Pieces}
-use Rattle.duration_str.specs.declared.cause.Cause.{Cause}
-use Rattle.duration_str.specs.declared.cause.Cause.TheVariants.{Syntax}
-use Rattle.duration_str.specs.declared.cause.Expected.{Expected}
-use Rattle.duration_str.specs.declared.rules.Rules.{Rules as CodeRules}
-use Rattle.duration_str.specs.declared.table.UnitTable.TheVariants.{Own}
-use Rattle.duration_str.specs.declared.unit.TimeUnit.TheVariants.{Hour, Second}
-use Rattle.duration_str.specs.declared.operator.CondUnit.TheVariants.{Plus, Star}
-use Rattle.duration_str.specs.declared.rounding.Rounding.TheVariants.{Nearest, Up}
+use Rattle.duration_str_units.specs.Meaning.{meaning_of}
+use Rattle.duration_str_help.specs.Mends.{mended_of, Pieces}
+use Rattle.duration_str_units.specs.declared.cause.Cause.{Cause}
+use Rattle.duration_str_units.specs.declared.cause.Cause.TheVariants.{Syntax}
+use Rattle.duration_str_units.specs.declared.cause.Expected.{Expected}
+use Rattle.duration_str_units.specs.declared.rules.Rules.{Rules as CodeRules}
+use Rattle.duration_str_units.specs.declared.table.UnitTable.TheVariants.{Own}
+use Rattle.duration_str_units.specs.declared.unit.TimeUnit.TheVariants.{Hour, Second}
 use Rattle.std.specs.Str.{chars}
 use lib.Utf8.{encode}
-
-abbrev one_part : Format
-one_part = record whole_format { parts = 1 }
-
-pub prints_whole_if_all_is_counted : (counts : List ℕ) → OneRounding
-    → IsGreatestWithin (lengths_within one_part) 1 3_600_000_000_000 counts
-    → weighted_sum (lengths_within one_part) counts ≡ 3_600_000_000_000 → PrintsWhole one_part 3_600_000_000_000
-prints_whole_if_all_is_counted counts law greatest all = (law.whole one_part 3_600_000_000_000 counts greatest).1 all
-
-pub all_is_counted_if_it_prints_whole : (counts : List ℕ) → OneRounding
-    → IsGreatestWithin (lengths_within one_part) 1 3_600_000_000_000 counts → PrintsWhole one_part 3_600_000_000_000
-    → weighted_sum (lengths_within one_part) counts ≡ 3_600_000_000_000
-all_is_counted_if_it_prints_whole counts law greatest whole =
-    (law.whole one_part 3_600_000_000_000 counts greatest).0 whole
-
-pub one_is_nearest : (m n : ℕ) → OneRounding → FitsDuration m → FitsDuration n
-    → IsRounded Nearest one_part 5_400_000_000_000 m → IsRounded Nearest one_part 5_400_000_000_000 n → m ≡ n
-one_is_nearest m n law = law.equal Nearest one_part 5_400_000_000_000 m n
-
-pub hour_is_rounded_to_itself : OneRounding → PrintsWhole one_part 3_600_000_000_000
-    → IsRounded Up one_part 3_600_000_000_000 3_600_000_000_000
-hour_is_rounded_to_itself law = law.own Up one_part 3_600_000_000_000
-
-pub none_is_between_two_hours : (other : ℕ) → OneRounding
-    → IsRoundedDown one_part 5_400_000_000_000 3_600_000_000_000
-    → IsRoundedUp one_part 5_400_000_000_000 7_200_000_000_000 → PrintsWhole one_part other
-    → 3_600_000_000_000 < other → other < 7_200_000_000_000 → ⊥
-none_is_between_two_hours other law = law.between one_part 5_400_000_000_000 3_600_000_000_000 7_200_000_000_000 other
-
-pub no_star_is_last : (r : Rules) (front : List Terminal) → PlaceAndKinds → r.options.no_calc ≡ true
-    → BeginsSentence r front → last_of None front ≢ Some (operator Star)
-no_star_is_last r front law = law.no_operator r front Star
-
-pub plus_is_no_front : PlaceAndKinds → IsFront (rules_of off) (operator Plus ∷ []) [] (operator Plus ∷ [])
-plus_is_no_front law = law.front (rules_of off) (operator Plus ∷ [])
-
-pub plus_has_one_front : (front rest : List Terminal) → PlaceAndKinds
-    → IsFront (rules_of off) (operator Plus ∷ []) front rest → front ≡ []
-plus_has_one_front front rest law is = (law.only (rules_of off) (operator Plus ∷ []) front rest is).0
-
-pub plus_has_one_rest : (front rest : List Terminal) → PlaceAndKinds
-    → IsFront (rules_of off) (operator Plus ∷ []) front rest → rest ≡ operator Plus ∷ []
-plus_has_one_rest front rest law is = (law.only (rules_of off) (operator Plus ∷ []) front rest is).1
-
-pub minute_is_read_without_cn_unit : OptionsIdle → HasNoChinese (codes "1m")
-    → IsRead (rules_with (record off { cn_unit = true }) None) (codes "1m") 60_000_000_000
-    → IsRead (rules_with off None) (codes "1m") 60_000_000_000
-minute_is_read_without_cn_unit law none = ((law.cn_unit None off (codes "1m") none).value 60_000_000_000).0
 
 pub older_lexemes_have_the_same_terminals : (lexemes : List (List ℕ)) → OlderTexts
     → IsSentenceOf (older_rules off) lexemes (codes "1m")

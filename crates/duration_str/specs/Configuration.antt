@@ -2,13 +2,13 @@
 -- off.
 use Rattle.std.specs.Prelude.{◌≡◌, ℕ, ℤ, pos, [], ◌∷◌, Bool, true, false, Option, None, IsSomeAnd, Result, Ok, chars}
 use Rattle.serde_json.specs.Data.{Data, null, string}
-use Rattle.duration_str.specs.declared.cause.Cause.TheVariants.{NotText}
-use Rattle.duration_str.specs.declared.fault.Fault.{Fault}
-use Rattle.duration_str.specs.Text.{Bytes}
-use Rattle.duration_str.specs.Options.{off}
-use Rattle.duration_str.specs.Rules.{rules_of}
+use Rattle.duration_str_units.specs.declared.cause.Cause.TheVariants.{NotText}
+use Rattle.duration_str_refusals.specs.declared.fault.Fault.{Fault}
+use Rattle.duration_str_units.specs.Text.{Bytes}
+use Rattle.duration_str_units.specs.Options.{off}
+use Rattle.duration_str_units.specs.Rules.{rules_of}
 use Rattle.duration_str.specs.OtherResults.{IsValueOrFault}
-use Rattle.duration_str.specs.Reading.{IsRead, IsRefused}
+use Rattle.duration_str_reading.specs.Reading.{IsRead, IsRefused}
 
 -- With all options off, the bytes are read, and `shows` holds for the value in `Ok` and the
 -- nanoseconds. Or they are refused for the cause in `Err`.

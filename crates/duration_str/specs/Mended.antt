@@ -1,15 +1,15 @@
 -- The laws about a text in which something else is written instead of the part that a help mends.
 use Rattle.std.specs.Prelude.{◌≡◌, ℕ, ◌+◌, ◌*◌, ◌^◌, ◌≤◌, ◌++◌, Some, IsUtf8, chars, codes, length, IsTrue}
 use Rattle.std.specs.List.{list_all}
-use Rattle.duration_str.specs.declared.cause.Cause.{Cause}
-use Rattle.duration_str.specs.declared.cause.Cause.TheVariants.{Syntax}
-use Rattle.duration_str.specs.declared.cause.Expected.{Expected}
-use Rattle.duration_str.specs.declared.rules.Rules.{Rules as CodeRules}
-use Rattle.duration_str.specs.declared.unit.TimeUnit.{TimeUnit}
-use Rattle.duration_str.specs.Meaning.{meaning_of}
-use Rattle.duration_str.specs.OneLine.{meant_unit, mended_of, Pieces}
-use Rattle.duration_str.specs.Reading.{IsRead, IsRefused}
-use Rattle.duration_str.specs.Text.{Bytes, IsBlank, is_digit, number_of}
+use Rattle.duration_str_units.specs.declared.cause.Cause.{Cause}
+use Rattle.duration_str_units.specs.declared.cause.Cause.TheVariants.{Syntax}
+use Rattle.duration_str_units.specs.declared.cause.Expected.{Expected}
+use Rattle.duration_str_units.specs.declared.rules.Rules.{Rules as CodeRules}
+use Rattle.duration_str_units.specs.declared.unit.TimeUnit.{TimeUnit}
+use Rattle.duration_str_units.specs.Meaning.{meaning_of}
+use Rattle.duration_str_help.specs.Mends.{meant_unit, mended_of, Pieces}
+use Rattle.duration_str_reading.specs.Reading.{IsRead, IsRefused}
+use Rattle.duration_str_units.specs.Text.{Bytes, IsBlank, is_digit, number_of}
 
 -- the mended text
 abbrev pub mended_text : Pieces → Bytes

@@ -1,12 +1,10 @@
 -- Results of calls that read a text: a value of any type, nanoseconds, or the number of looks.
-use Rattle.std.specs.Prelude.{◌≡◌, ℕ, ◌≤◌, Result, Ok, Err, IfOk, IfErr, IsOk, length, take, chars}
-use Rattle.duration_str.specs.declared.cause.Cause.{Cause}
-use Rattle.duration_str.specs.declared.cause.Cause.TheVariants.{Syntax}
-use Rattle.duration_str.specs.declared.cause.Expected.{Expected}
-use Rattle.duration_str.specs.declared.fault.Fault.{Fault}
-use Rattle.duration_str.specs.Text.{Bytes}
-use Rattle.duration_str.specs.Rules.{Rules}
-use Rattle.duration_str.specs.Reading.{IsRead, IsRefused}
+use Rattle.std.specs.Prelude.{◌≡◌, ℕ, Result, Ok, Err, IfOk, IfErr, IsOk, chars}
+use Rattle.duration_str_units.specs.declared.cause.Cause.{Cause}
+use Rattle.duration_str_refusals.specs.declared.fault.Fault.{Fault}
+use Rattle.duration_str_units.specs.Text.{Bytes}
+use Rattle.duration_str_units.specs.Rules.{Rules}
+use Rattle.duration_str_reading.specs.Reading.{IsRead, IsRefused}
 
 -- The result is a value for which `reads` holds, or a fault with exactly these bytes, and `refuses`
 -- holds for its cause.
@@ -19,8 +17,3 @@ pub record Reads (r : Rules) (bytes : Bytes) (result : Result ℕ Fault) : Type 
   pub read : IfOk result (IsRead r (chars bytes))
   pub accepts : (nanos : ℕ) → IsRead r (chars bytes) nanos → IsOk result
   pub refused : IfErr result (λ f. (f.text.now ≡ bytes) × IsRefused r (chars bytes) f.cause)
-
--- If the cause is a syntax fault, there are at least as many looks as characters before its place.
-abbrev pub ReachesPlace : Bytes → Cause → ℕ → Type 0
-ReachesPlace bytes cause looks =
-    (place : ℕ) (expected : Expected) → cause ≡ Syntax place expected → length (chars (take place bytes)) ≤ looks

@@ -2,10 +2,10 @@
 use Rattle.std.specs.Prelude.{◌≡◌, ℕ, ◌^◌, ◌<◌, Result, IfOk, IfErr, IsOk, chars}
 use Rattle.std.specs.Duration.{as_nanos}
 use Rattle.std.specs.declared.time.Duration.{Duration}
-use Rattle.duration_str.specs.declared.fault.Fault.{Fault}
-use Rattle.duration_str.specs.Text.{Bytes}
-use Rattle.duration_str.specs.Rules.{Rules}
-use Rattle.duration_str.specs.Reading.{IsRead, IsRefused}
+use Rattle.duration_str_refusals.specs.declared.fault.Fault.{Fault}
+use Rattle.duration_str_units.specs.Text.{Bytes}
+use Rattle.duration_str_units.specs.Rules.{Rules}
+use Rattle.duration_str_reading.specs.Reading.{IsRead, IsRefused}
 
 -- By these rules the bytes are read as the value in `Ok`, which is below 2^64 nanoseconds, or
 -- refused for the cause in `Err`, which also has the bytes. If they are read as a value, the result

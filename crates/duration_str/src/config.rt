@@ -6,13 +6,13 @@ ghost use Rattle.serde_json.specs.Data.{Data, null, string};
 ghost use Rattle.serde_json.specs.Find.{as_str};
 ghost use Rattle.serde_json.specs.View.{view};
 ghost use Rattle.duration_str.specs.Configuration.{IsRequired, IsOptional};
-ghost use Rattle.duration_str.specs.declared.cause.Cause.TheVariants.{NotText};
-ghost use Rattle.duration_str.specs.declared.fault.Fault.{Fault as PlainFault};
+ghost use Rattle.duration_str_units.specs.declared.cause.Cause.TheVariants.{NotText};
+ghost use Rattle.duration_str_refusals.specs.declared.fault.Fault.{Fault as PlainFault};
 
-use crate::cause::Cause;
-use crate::fault::Fault;
 use crate::parser::parse;
 use crate::signed::parse_chrono;
+use duration_str_refusals::fault::Fault;
+use duration_str_units::cause::Cause;
 use jiff::SignedDuration;
 use serde_json::Value;
 use std::time::Duration;
@@ -66,7 +66,7 @@ fn optional_text<'a>(value: &'a Value) -> Result<Option<&'a str>, Fault<'a>>
 impl<'de> DeserializeDuration<'de> for Duration {
     ghost gives = { IsRequired (λ d. pos (as_nanos d)) };
 
-    #[tactic(auto, using(crate::proofs::Sentences::AnswerLemmas::parses_as))]
+    #[tactic(auto, using(crate::proofs::ResultLemmas::parses_as))]
     fn deserialize_duration(value: &'de Value) -> Result<Duration, Fault<'de>> {
         match value.as_str() {
             Some(text) => parse(text),
@@ -89,7 +89,7 @@ impl<'de> DeserializeDuration<'de> for SignedDuration {
 impl<'de> DeserializeDuration<'de> for Option<Duration> {
     ghost gives = { IsOptional (λ d. pos (as_nanos d)) };
 
-    #[tactic(auto, using(crate::proofs::Sentences::AnswerLemmas::parses_as))]
+    #[tactic(auto, using(crate::proofs::ResultLemmas::parses_as))]
     fn deserialize_duration(value: &'de Value) -> Result<Option<Duration>, Fault<'de>> {
         match optional_text(value)? {
             Some(text) => parse(text).map(Some),

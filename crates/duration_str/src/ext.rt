@@ -1,10 +1,10 @@
 //! Lengths of time that can be printed into a `String`.
 ghost use Rattle.std.specs.Prelude.{◌≤◌, length, chars, ◌↔◌, IsTrue, ℤ, pos, ◌≤ℤ◌, unsigned_abs, IfOk, string_bytes};
 ghost use Rattle.std.specs.Duration.{as_nanos};
-ghost use Rattle.duration_str.specs.Printing.{IsPrinted};
-ghost use Rattle.duration_str.specs.declared.printing.TheConstants.{MAX_PRINTED_LEN};
+ghost use Rattle.duration_str_printing.specs.Printing.{IsPrinted};
+ghost use Rattle.duration_str_printing.specs.declared.printing.TheConstants.{MAX_PRINTED_LEN};
 
-use crate::printing::{HUMAN_BUFFER_SIZE, write_human};
+use duration_str_printing::printing::{HUMAN_BUFFER_SIZE, write_human};
 use std::alloc::{AllocError, Allocator};
 use std::time::Duration;
 

@@ -1,6 +1,9 @@
 //! Laws about the definitions. Each function does nothing, and its contract states a law, which is
 //! proved. In the comments, texts are read by the library's own table of units.
-ghost use Rattle.duration_str.specs.Laws.{OneSentence, OneCut, OneReading, AnswerIsReading, PlaceAndKinds, NoCalcAgrees, OptionsIdle, BlanksFree, SumOfTexts, Reorder, TwoFactors, GreatestBreakdown, EqualTexts, ReadsBack, LastLine, OlderTexts, AllParts, NeverMore, OneRounding, PartsAndRest, NearWords, MoreNames};
+ghost use Rattle.duration_str_reading.specs.ReadingLaws.{OneSentence, OneCut, OneReading, AnswerIsReading, PlaceAndKinds, NoCalcAgrees, OptionsIdle, BlanksFree, SumOfTexts, Reorder, TwoFactors};
+ghost use Rattle.duration_str_printing.specs.PrintingLaws.{GreatestBreakdown, AllParts, OneRounding, PartsAndRest};
+ghost use Rattle.duration_str.specs.Laws.{EqualTexts, ReadsBack, OlderTexts, NeverMore, NearWords, MoreNames};
+ghost use Rattle.duration_str_refusals.specs.Messages.{LastLine};
 ghost use Rattle.duration_str.specs.Mended.{MendedFractions, MendedTexts};
 
 /// At most one sentence spells a text, and the lexemes of that sentence are those of the text's
@@ -76,7 +79,7 @@ pub fn two_factors()
 
 /// Dividing by each unit in turn, and going on with the remainder, gives the greatest breakdown. So
 /// 364 days are 4 quarters, not 52 weeks.
-#[tactic(auto, using(crate::proofs::LawProofs::GreatestBreakdown::greatest_breakdown_holds))]
+#[tactic(auto, using(duration_str_printing::proofs::GreatestBreakdown::greatest_breakdown_holds))]
 pub fn greatest_breakdown()
     ensures { GreatestBreakdown }
 {}
@@ -98,7 +101,7 @@ pub fn reads_back()
 
 /// Neither a cause's line nor a fault's message ends with a line feed. So `println!` ends either of
 /// them with a single line feed.
-#[tactic(auto, using(crate::proofs::Printer::MessageLemmas::last_line_holds))]
+#[tactic(auto, using(duration_str_refusals::proofs::MessageLemmas::last_line_holds))]
 pub fn last_line()
     ensures { LastLine }
 {}
@@ -137,7 +140,7 @@ pub fn never_more()
 /// between those that another one is rounded down and up to. A duration is printed as what it is
 /// rounded down to. So 29 days in months and weeks are printed as `4w`, are rounded up to 1mon, and
 /// no duration between those prints whole.
-#[tactic(auto, using(crate::proofs::LawProofs::Rounding::one_rounding_holds))]
+#[tactic(auto, using(duration_str_printing::proofs::RoundingLemmas::one_rounding_holds))]
 pub fn one_rounding()
     ensures { OneRounding }
 {}
@@ -145,7 +148,7 @@ pub fn one_rounding()
 /// The parts that `Breakdown` has returned so far, and the nanoseconds that they leave (`rest`),
 /// are together the whole duration. So two parts of 193,029 milliseconds are 3 minutes and 13
 /// seconds, and leave 29,000,000 nanoseconds.
-#[tactic(auto, using(crate::proofs::LawProofs::PartsAndRest::parts_and_rest_hold))]
+#[tactic(auto, using(duration_str_printing::proofs::PartsAndRest::parts_and_rest_hold))]
 pub fn parts_and_rest()
     ensures { PartsAndRest }
 {}

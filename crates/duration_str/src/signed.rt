@@ -5,8 +5,8 @@ ghost use Rattle.jiff.specs.Words.{signed_nanos};
 ghost use Rattle.duration_str.specs.Configuration.{ParsesAs};
 
 use crate::ext::HumanFormat;
-use crate::fault::Fault;
 use crate::parser::parse;
+use duration_str_refusals::fault::Fault;
 use jiff::SignedDuration;
 use std::alloc::{AllocError, Allocator};
 use std::time::Duration;

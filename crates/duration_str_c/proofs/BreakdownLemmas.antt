@@ -3,17 +3,16 @@ use Rattle.std.proofs.Common.{ap, arith, eqb-true, inl, inr, List, map, Option, 
 use Rattle.std.proofs.lemmas.Bool.{cases_Bool}
 use Rattle.std.proofs.lemmas.Bool.Decides.{nat_tests}
 use Rattle.std.specs.Prelude.{Any, count_by, ⊤}
-use Rattle.duration_str.specs.Breakdown.{AreParts, ArePartsRounded, parts_left, sum_of_parts}
-use Rattle.duration_str.specs.Format.{chosen, counts_within}
-use Rattle.duration_str.specs.Internal.UnitTable.{units_of}
-use Rattle.duration_str.specs.Printing.{nonzero, weighted_sum}
-use Rattle.duration_str.specs.Units.{nanos_of, rank_of, units}
-use Rattle.duration_str.specs.declared.breakdown.Breakdown.{Breakdown}
-use Rattle.duration_str.specs.declared.format.Format.{Format}
-use Rattle.duration_str.specs.declared.format.Units.{Units}
-use Rattle.duration_str.specs.declared.rounding.Rounding.{Rounding}
-use Rattle.duration_str.specs.declared.unit.TimeUnit.{TimeUnit}
-use Rattle.duration_str.specs.declared.unit.TimeUnit.TheVariants.{Year, Quarter, Month, Week, Day, Hour, Minute, Second, MilliSecond, MicroSecond, NanoSecond}
+use Rattle.duration_str_printing.specs.Breakdown.{AreParts, ArePartsRounded, parts_left, sum_of_parts}
+use Rattle.duration_str_printing.specs.Format.{chosen, counts_within, units_of}
+use Rattle.duration_str_printing.specs.Printing.{nonzero, weighted_sum}
+use Rattle.duration_str_units.specs.Units.{nanos_of, rank_of, units}
+use Rattle.duration_str_printing.specs.declared.breakdown.Breakdown.{Breakdown}
+use Rattle.duration_str_printing.specs.declared.format.Format.{Format}
+use Rattle.duration_str_printing.specs.declared.format.Units.{Units}
+use Rattle.duration_str_printing.specs.declared.rounding.Rounding.{Rounding}
+use Rattle.duration_str_units.specs.declared.unit.TimeUnit.{TimeUnit}
+use Rattle.duration_str_units.specs.declared.unit.TimeUnit.TheVariants.{Year, Quarter, Month, Week, Day, Hour, Minute, Second, MilliSecond, MicroSecond, NanoSecond}
 use Rattle.duration_str_c.specs.Breakdown.{count_of, counts_of, IsTooLarge}
 
 -- ---- The parts come in the order of their units

@@ -4,19 +4,19 @@ use Rattle.std.specs.Prelude.{◌≡◌, ◌≤◌, ◌⊎◌, ℕ, ◌+◌, ◌
 use Rattle.std.specs.Duration.{FitsDuration}
 use Rattle.std.specs.Str.{chars}
 use Rattle.std.proofs.Common.{arith, false, inl, inr, refl, true}
-use Rattle.duration_str.proofs.Sentences.AnswerLemmas.{answer_refused, one_reading_holds}
-use Rattle.duration_str.specs.Answer.{expected_at_start}
-use Rattle.duration_str.specs.Breakdown.{ArePartsRounded, sum_of_parts}
-use Rattle.duration_str.specs.Format.{IsPrintedWithin, whole_format}
-use Rattle.duration_str.specs.OneLine.{Pieces}
-use Rattle.duration_str.specs.Reading.{IsRead, IsRefused}
-use Rattle.duration_str.specs.Rounding.{NoneAbove}
-use Rattle.duration_str.specs.declared.cause.Cause.{Cause}
-use Rattle.duration_str.specs.declared.cause.Cause.TheVariants.{Syntax}
-use Rattle.duration_str.specs.declared.cause.Expected.{Expected}
-use Rattle.duration_str.specs.declared.format.Format.{Format}
-use Rattle.duration_str.specs.declared.help.Help.TheVariants.{DidYouMean}
-use Rattle.duration_str.specs.declared.unit.TimeUnit.TheVariants.{Minute}
+use Rattle.duration_str_reading.proofs.Sentences.AnswerLemmas.{answer_refused, one_reading_holds}
+use Rattle.duration_str_reading.specs.Answer.{expected_at_start}
+use Rattle.duration_str_printing.specs.Breakdown.{ArePartsRounded, sum_of_parts}
+use Rattle.duration_str_printing.specs.Format.{IsPrintedWithin, whole_format}
+use Rattle.duration_str_help.specs.Mends.{Pieces}
+use Rattle.duration_str_reading.specs.Reading.{IsRead, IsRefused}
+use Rattle.duration_str_printing.specs.Rounding.{NoneAbove}
+use Rattle.duration_str_units.specs.declared.cause.Cause.{Cause}
+use Rattle.duration_str_units.specs.declared.cause.Cause.TheVariants.{Syntax}
+use Rattle.duration_str_units.specs.declared.cause.Expected.{Expected}
+use Rattle.duration_str_printing.specs.declared.format.Format.{Format}
+use Rattle.duration_str_help.specs.declared.help.Help.TheVariants.{DidYouMean}
+use Rattle.duration_str_units.specs.declared.unit.TimeUnit.TheVariants.{Minute}
 use Rattle.duration_str_c.specs.Answers.{rules_of_bits}
 use Rattle.duration_str_c.specs.Breakdown.{counts_of, IsBrokenDown, IsTooLarge}
 use Rattle.duration_str_c.specs.Format.{IsFormatted}

@@ -1,7 +1,7 @@
 -- A lemma about durations that can't be rounded.
 use Rattle.std.proofs.Common.{inl, inr, ℕ, ◌<◌, ◌⊎◌}
 use Rattle.std.specs.Duration.{FitsDuration}
-use Rattle.duration_str.specs.declared.format.Format.{Format}
+use Rattle.duration_str_printing.specs.declared.format.Format.{Format}
 use Rattle.duration_str_c.specs.Rounding.{NoneRounded}
 
 pub not_right : (rounding nanos : ℕ) (format : Format) → (FitsDuration nanos → ⊥) ⊎ (3 < rounding)

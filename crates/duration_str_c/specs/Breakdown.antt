@@ -1,10 +1,10 @@
 -- The counts of a duration's parts, one for each unit, and the nanoseconds that the parts leave.
 use Rattle.std.specs.Prelude.{◌≡◌, ℕ, ◌+◌, ◌^◌, ◌≤◌, ◌==◌, ◌⊎◌, Any, List, [], ◌∷◌, if◌then◌else◌, map, Option}
-use Rattle.duration_str.specs.declared.format.Format.{Format}
-use Rattle.duration_str.specs.declared.rounding.Rounding.{Rounding}
-use Rattle.duration_str.specs.declared.unit.TimeUnit.{TimeUnit}
-use Rattle.duration_str.specs.Breakdown.{ArePartsRounded, sum_of_parts}
-use Rattle.duration_str.specs.Units.{nanos_of, units}
+use Rattle.duration_str_printing.specs.declared.format.Format.{Format}
+use Rattle.duration_str_printing.specs.declared.rounding.Rounding.{Rounding}
+use Rattle.duration_str_units.specs.declared.unit.TimeUnit.{TimeUnit}
+use Rattle.duration_str_printing.specs.Breakdown.{ArePartsRounded, sum_of_parts}
+use Rattle.duration_str_units.specs.Units.{nanos_of, units}
 
 abbrev pub count_of : List (TimeUnit × ℕ) → TimeUnit → ℕ
 count_of [] u = 0

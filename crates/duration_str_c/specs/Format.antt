@@ -1,10 +1,10 @@
 -- Formats whose units are given by bits, and whose style is given by a number.
 use Rattle.std.specs.Prelude.{◌≡◌, ℕ, ◌==◌, ◌⊎◌, if◌then◌else◌, List, []}
-use Rattle.duration_str.specs.Rounding.{IsPrintedRounded}
-use Rattle.duration_str.specs.declared.format.Format.{Format}
-use Rattle.duration_str.specs.declared.format.Style.{Style}
-use Rattle.duration_str.specs.declared.format.Style.TheVariants.{Short, Compact, Long}
-use Rattle.duration_str.specs.declared.format.Units.{Units}
+use Rattle.duration_str_printing.specs.Rounding.{IsPrintedRounded}
+use Rattle.duration_str_printing.specs.declared.format.Format.{Format}
+use Rattle.duration_str_printing.specs.declared.format.Style.{Style}
+use Rattle.duration_str_printing.specs.declared.format.Style.TheVariants.{Short, Compact, Long}
+use Rattle.duration_str_printing.specs.declared.format.Units.{Units}
 use Rattle.duration_str_c.specs.Rounding.{AreRight, NoneRounded, rounding_numbered}
 
 abbrev pub style_numbered : ℕ → Style

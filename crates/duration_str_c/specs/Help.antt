@@ -1,8 +1,9 @@
 -- The help for a refused text: its number, the suggestion, and the part of the text that the
 -- suggestion replaces.
 use Rattle.std.specs.Prelude.{◌≡◌, ℕ, ◌+◌, List, [], ◌∷◌, ◌++◌, length, drop, Option, Some, None}
-use Rattle.duration_str.specs.declared.help.Help.{Help}
-use Rattle.duration_str.specs.OneLine.{help_number, help_of, mended_of, Pieces}
+use Rattle.duration_str_help.specs.declared.help.Help.{Help}
+use Rattle.duration_str_help.specs.Help.{help_number, help_of}
+use Rattle.duration_str_help.specs.Mends.{mended_of, Pieces}
 use Rattle.duration_str_c.specs.Answers.{rules_of_bits, IsTold}
 
 -- the number of a help, or 0 if there is none

@@ -1,10 +1,10 @@
 -- What is printed or broken down of a duration. The ways of rounding are numbers.
 use Rattle.std.specs.Prelude.{ℕ, ◌<◌, ◌≤◌, ◌==◌, ◌⊎◌, if◌then◌else◌, Option, None, Some}
 use Rattle.std.specs.Duration.{FitsDuration}
-use Rattle.duration_str.specs.Rounding.{NoneShown}
-use Rattle.duration_str.specs.declared.format.Format.{Format}
-use Rattle.duration_str.specs.declared.rounding.Rounding.{Rounding}
-use Rattle.duration_str.specs.declared.rounding.Rounding.TheVariants.{Down, Nearest, Up}
+use Rattle.duration_str_printing.specs.Rounding.{NoneShown}
+use Rattle.duration_str_printing.specs.declared.format.Format.{Format}
+use Rattle.duration_str_printing.specs.declared.rounding.Rounding.{Rounding}
+use Rattle.duration_str_printing.specs.declared.rounding.Rounding.TheVariants.{Down, Nearest, Up}
 
 -- The number 0 stands for a duration that is not rounded.
 abbrev pub rounding_numbered : ℕ → Option Rounding

@@ -1,7 +1,7 @@
 //! The answer to a text as a C struct: its value, or why it is refused.
 ghost use Rattle.std.specs.Prelude.{◌≡◌};
 ghost use Rattle.std.specs.Str.{chars};
-ghost use Rattle.duration_str.specs.Faults.{found_token};
+ghost use Rattle.duration_str_refusals.specs.Faults.{found_token};
 ghost use Rattle.duration_str_c.specs.Answers.{cause_number, bits_of, expected_bits, sign_code, first_sign, later_sign, token_length, value_answer, unknown_option_answer, refusal_answer, TellsFault};
 
 use duration_str::{Cause, CondUnit, Expected, Fault, Options};

@@ -1,8 +1,8 @@
 //! Durations printed in a format.
 ghost use Rattle.std.specs.Prelude.{◌≡◌, ◌+◌, ◌*◌, ◌<◌, ◌≤◌, ◌∷◌, ◌⊎◌, IfSome, IfNone, IsUtf8, take, drop};
 ghost use Rattle.std.specs.Str.{chars};
-ghost use Rattle.duration_str.specs.Format.{most_len};
-ghost use Rattle.duration_str.specs.declared.format.Style.TheVariants.{Short};
+ghost use Rattle.duration_str_printing.specs.Format.{most_len};
+ghost use Rattle.duration_str_printing.specs.declared.format.Style.TheVariants.{Short};
 ghost use Rattle.duration_str_c.specs.Format.{format_of, style_numbered, units_of, IsFormatted};
 
 use crate::put;

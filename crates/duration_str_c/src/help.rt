@@ -1,7 +1,8 @@
 //! The help for a refused text, and what to write instead.
 ghost use Rattle.std.specs.Prelude.{◌≡◌, None};
-ghost use Rattle.duration_str.specs.Meaning.{meaning_of};
-ghost use Rattle.duration_str.specs.OneLine.{help_of, mended_of};
+ghost use Rattle.duration_str_units.specs.Meaning.{meaning_of};
+ghost use Rattle.duration_str_help.specs.Help.{help_of};
+ghost use Rattle.duration_str_help.specs.Mends.{mended_of};
 ghost use Rattle.duration_str_c.specs.Help.{number_of, IsHelpShown, ShowsHelp};
 
 use crate::answer::Answer;

@@ -6,13 +6,13 @@
 ghost use Rattle.std.specs.Prelude.{◌≡◌, ℕ, ◌+◌, ◌<◌, ◌≤◌, ◌==◌, ◌∷◌, length, IsTrue, IsFalse, IfSome, IfNone, IsUtf8, take, drop};
 ghost use Rattle.std.specs.Bool.{MatchBool};
 ghost use Rattle.std.specs.Str.{chars};
-ghost use Rattle.duration_str.specs.Options.{off};
+ghost use Rattle.duration_str_units.specs.Options.{off};
 ghost use Rattle.duration_str.specs.OtherResults.{Reads};
-ghost use Rattle.duration_str.specs.Meaning.{meaning_of};
-ghost use Rattle.duration_str.specs.Rules.{rules_of};
-ghost use Rattle.duration_str.specs.Reading.{IsRead};
-ghost use Rattle.duration_str.specs.Printing.{IsPrinted};
-ghost use Rattle.duration_str.specs.declared.printing.TheConstants.{MAX_PRINTED_LEN};
+ghost use Rattle.duration_str_units.specs.Meaning.{meaning_of};
+ghost use Rattle.duration_str_units.specs.Rules.{rules_of};
+ghost use Rattle.duration_str_reading.specs.Reading.{IsRead};
+ghost use Rattle.duration_str_printing.specs.Printing.{IsPrinted};
+ghost use Rattle.duration_str_printing.specs.declared.printing.TheConstants.{MAX_PRINTED_LEN};
 ghost use Rattle.duration_str_c.specs.Answers.{are_options, default_unit_of_bits, options_of_bits, rules_of_bits, IsAnswerTo};
 
 pub mod answer;

@@ -1,12 +1,12 @@
 //! The line and the report about a refused text.
 ghost use Rattle.std.specs.Prelude.{◌≡◌, ◌+◌, ◌<◌, ◌≤◌, ◌∷◌, length, take, drop, IsUtf8, IfOk, IfErr};
 ghost use Rattle.std.specs.Str.{chars};
-ghost use Rattle.duration_str.specs.declared.one_line.TheConstants.{MAX_ONE_LINE_LEN};
-ghost use Rattle.duration_str.specs.declared.report.TheConstants.{REPORT_BUFFER_SIZE};
-ghost use Rattle.duration_str.specs.Meaning.{meaning_of};
-ghost use Rattle.duration_str.specs.OneLine.{one_line_of};
-ghost use Rattle.duration_str.specs.Report.{report_of};
-ghost use Rattle.duration_str.specs.Reading.{IsRefused};
+ghost use Rattle.duration_str_refusals.specs.declared.one_line.TheConstants.{MAX_ONE_LINE_LEN};
+ghost use Rattle.duration_str_refusals.specs.declared.report.TheConstants.{REPORT_BUFFER_SIZE};
+ghost use Rattle.duration_str_units.specs.Meaning.{meaning_of};
+ghost use Rattle.duration_str_refusals.specs.OneLine.{one_line_of};
+ghost use Rattle.duration_str_refusals.specs.Report.{report_of};
+ghost use Rattle.duration_str_reading.specs.Reading.{IsRefused};
 ghost use Rattle.duration_str_c.specs.Answers.{AreOptions, IsAnswerTo, rules_of_bits};
 ghost use Rattle.duration_str_c.specs.Messages.{IsShown, IsSaidOf, ShowsRefusal};
 

@@ -3,15 +3,15 @@
 use Rattle.std.specs.Prelude.{◌≡◌, ℕ, ◌-◌, ◌%◌, ◌^◌, List, None, codes, pos}
 use Rattle.std.specs.Str.{chars}
 use Rattle.std.proofs.Common.{false, refl, true}
-use Rattle.duration_str.proofs.Sentences.AnswerLemmas.{answer_refused, one_reading_holds}
-use Rattle.duration_str.specs.Breakdown.{ArePartsRounded, sum_of_parts}
-use Rattle.duration_str.specs.Format.{set_of, whole_format}
-use Rattle.duration_str.specs.Reading.{IsRefused}
-use Rattle.duration_str.specs.Report.{report_of}
-use Rattle.duration_str.specs.declared.cause.Cause.{Cause}
-use Rattle.duration_str.specs.declared.cause.Cause.TheVariants.{Syntax}
-use Rattle.duration_str.specs.declared.cause.Expected.{Expected}
-use Rattle.duration_str.specs.declared.format.Units.{Units}
+use Rattle.duration_str_reading.proofs.Sentences.AnswerLemmas.{answer_refused, one_reading_holds}
+use Rattle.duration_str_printing.specs.Breakdown.{ArePartsRounded, sum_of_parts}
+use Rattle.duration_str_printing.specs.Format.{set_of, whole_format}
+use Rattle.duration_str_reading.specs.Reading.{IsRefused}
+use Rattle.duration_str_refusals.specs.Report.{report_of}
+use Rattle.duration_str_units.specs.declared.cause.Cause.{Cause}
+use Rattle.duration_str_units.specs.declared.cause.Cause.TheVariants.{Syntax}
+use Rattle.duration_str_units.specs.declared.cause.Expected.{Expected}
+use Rattle.duration_str_printing.specs.declared.format.Units.{Units}
 use Rattle.duration_str_js.specs.Printing.{IsCounted, units_among, with_counts}
 use Rattle.duration_str_js.specs.Reading.{IsReported, rules_of_bits}
 use Rattle.duration_str_js.specs.declared.reading.Refusal.{Refusal}

@@ -1,16 +1,16 @@
 -- How a duration is printed or counted in a format that numbers stand for.
 use Rattle.std.specs.Prelude.{◌≡◌, ℕ, ◌-◌, ◌%◌, ◌^◌, ◌==◌, nat_lt, List, [], ◌∷◌, map, Option, None, Some, slice_set, if◌then◌else◌}
-use Rattle.duration_str.specs.declared.format.Format.{Format}
-use Rattle.duration_str.specs.declared.format.Style.{Style}
-use Rattle.duration_str.specs.declared.format.Style.TheVariants.{Short, Compact, Long}
-use Rattle.duration_str.specs.declared.format.TheConstants.Units.{ALL}
-use Rattle.duration_str.specs.declared.format.Units.{Units}
-use Rattle.duration_str.specs.declared.rounding.Rounding.{Rounding}
-use Rattle.duration_str.specs.declared.rounding.Rounding.TheVariants.{Down, Nearest, Up}
-use Rattle.duration_str.specs.declared.unit.TimeUnit.{TimeUnit}
-use Rattle.duration_str.specs.Breakdown.{ArePartsRounded, sum_of_parts}
-use Rattle.duration_str.specs.Format.{set_of}
-use Rattle.duration_str.specs.Units.{rank_of}
+use Rattle.duration_str_printing.specs.declared.format.Format.{Format}
+use Rattle.duration_str_printing.specs.declared.format.Style.{Style}
+use Rattle.duration_str_printing.specs.declared.format.Style.TheVariants.{Short, Compact, Long}
+use Rattle.duration_str_printing.specs.declared.format.TheConstants.Units.{ALL}
+use Rattle.duration_str_printing.specs.declared.format.Units.{Units}
+use Rattle.duration_str_printing.specs.declared.rounding.Rounding.{Rounding}
+use Rattle.duration_str_printing.specs.declared.rounding.Rounding.TheVariants.{Down, Nearest, Up}
+use Rattle.duration_str_units.specs.declared.unit.TimeUnit.{TimeUnit}
+use Rattle.duration_str_printing.specs.Breakdown.{ArePartsRounded, sum_of_parts}
+use Rattle.duration_str_printing.specs.Format.{set_of}
+use Rattle.duration_str_units.specs.Units.{rank_of}
 
 abbrev pub style_numbered : ℕ → Style
 style_numbered number = if number == 0 then Short else if number == 1 then Compact else Long

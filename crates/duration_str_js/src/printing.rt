@@ -1,11 +1,11 @@
 //! The calls that print and count.
 ghost use Rattle.std.specs.Prelude.{◌≡◌, ◌+◌, ◌%◌, ◌^◌, ◌<◌, IfNone, IfSome};
 ghost use Rattle.std.specs.Str.{chars};
-ghost use Rattle.duration_str.specs.Breakdown.{nanos_left, parts_left, sum_of_parts};
-ghost use Rattle.duration_str.specs.Format.{set_of};
-ghost use Rattle.duration_str.specs.declared.format.Style.TheVariants.{Short};
-ghost use Rattle.duration_str.specs.Rounding.{IsPrintedRounded, NoneShown};
-ghost use Rattle.duration_str.specs.Units.{rank_of};
+ghost use Rattle.duration_str_printing.specs.Breakdown.{nanos_left, parts_left, sum_of_parts};
+ghost use Rattle.duration_str_printing.specs.Format.{set_of};
+ghost use Rattle.duration_str_printing.specs.declared.format.Style.TheVariants.{Short};
+ghost use Rattle.duration_str_printing.specs.Rounding.{IsPrintedRounded, NoneShown};
+ghost use Rattle.duration_str_units.specs.Units.{rank_of};
 ghost use Rattle.duration_str_js.specs.declared.printing.TheConstants.{UNIT_COUNT};
 ghost use Rattle.duration_str_js.specs.Printing.{IsCounted, format_of, rounding_numbered, style_numbered, units_of, units_among, with_counts};
 

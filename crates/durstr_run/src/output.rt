@@ -2,7 +2,7 @@
 ghost use Rattle.std.specs.Prelude.{◌≡◌, ℕ, ◌^◌, ◌<◌, List, [], ◌∷◌, ◌++◌, IfOk, OnOk, OnErr, IfSome, IfNone, IsUtf8, decimal, encode_utf8_all, string_bytes};
 ghost use Rattle.std.specs.Duration.{as_nanos};
 ghost use Rattle.std.specs.Io.KnownBytes.{Appends};
-ghost use Rattle.duration_str.specs.Printing.{IsPrinted};
+ghost use Rattle.duration_str_printing.specs.Printing.{IsPrinted};
 ghost use Rattle.durstr_run.specs.Running.{WritesFront};
 ghost use Rattle.durstr_run.specs.Output.{IsLineOutput, IsOutput};
 

@@ -1,4 +1,4 @@
-pub use Rattle.duration_str.proofs.Characters.CharacterLemmas.{run-not_blank}
+pub use Rattle.duration_str_reading.proofs.Cutting.RunLemmas.{run-not_blank}
 pub use Rattle.std.proofs.lemmas.Bool.{true≢false}
 pub use Rattle.std.proofs.lemmas.List.{reverse-reverse}
 pub use Rattle.std.proofs.lemmas.List.Sorted.{IsNonDecreasingBy-from_sort_by_key, IsPermutation-sym, IsPermutation-trans, sum_by-IsPermutation}

@@ -1,18 +1,17 @@
 -- Lemmas about a text that is refused for a syntax fault.
-use Rattle.std.proofs.Common.{append-nil, ap, arith, eqb-true, Err, false, List, None, Ok, Option, refl, Result, rules, Some, true, ℕ, ◌&&◌, ◌++◌, ◌∙◌, ◌∷◌, ◌==◌, ◌≡◌, []}
+use Rattle.std.proofs.Common.{append-nil, ap, arith, eqb-true, Err, false, List, None, Ok, Option, refl, Result, rules, Some, true, ℕ, ◌&&◌, ◌++◌, ◌∙◌, ◌∷◌, ◌==◌, ◌≡◌, [], chars, IfSome, IsUtf8, length, ◌*◌, ◌+◌, ◌^◌, ◌≤◌}
 use Rattle.duration_str.proofs.Common.{CanFollow, early, expected_after, IsRead, IsRefused, IsRefusedAt, last_of, late, number, number_of, OneReading, operator, other, PlaceAndKinds, Rules, syntax_fault, Terminal, word}
-use Rattle.duration_str.proofs.OnePass.PlaceLemmas.{early_stands, late_stands}
+use Rattle.duration_str_reading.proofs.OnePass.PlaceLemmas.{early_stands, late_stands}
 use Rattle.std.specs.Result.{result_ok}
 use Rattle.duration_str.specs.Results.{Parses}
 use Rattle.uses.specs.Common.{as_nanos, Duration, Fault}
 use Rattle.uses.proofs.Common.{Cause, Expected, Syntax}
-use Rattle.std.proofs.Common.{chars, IfSome, IsUtf8, length, ◌*◌, ◌+◌, ◌^◌, ◌≤◌}
-use Rattle.duration_str.specs.declared.mended.Mended.{Mended}
-use Rattle.duration_str.specs.declared.rules.Rules.{Rules as CodeRules}
-use Rattle.duration_str.specs.Meaning.{meaning_of}
-use Rattle.duration_str.specs.declared.unit.TimeUnit.{TimeUnit}
+use Rattle.duration_str_help.specs.declared.mended.Mended.{Mended}
+use Rattle.duration_str_units.specs.declared.rules.Rules.{Rules as CodeRules}
+use Rattle.duration_str_units.specs.Meaning.{meaning_of}
+use Rattle.duration_str_units.specs.declared.unit.TimeUnit.{TimeUnit}
 use Rattle.duration_str.specs.Mended.{IsFraction, MendedFractions, MendedTexts}
-use Rattle.duration_str.specs.OneLine.{HasPieces, mended_of, suggestion_text}
+use Rattle.duration_str_help.specs.Mends.{HasPieces, mended_of, suggestion_text}
 
 refused_at : (r : Rules) (at : ℕ) (front rest : List Terminal) (cause : Cause) (place : ℕ) (expected : Expected)
     → IsRefusedAt r at front rest cause → cause ≡ Syntax place expected → CanFollow r front expected

@@ -1,16 +1,16 @@
 -- The time that is left, as it is shown.
 use Rattle.std.specs.Prelude.{◌≡◌, ℕ, ◌^◌, ◌<◌, ◌≤◌, List, Option}
-use Rattle.duration_str.specs.declared.format.Format.{Format}
-use Rattle.duration_str.specs.declared.format.TheConstants.Units.{ALL}
-use Rattle.duration_str.specs.declared.options.Options.{Options}
-use Rattle.duration_str.specs.declared.unit.TimeUnit.{TimeUnit}
-use Rattle.duration_str.specs.declared.unit.TimeUnit.TheVariants.{Second}
-use Rattle.duration_str.specs.Rounding.{KeepsWithin}
-use Rattle.duration_str.specs.Format.{down_to, IsPrintedWithin, part_count, whole_format}
-use Rattle.duration_str.specs.Printing.{IsGreatestBreakdown}
-use Rattle.duration_str.specs.Reading.{IsRead}
-use Rattle.duration_str.specs.Rules.{rules_with}
-use Rattle.duration_str.specs.Units.{unit_lengths}
+use Rattle.duration_str_printing.specs.declared.format.Format.{Format}
+use Rattle.duration_str_printing.specs.declared.format.TheConstants.Units.{ALL}
+use Rattle.duration_str_units.specs.declared.options.Options.{Options}
+use Rattle.duration_str_units.specs.declared.unit.TimeUnit.{TimeUnit}
+use Rattle.duration_str_units.specs.declared.unit.TimeUnit.TheVariants.{Second}
+use Rattle.duration_str_printing.specs.Rounding.{KeepsWithin}
+use Rattle.duration_str_printing.specs.Format.{down_to, IsPrintedWithin, part_count, whole_format}
+use Rattle.duration_str_printing.specs.Printing.{IsGreatestBreakdown}
+use Rattle.duration_str_reading.specs.Reading.{IsRead}
+use Rattle.duration_str_units.specs.Rules.{rules_with}
+use Rattle.duration_str_units.specs.Units.{unit_lengths}
 
 abbrev pub coarse : Format
 coarse = record whole_format { units = down_to Second ALL; parts = 2 }

@@ -3,7 +3,7 @@
 
 ghost use Rattle.std.specs.Prelude.{ℕ, List, Option, IfOk, IfErr, chars};
 ghost use Rattle.uses.specs.Common.{as_nanos, Options as Choice, TimeUnit as Unit, IsPrintedIn, rules_with};
-ghost use Rattle.duration_str.specs.declared.format.Style.{Style as AnyStyle};
+ghost use Rattle.duration_str_printing.specs.declared.format.Style.{Style as AnyStyle};
 ghost use Rattle.uses.specs.Cache.{IsKey, IsCanonical, IsAnswerTo, Refuses};
 
 use crate::countdown::in_parts;

@@ -1,6 +1,6 @@
 //! Writes the message of a fault as an entry of a log.
 ghost use Rattle.std.specs.Prelude.{◌≡◌, ◌++◌, codes, string_bytes, OnOk};
-ghost use Rattle.duration_str.specs.Messages.{EndsInsideLine, message_of};
+ghost use Rattle.duration_str_refusals.specs.Messages.{EndsInsideLine, message_of};
 
 use duration_str::Fault;
 use duration_str::laws::last_line;

@@ -1,9 +1,9 @@
-// Made by tools/erase of crates/duration_str/src/breakdown.rt.
+// Made by tools/erase of crates/duration_str_printing/src/breakdown.rt.
 //! The breakdown of a duration into parts.
 
-use crate::format::{Format, Units};
+use crate::format::{Format, Units, longest};
 use crate::rounding::{Rounding, shown};
-use crate::unit::{PRINTED, Printed, TimeUnit, UNITS};
+use crate::unit::{Printed, TimeUnit, UNITS};
 use core::time::Duration;
 
 /// The breakdown of a duration in a format: an iterator over its parts, which are units with their
@@ -131,13 +131,4 @@ impl Iterator for Breakdown {
     fn size_hint(&self) -> (usize, Option<usize>) {
         (0, Some(self.most.min(UNITS.len())))
     }
-}
-
-#[inline(always)]
-pub(crate) fn longest(bits: u32) -> Option<(&'static Printed, u32)> {
-    let rank = bits.trailing_zeros();
-    if rank as usize >= PRINTED.len() {
-        return None;
-    }
-    Some((&PRINTED[rank as usize], bits & !(1 << rank)))
 }

@@ -1,8 +1,7 @@
-// Made by tools/erase of crates/duration_str/src/cause.rt.
+// Made by tools/erase of crates/duration_str_units/src/cause.rt.
 //! Why a text is refused: the cause, its line, and what could stand at the place of a syntax fault.
 
 use crate::operator::CondUnit;
-use crate::rules::Rules;
 
 /// What could stand at the place of a syntax fault. Each field says whether one kind of item could
 /// stand there.
@@ -27,38 +26,6 @@ pub struct Expected {
     pub operator: bool,
     /// The end of the text.
     pub text_end: bool,
-}
-
-impl Expected {
-    #[inline(always)]
-    pub(crate) fn at_start() -> Expected {
-        Expected {
-            number: true,
-            unit_word: false,
-            operator: false,
-            text_end: false,
-        }
-    }
-
-    #[inline(always)]
-    pub(crate) fn after_number(rules: Rules) -> Expected {
-        Expected {
-            number: false,
-            unit_word: true,
-            operator: rules.default_unit.is_some() && !rules.options.no_calc,
-            text_end: rules.default_unit.is_some(),
-        }
-    }
-
-    #[inline(always)]
-    pub(crate) fn after_unit(rules: Rules) -> Expected {
-        Expected {
-            number: true,
-            unit_word: false,
-            operator: !rules.options.no_calc,
-            text_end: true,
-        }
-    }
 }
 
 /// Why a text or another value is refused. A place is a byte offset in the text.
@@ -129,11 +96,6 @@ impl Cause {
             Cause::NumberTooLarge { place } | Cause::Overflow { place } => place,
             Cause::Empty | Cause::Mixed { .. } | Cause::OutOfRange | Cause::NotText { .. } => None,
         }
-    }
-
-    #[inline(always)]
-    pub(crate) fn syntax(place: usize, expected: Expected) -> Cause {
-        Cause::Syntax { place, expected }
     }
 
     /// Returns the line that says why the text is refused.

@@ -1,4 +1,4 @@
-// Made by tools/erase of crates/duration_str/src/eye.rt.
+// Made by tools/erase of crates/duration_str_reading/src/eye.rt.
 //! A text that is taken one character after another, with a count of the looks.
 
 use crate::slice::range_from;

@@ -1,10 +1,14 @@
-// Made by tools/erase of crates/duration_str/src/fault.rt.
+// Made by tools/erase of crates/duration_str_refusals/src/fault.rt.
 //! A refused text with its cause, and the token at the place of a syntax fault.
 
+use crate::help::{Help, found_at, overflow_help};
+use crate::mended::{Mended, cut_out, mend_for};
+use crate::suggestion::Mend;
+use crate::token::Tokens;
 use crate::cause::Cause;
 use crate::options::Options;
+use crate::rules::Rules;
 use crate::slice::range_from;
-use crate::token::Tokens;
 
 /// A refusal: the text that was read, and the cause. It prints as a message for people.
 ///
@@ -68,6 +72,64 @@ impl<'a> Fault<'a> {
         let from = last_boundary(self.text, place.saturating_sub(1));
         token_at(Tokens::new(range_from(self.text, from), o), place - from)
     }
+
+    /// Returns the help for the fault, if any. The line of `write_one_line` ends with its words.
+    ///
+    /// ```
+    /// use duration_str_core::{Help, Options, parse_with};
+    ///
+    /// let fault = parse_with("1h, 30m", Options::off()).unwrap_err();
+    /// assert_eq!(fault.help(), Some(Help::OneDuration));
+    /// ```
+    #[must_use]
+    pub fn help(&self) -> Option<Help> {
+        match self.cause {
+            Cause::Syntax { place, expected } => found_at(self.text, place, expected).help,
+            Cause::Overflow { .. } => overflow_help(self.text.as_bytes()),
+            _ => None,
+        }
+    }
+
+    /// Returns the mended text: the refused text with a suggestion in place of the part that is
+    /// wrong. It returns `None` if it isn't certain what to write. `rules` must be those with which
+    /// the text was read.
+    ///
+    /// The mended text can be refused by these rules, too, but it has no syntax fault before the
+    /// end of the suggestion. The help says what the suggestion replaces:
+    ///
+    /// - `DidYouMean`: the word becomes the unit's name.
+    /// - `Fraction`: one term replaces the number and its unit, such as `90min` for `1.5h`. Its
+    ///   unit is the longest that gives a whole number and is not longer than the one in the text.
+    ///   A number without a unit counts the default unit, if the end or an operator that is read
+    ///   follows. There is no mended text if the value is no whole number of nanoseconds, or 2^64
+    ///   nanoseconds or more.
+    /// - `LeadingPlus`: the sign is removed.
+    /// - `NoPoint`: the point is removed, unless a letter or a digit follows it directly.
+    /// - `DigitsOnly`: `_` or `'` is removed.
+    /// - `Iso8601`: `PT` is removed, unless `lowercase` is on.
+    /// - `Zero`: `s` is inserted.
+    ///
+    /// ```text
+    /// let rules = Rules::of(Options::off());
+    /// let mended = parse_by("1.5h 5x", rules).unwrap_err().mended(rules).unwrap();
+    /// mended.front      // ""
+    /// mended.replaced   // "1.5h"
+    /// mended.suggestion // 90 and the minute
+    /// mended.rest       // " 5x"
+    /// ```
+    #[must_use]
+    pub fn mended(&self, rules: Rules) -> Option<Mended<'a>> {
+        let mend = mend_of(self, rules)?;
+        Some(cut_out(self.text, mend))
+    }
+}
+
+fn mend_of(fault: &Fault<'_>, rules: Rules) -> Option<Mend> {
+    let Cause::Syntax { place, expected } = fault.cause else {
+        return None;
+    };
+    let found = found_at(fault.text, place, expected);
+    mend_for(fault.text, place, expected, &found, rules)
 }
 
 fn last_boundary(text: &str, mut place: usize) -> usize {

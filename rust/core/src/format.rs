@@ -1,7 +1,7 @@
-// Made by tools/erase of crates/duration_str/src/format.rt.
+// Made by tools/erase of crates/duration_str_printing/src/format.rt.
 //! How a duration is printed: its units, the greatest number of parts, and the style.
 
-use crate::unit::{TimeUnit, UNITS};
+use crate::unit::{PRINTED, Printed, TimeUnit, UNITS};
 
 /// How a duration is printed: the units, the greatest number of parts, and the style. A part is a
 /// count with its unit, such as `3min`.
@@ -325,4 +325,13 @@ impl Format {
             smallest
         }
     }
+}
+
+#[inline(always)]
+pub(crate) fn longest(bits: u32) -> Option<(&'static Printed, u32)> {
+    let rank = bits.trailing_zeros();
+    if rank as usize >= PRINTED.len() {
+        return None;
+    }
+    Some((&PRINTED[rank as usize], bits & !(1 << rank)))
 }

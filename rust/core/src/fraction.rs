@@ -1,24 +1,19 @@
-// Made by tools/erase of crates/duration_str/src/fraction.rt.
+// Made by tools/erase of crates/duration_str_help/src/fraction.rt.
 //! The term to write instead of a number with a fraction, such as `90min` for `1.5h`.
 
-use crate::cause::Expected;
 use crate::help::{Help, found_at};
-use crate::mended::{Mend, Suggestion};
+use crate::suggestion::{Mend, Suggestion};
+use crate::blank::is_blank;
+use crate::cause::Expected;
 use crate::operator::CondUnit;
 use crate::packed::packed_word;
 use crate::rules::Rules;
 use crate::slice::range_from;
 use crate::table::UnitTable;
-use crate::token::is_blank;
 use crate::unit::{TimeUnit, UNITS};
 
 /// Returns the mend of the number whose point is at the place.
-pub(crate) fn fraction_mend(
-    text: &str,
-    place: usize,
-    expected: Expected,
-    rules: Rules,
-) -> Option<Mend> {
+pub(crate) fn fraction_mend(text: &str, place: usize, expected: Expected, rules: Rules) -> Option<Mend> {
     let bytes = text.as_bytes();
     let whole = last_digits(&bytes[..place]);
     if whole.is_empty() && !expected.number {

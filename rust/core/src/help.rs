@@ -1,15 +1,14 @@
-// Made by tools/erase of crates/duration_str/src/help.rt.
+// Made by tools/erase of crates/duration_str_help/src/help.rt.
 //! The help for a refusal: what a user may have meant, or should write instead.
 
-use crate::cause::{Cause, Expected};
-use crate::fault::Fault;
+use crate::characters::is_letter;
+use crate::blank::is_blank;
+use crate::cause::Expected;
 use crate::more_names;
 use crate::more_names::added_unit;
-use crate::one_line::{MOST_SHOWN, is_plain};
 use crate::options::Options;
 use crate::packed::packed_word;
 use crate::slice::{range_from, range_to};
-use crate::token::is_blank;
 use crate::unit::TimeUnit;
 
 /// What a user may have meant by a refused text, or should write instead. The fault's line ends
@@ -92,24 +91,8 @@ impl Help {
     }
 }
 
-impl<'a> Fault<'a> {
-    /// Returns the help for the fault, if any. The line of `write_one_line` ends with its words.
-    ///
-    /// ```
-    /// use duration_str::{Help, Options, parse_with};
-    ///
-    /// let fault = parse_with("1h, 30m", Options::off()).unwrap_err();
-    /// assert_eq!(fault.help(), Some(Help::OneDuration));
-    /// ```
-    #[must_use]
-    pub fn help(&self) -> Option<Help> {
-        match self.cause {
-            Cause::Syntax { place, expected } => found_at(self.text, place, expected).help,
-            Cause::Overflow { .. } => overflow_help(self.text.as_bytes()),
-            _ => None,
-        }
-    }
-}
+/// The most characters of a text that a quote shows.
+pub(crate) const MOST_SHOWN: usize = 40;
 
 /// What stands at the place of a syntax fault.
 #[derive(Clone, Copy)]
@@ -203,16 +186,6 @@ fn begins_with_letter(text: &str) -> bool {
         Some(c) => is_letter(c),
         None => false,
     }
-}
-
-#[inline(never)]
-pub(crate) fn is_letter(c: char) -> bool {
-    if c.is_ascii() {
-        return c.is_ascii_alphabetic();
-    }
-    let is_sign = matches!(c, '\u{a1}'..='\u{b4}' | '\u{b6}'..='\u{bf}' | '×' | '÷')
-        || matches!(c, '\u{2010}'..='\u{2bff}' | '\u{3001}'..='\u{303f}' | '\u{ff00}'..='\u{ff20}');
-    is_plain(c) && !is_sign
 }
 
 /// Returns the unit for which people write a word that the library's own table lacks.
@@ -330,4 +303,42 @@ fn last_byte(bytes: &[u8]) -> u8 {
 
 fn byte_at(bytes: &[u8], index: usize) -> u8 {
     bytes.get(index).copied().unwrap_or(0)
+}
+
+/// Returns the words with which a help ends the line.
+pub(crate) fn help_words(help: Help) -> &'static str {
+    match help {
+        Help::DidYouMean(unit) => near_words(unit),
+        Help::Units => " (write y, q, mon, w, d, h, min, s, ms, us or ns)",
+        Help::Fraction => " (numbers have digits only)",
+        Help::DigitsOnly => " (numbers have digits only)",
+        Help::ClockTime => " (clock times are not read: write 1h 30m or 1m 30s)",
+        Help::Negative => " (negative durations are not read)",
+        Help::LeadingPlus => r#" (a leading "+" is not read)"#,
+        Help::Iso8601 => " (ISO 8601 is not read: write 1mon 30m for P1MT30M)",
+        Help::OneDuration => r#" (one duration is read, without "," or "and")"#,
+        Help::NoPoint => " (units have no point)",
+        Help::Brackets => " (brackets are not read)",
+        Help::Division => " (division is not read)",
+        Help::QuotationMarks => " (quotation marks are not read)",
+        Help::MissingUnit => " (write the number's unit: y, q, mon, w, d, h, min, s, ms, us or ns)",
+        Help::Zero => " (write 0s)",
+        Help::LargeNumber => " (write the number's unit, such as ns)",
+    }
+}
+
+fn near_words(unit: TimeUnit) -> &'static str {
+    match unit {
+        TimeUnit::Year => r#" (did you mean "y"?)"#,
+        TimeUnit::Quarter => r#" (did you mean "q"?)"#,
+        TimeUnit::Month => r#" (did you mean "mon"?)"#,
+        TimeUnit::Week => r#" (did you mean "w"?)"#,
+        TimeUnit::Day => r#" (did you mean "d"?)"#,
+        TimeUnit::Hour => r#" (did you mean "h"?)"#,
+        TimeUnit::Minute => r#" (did you mean "min"?)"#,
+        TimeUnit::Second => r#" (did you mean "s"?)"#,
+        TimeUnit::MilliSecond => r#" (did you mean "ms"?)"#,
+        TimeUnit::MicroSecond => r#" (did you mean "us"?)"#,
+        TimeUnit::NanoSecond => r#" (did you mean "ns"?)"#,
+    }
 }

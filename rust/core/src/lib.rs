@@ -8,9 +8,15 @@ mod impls; // Written by hand.
 pub use self::impls::{UnknownStyle, UnknownUnit};
 
 #[forbid(unsafe_code)]
+mod blank;
+#[forbid(unsafe_code)]
 mod breakdown;
 #[forbid(unsafe_code)]
+mod buffer;
+#[forbid(unsafe_code)]
 mod cause;
+#[forbid(unsafe_code)]
+mod characters;
 #[allow(unsafe_code)] // Blocks: 1.
 mod eye;
 #[forbid(unsafe_code)]
@@ -23,7 +29,7 @@ mod fraction;
 mod help;
 #[forbid(unsafe_code)]
 mod humantime;
-#[allow(unsafe_code)] // Blocks: 1.
+#[forbid(unsafe_code)]
 mod mended;
 #[allow(unsafe_code)] // Blocks: 1.
 mod message;
@@ -51,6 +57,8 @@ mod rounding;
 mod rules;
 #[allow(unsafe_code)] // Blocks: 2.
 mod slice;
+#[allow(unsafe_code)] // Blocks: 1.
+mod suggestion;
 #[forbid(unsafe_code)]
 mod table;
 #[forbid(unsafe_code)]
@@ -58,20 +66,22 @@ mod token;
 #[forbid(unsafe_code)]
 mod unit;
 
+pub use self::help::Help;
+pub use self::mended::Mended;
+pub use self::suggestion::{MAX_SUGGESTION_LEN, SUGGESTION_BUFFER_SIZE, Suggestion};
 pub use self::breakdown::Breakdown;
 pub use self::format::{Format, Style, Units};
-pub use self::help::Help;
-pub use self::mended::{MAX_SUGGESTION_LEN, Mended, SUGGESTION_BUFFER_SIZE, Suggestion};
+pub use self::rounding::{Rounding, round_to};
 pub use self::one_line::{MAX_ONE_LINE_LEN, ONE_LINE_BUFFER_SIZE};
+pub use self::report::REPORT_BUFFER_SIZE;
+pub use self::rules::Rules;
 pub use self::parser::{
     Cause, Expected, Fault, parse, parse_by, parse_looked, parse_nanos, parse_nanos_specialized,
     parse_std, parse_with,
 };
 pub use self::printing::{
-    FORMAT_BUFFER_SIZE, HUMAN_BUFFER_SIZE, MAX_LONG_LEN, MAX_PRINTED_LEN, write_format, write_human,
+    FORMAT_BUFFER_SIZE, HUMAN_BUFFER_SIZE, MAX_LONG_LEN, MAX_PRINTED_LEN, write_format,
+    write_human, write_rounded,
 };
-pub use self::report::REPORT_BUFFER_SIZE;
-pub use self::rounding::{Rounding, round_to, write_rounded};
-pub use self::rules::Rules;
 pub use self::token::{Token, Tokens, What};
 pub use self::unit::{CondUnit, Options, TimeUnit, UNITS};

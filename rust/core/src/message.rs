@@ -1,7 +1,8 @@
-// Made by tools/erase of crates/duration_str/src/message.rt.
+// Made by tools/erase of crates/duration_str_refusals/src/message.rt.
 //! The message of a fault, and its layout.
 
 use crate::fault::Fault;
+use crate::buffer::{put, put_decimal};
 use crate::slice::range_to;
 use core::fmt;
 
@@ -100,17 +101,6 @@ fn put_caret(buffer: &mut [u8], text: &str, spaces: usize, line: &str) -> Option
     put(buffer, line_start, line.as_bytes())
 }
 
-/// Writes a part after the first `at` bytes of the buffer. Returns where the part ends, or `None`
-/// if there is no room for it.
-pub(crate) fn put(buffer: &mut [u8], at: usize, part: &[u8]) -> Option<usize> {
-    if part.len() > buffer.len() - at {
-        return None;
-    }
-    let end = at + part.len();
-    buffer[at..end].copy_from_slice(part);
-    Some(end)
-}
-
 fn put_spaces(buffer: &mut [u8], at: usize, count: usize) -> Option<usize> {
     if count > buffer.len() - at {
         return None;
@@ -118,14 +108,6 @@ fn put_spaces(buffer: &mut [u8], at: usize, count: usize) -> Option<usize> {
     let end = at + count;
     buffer[at..end].fill(b' ');
     Some(end)
-}
-
-pub(crate) fn put_decimal(buffer: &mut [u8], at: usize, number: u64) -> Option<usize> {
-    if number < 10 {
-        return put(buffer, at, &[b'0' + number as u8]);
-    }
-    let end = put_decimal(buffer, at, number / 10)?;
-    put_decimal(buffer, end, number % 10)
 }
 
 /// What a message is written to.

@@ -1,4 +1,4 @@
-// Made by tools/erase of crates/duration_str/src/one_line.rt.
+// Made by tools/erase of crates/duration_str_refusals/src/one_line.rt.
 //! A fault in one line: what is wrong, and for a syntax fault at which column, and what stands
 //! there.
 //!
@@ -6,14 +6,15 @@
 //! no room. So no contract requires room for a part. One proof, for the whole line, shows that
 //! everything fits.
 
-use crate::cause::{Cause, Expected};
 use crate::fault::Fault;
+use crate::message::chars_before;
+use crate::buffer::{put, put_decimal};
+use crate::characters::is_clear;
 use crate::fraction::fraction_mend;
-use crate::help::{Found, Help, found_at, overflow_help};
-use crate::mended::{Suggestion, put_suggestion};
-use crate::message::{chars_before, put, put_decimal};
+use crate::help::{Found, Help, MOST_SHOWN, found_at, help_words, overflow_help};
+use crate::suggestion::{Suggestion, put_suggestion};
+use crate::cause::{Cause, Expected};
 use crate::rules::Rules;
-use crate::unit::TimeUnit;
 
 /// No fault's line has more bytes than this.
 ///
@@ -28,8 +29,6 @@ pub const MAX_ONE_LINE_LEN: usize = 294;
 
 /// The size of a buffer that has room for every fault's line.
 pub const ONE_LINE_BUFFER_SIZE: usize = 384;
-
-pub(crate) const MOST_SHOWN: usize = 40;
 
 impl Fault<'_> {
     /// Writes the fault in one line to the start of a buffer, and returns the line. It says what is
@@ -164,43 +163,6 @@ fn put_help(buffer: &mut [u8], at: usize, help: Option<Help>) -> Option<usize> {
     }
 }
 
-fn help_words(help: Help) -> &'static str {
-    match help {
-        Help::DidYouMean(unit) => near_words(unit),
-        Help::Units => " (write y, q, mon, w, d, h, min, s, ms, us or ns)",
-        Help::Fraction => " (numbers have digits only)",
-        Help::DigitsOnly => " (numbers have digits only)",
-        Help::ClockTime => " (clock times are not read: write 1h 30m or 1m 30s)",
-        Help::Negative => " (negative durations are not read)",
-        Help::LeadingPlus => r#" (a leading "+" is not read)"#,
-        Help::Iso8601 => " (ISO 8601 is not read: write 1mon 30m for P1MT30M)",
-        Help::OneDuration => r#" (one duration is read, without "," or "and")"#,
-        Help::NoPoint => " (units have no point)",
-        Help::Brackets => " (brackets are not read)",
-        Help::Division => " (division is not read)",
-        Help::QuotationMarks => " (quotation marks are not read)",
-        Help::MissingUnit => " (write the number's unit: y, q, mon, w, d, h, min, s, ms, us or ns)",
-        Help::Zero => " (write 0s)",
-        Help::LargeNumber => " (write the number's unit, such as ns)",
-    }
-}
-
-fn near_words(unit: TimeUnit) -> &'static str {
-    match unit {
-        TimeUnit::Year => r#" (did you mean "y"?)"#,
-        TimeUnit::Quarter => r#" (did you mean "q"?)"#,
-        TimeUnit::Month => r#" (did you mean "mon"?)"#,
-        TimeUnit::Week => r#" (did you mean "w"?)"#,
-        TimeUnit::Day => r#" (did you mean "d"?)"#,
-        TimeUnit::Hour => r#" (did you mean "h"?)"#,
-        TimeUnit::Minute => r#" (did you mean "min"?)"#,
-        TimeUnit::Second => r#" (did you mean "s"?)"#,
-        TimeUnit::MilliSecond => r#" (did you mean "ms"?)"#,
-        TimeUnit::MicroSecond => r#" (did you mean "us"?)"#,
-        TimeUnit::NanoSecond => r#" (did you mean "ns"?)"#,
-    }
-}
-
 fn put_column(buffer: &mut [u8], at: usize, column: usize) -> Option<usize> {
     let number = put(buffer, at, b" at column ")?;
     put_decimal(buffer, number, column as u64)
@@ -310,28 +272,6 @@ fn hex_len(n: u32) -> usize {
     } else {
         5
     }
-}
-
-pub(crate) fn is_clear(c: char) -> bool {
-    is_plain(c) && c != '"' && c != '\\'
-}
-
-#[inline(always)]
-pub(crate) fn is_plain(c: char) -> bool {
-    c >= ' ' && (c <= '~' || !is_hidden(c))
-}
-
-#[inline(never)]
-fn is_hidden(c: char) -> bool {
-    matches!(c, '\x7f'..='\u{a0}' | '\u{1680}' | '\u{2800}' | '\u{3000}')
-        || matches!(c, '\u{2000}'..='\u{200f}' | '\u{2028}'..='\u{202f}' | '\u{205f}'..='\u{206f}')
-        || matches!(
-            c,
-            '\u{ad}' | '\u{34f}' | '\u{61c}' | '\u{3164}' | '\u{feff}' | '\u{ffa0}'
-        )
-        || matches!(c, '\u{115f}'..='\u{1160}' | '\u{17b4}'..='\u{17b5}' | '\u{180b}'..='\u{180f}')
-        || matches!(c, '\u{fe00}'..='\u{fe0f}' | '\u{fff0}'..='\u{fffb}' | '\u{1bca0}'..='\u{1bca3}')
-        || matches!(c, '\u{1d173}'..='\u{1d17a}' | '\u{e0000}'..='\u{e0fff}')
 }
 
 fn expected_words(expected: Expected) -> &'static str {

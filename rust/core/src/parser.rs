@@ -1,13 +1,13 @@
 // Made by tools/erase of crates/duration_str/src/parser.rt.
 //! Reading: the duration that a text means, or why it means none.
 
-pub use crate::cause::{Cause, Expected};
-pub use crate::fault::Fault;
-use crate::options::Options;
 use crate::reader::read;
+use crate::token::Tokens;
+pub use crate::fault::Fault;
+pub use crate::cause::{Cause, Expected};
+use crate::options::Options;
 use crate::rules::Rules;
 use crate::table::UnitTable;
-use crate::token::Tokens;
 use crate::unit::TimeUnit;
 use core::time::Duration;
 

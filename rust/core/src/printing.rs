@@ -1,4 +1,4 @@
-// Made by tools/erase of crates/duration_str/src/printing.rt.
+// Made by tools/erase of crates/duration_str_printing/src/printing.rt.
 //! Durations printed for people, such as `3min 13s 29ms`: whole, or in a format.
 //!
 //! A function with an argument `at` writes after the first `at` bytes of the buffer, and returns
@@ -6,6 +6,7 @@
 
 use crate::breakdown::Breakdown;
 use crate::format::{Format, Style, Units};
+use crate::rounding::{Rounding, shown};
 use crate::unit::{Printed, TimeUnit, UNITS};
 use core::time::Duration;
 
@@ -357,4 +358,38 @@ fn fill(d: Duration, format: Format, buffer: &mut [u8]) -> usize {
 fn printed(buffer: &[u8], end: usize) -> &str {
     // SAFETY: the bytes up to `end` are UTF-8, by the clause `utf8`.
     unsafe { core::str::from_utf8_unchecked(&buffer[..end]) }
+}
+
+/// Rounds a duration to one that prints whole in this format, and prints that one to the start of a
+/// buffer, as [`write_format`] does. Returns the text. If `rounding` is `None`, the duration is not
+/// rounded, and the rest is left out.
+///
+/// The result is `None` only for `Rounding::Up`, if no duration up to `Duration::MAX` prints whole
+/// and is not below the given one. That is so for 1ns in a format without units or parts.
+///
+/// ```
+/// use duration_str::{FORMAT_BUFFER_SIZE, Format, Rounding, write_rounded};
+/// use std::time::Duration;
+///
+/// let length = Duration::new(7_199, 0); // 1h 59min 59s
+/// let mut buffer = [0; FORMAT_BUFFER_SIZE];
+/// let mut in_parts = |parts, rounding| {
+///     let format = Format::whole().parts(parts);
+///     write_rounded(&length, format, rounding, &mut buffer).map(str::to_string)
+/// };
+/// assert_eq!(in_parts(1, None).as_deref(), Some("1h"));
+/// assert_eq!(in_parts(1, Some(Rounding::Down)).as_deref(), Some("1h"));
+/// assert_eq!(in_parts(1, Some(Rounding::Nearest)).as_deref(), Some("2h"));
+/// assert_eq!(in_parts(0, Some(Rounding::Up)), None);
+/// ```
+#[inline(always)]
+#[must_use]
+pub fn write_rounded<'b>(
+    d: &Duration,
+    format: Format,
+    rounding: Option<Rounding>,
+    buffer: &'b mut [u8; FORMAT_BUFFER_SIZE],
+) -> Option<&'b str> {
+    let shown = shown(*d, format, rounding)?;
+    Some(write_format(&shown, format, buffer))
 }

@@ -1,10 +1,10 @@
-// Made by tools/erase of crates/duration_str/src/reader.rt.
+// Made by tools/erase of crates/duration_str_reading/src/reader.rt.
 //! The one pass over the tokens of a text.
 
+use crate::token::{TokenStart, Tokens};
 use crate::cause::{Cause, Expected};
 use crate::operator::CondUnit;
 use crate::rules::Rules;
-use crate::token::{TokenStart, Tokens};
 use crate::unit::TimeUnit;
 
 /// The operator and the total of the later terms so far, or `None` if there are none, or their
@@ -48,7 +48,7 @@ fn expect_number(tokens: &mut Tokens<'_>) -> Result<(), Cause> {
     if tokens.is_number_ahead() {
         return Ok(());
     }
-    Err(Cause::syntax(tokens.place(), Expected::at_start()))
+    Err(syntax(tokens.place(), at_start()))
 }
 
 #[inline(always)]
@@ -79,7 +79,7 @@ fn unit_left_out(place: usize, rules: Rules) -> Result<TimeUnit, Cause> {
 
 #[inline(always)]
 fn no_unit(place: usize, rules: Rules) -> Cause {
-    Cause::syntax(place, Expected::after_number(rules))
+    syntax(place, after_number(rules))
 }
 
 #[inline(always)]
@@ -103,7 +103,7 @@ fn read_operator(tokens: &mut Tokens<'_>, rules: Rules) -> Result<Option<CondUni
 
 #[inline(always)]
 fn no_operator(place: usize, rules: Rules) -> Cause {
-    Cause::syntax(place, Expected::after_unit(rules))
+    syntax(place, after_unit(rules))
 }
 
 /// Combines the later terms so far with a new term. `next` is the operator before it.
@@ -157,4 +157,39 @@ fn scaled(left: u64, right: u64) -> Option<u64> {
     let first = upper as u64;
     let second = first % SECOND * STEP + (product % STEP as u128) as u64;
     Some(first / SECOND * STEP + second / SECOND)
+}
+
+#[inline(always)]
+fn syntax(place: usize, expected: Expected) -> Cause {
+    Cause::Syntax { place, expected }
+}
+
+#[inline(always)]
+fn at_start() -> Expected {
+    Expected {
+        number: true,
+        unit_word: false,
+        operator: false,
+        text_end: false,
+    }
+}
+
+#[inline(always)]
+fn after_number(rules: Rules) -> Expected {
+    Expected {
+        number: false,
+        unit_word: true,
+        operator: rules.default_unit.is_some() && !rules.options.no_calc,
+        text_end: rules.default_unit.is_some(),
+    }
+}
+
+#[inline(always)]
+fn after_unit(rules: Rules) -> Expected {
+    Expected {
+        number: true,
+        unit_word: false,
+        operator: !rules.options.no_calc,
+        text_end: true,
+    }
 }

@@ -1,10 +1,11 @@
-// Made by tools/erase of crates/duration_str/src/report.rt.
+// Made by tools/erase of crates/duration_str_refusals/src/report.rt.
 //! The report of a fault: its line, or the text, a caret and its line.
 
-use crate::cause::Cause;
 use crate::fault::Fault;
 use crate::message::Layout;
-use crate::one_line::{ONE_LINE_BUFFER_SIZE, is_clear};
+use crate::one_line::ONE_LINE_BUFFER_SIZE;
+use crate::characters::is_clear;
+use crate::cause::Cause;
 use crate::rules::Rules;
 use crate::slice::range_to;
 

@@ -1,10 +1,8 @@
-// Made by tools/erase of crates/duration_str/src/rounding.rt.
+// Made by tools/erase of crates/duration_str_printing/src/rounding.rt.
 //! Durations rounded to those that print whole in a format: that fit into its units and parts, so
 //! that their texts leave nothing out.
 
-use crate::breakdown::longest;
-use crate::format::{Format, Units};
-use crate::printing::{FORMAT_BUFFER_SIZE, write_format};
+use crate::format::{Format, Units, longest};
 use crate::unit::TimeUnit;
 use core::time::Duration;
 
@@ -21,40 +19,6 @@ pub enum Rounding {
     Up,
 }
 
-/// Rounds a duration to one that prints whole in this format, and prints that one to the start of a
-/// buffer, as [`write_format`] does. Returns the text. If `rounding` is `None`, the duration is not
-/// rounded, and the rest is left out.
-///
-/// The result is `None` only for `Rounding::Up`, if no duration up to `Duration::MAX` prints whole
-/// and is not below the given one. That is so for 1ns in a format without units or parts.
-///
-/// ```
-/// use duration_str::{FORMAT_BUFFER_SIZE, Format, Rounding, write_rounded};
-/// use std::time::Duration;
-///
-/// let length = Duration::new(7_199, 0); // 1h 59min 59s
-/// let mut buffer = [0; FORMAT_BUFFER_SIZE];
-/// let mut in_parts = |parts, rounding| {
-///     let format = Format::whole().parts(parts);
-///     write_rounded(&length, format, rounding, &mut buffer).map(str::to_string)
-/// };
-/// assert_eq!(in_parts(1, None).as_deref(), Some("1h"));
-/// assert_eq!(in_parts(1, Some(Rounding::Down)).as_deref(), Some("1h"));
-/// assert_eq!(in_parts(1, Some(Rounding::Nearest)).as_deref(), Some("2h"));
-/// assert_eq!(in_parts(0, Some(Rounding::Up)), None);
-/// ```
-#[inline(always)]
-#[must_use]
-pub fn write_rounded<'b>(
-    d: &Duration,
-    format: Format,
-    rounding: Option<Rounding>,
-    buffer: &'b mut [u8; FORMAT_BUFFER_SIZE],
-) -> Option<&'b str> {
-    let shown = shown(*d, format, rounding)?;
-    Some(write_format(&shown, format, buffer))
-}
-
 /// Returns the duration that is printed or broken down in place of this one.
 #[inline(always)]
 pub(crate) fn shown(d: Duration, format: Format, rounding: Option<Rounding>) -> Option<Duration> {
@@ -68,7 +32,7 @@ pub(crate) fn shown(d: Duration, format: Format, rounding: Option<Rounding>) -> 
 /// units and parts, so that its text leaves nothing out. The format's style does not matter.
 ///
 /// A duration that prints whole is returned as it is. To print or to break down the rounded
-/// duration, call [`write_rounded`] or [`Breakdown::rounded`](crate::Breakdown::rounded).
+/// duration, call [`write_rounded`](crate::write_rounded) or [`Breakdown::rounded`](crate::Breakdown::rounded).
 ///
 /// The result is `None` only for `Rounding::Up`, if no duration up to `Duration::MAX` prints whole
 /// and is not below the given one. That is so for 1ns in a format without units or parts.

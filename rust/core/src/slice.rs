@@ -1,4 +1,4 @@
-// Made by tools/erase of crates/duration_str/src/slice.rt.
+// Made by tools/erase of crates/duration_str_units/src/slice.rt.
 //! Slices of a text at a place that is known to be a character boundary. Rust's own slices test
 //! that, and contain what reports that it isn't one.
 

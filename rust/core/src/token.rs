@@ -1,7 +1,8 @@
-// Made by tools/erase of crates/duration_str/src/token.rt.
+// Made by tools/erase of crates/duration_str_reading/src/token.rt.
 //! The tokens of a text: numbers, words, operators, and other single characters except blanks.
 
 use crate::eye::Eye;
+use crate::blank::is_blank;
 use crate::operator::CondUnit;
 use crate::options::Options;
 use crate::packed::{
@@ -268,19 +269,6 @@ impl<'a> Iterator for Tokens<'a> {
 
 /// Each number of up to 19 digits is below 2^64.
 const MOST_DIGITS: usize = 19;
-
-/// For each character up to the space, whether it is a blank. A table takes fewer instructions than
-/// comparisons.
-static BLANKS: [bool; 33] = [
-    false, false, false, false, false, false, false, false, false, true, true, false, false, true,
-    false, false, false, false, false, false, false, false, false, false, false, false, false,
-    false, false, false, false, false, true,
-];
-
-#[inline]
-pub(crate) fn is_blank(c: char) -> bool {
-    c <= ' ' && BLANKS[c as usize]
-}
 
 /// Whether the number that the digits write is below 2^64. `low` is the number modulo 2^64. Before
 /// its last 19 digits, a number below 2^64 has only zeros, or zeros and then a `1`. With the `1`

@@ -1,5 +1,5 @@
 use Rattle.duration_str.proofs.Common.{BlanksFree}
-use Rattle.duration_str.proofs.Sentences.AnswerLemmas.{read_sentence, refused_sentence, sentence_refused}
+use Rattle.duration_str_reading.proofs.Sentences.AnswerLemmas.{read_sentence, refused_sentence, sentence_refused}
 
 pub blanks_free_holds : BlanksFree
 blanks_free_holds = record {

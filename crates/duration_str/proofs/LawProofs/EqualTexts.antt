@@ -1,6 +1,7 @@
 use Rattle.duration_str.proofs.Common.{EqualTexts, FitsDuration, IsPrintedIn, List, off, rules_of, Second, Some, Style, sum_of, terminals_of, terms_of, ℕ, ◌≡◌}
-use Rattle.duration_str.proofs.Sentences.SpellingLemmas.{sentence_terminals}
-use Rattle.duration_str.proofs.Printer.PrintingLemmas.{counts_are, duration_lexemes, duration_sum, printed_is_sum}
+use Rattle.duration_str_reading.proofs.Sentences.SpellingLemmas.{sentence_terminals}
+use Rattle.duration_str_printing.proofs.GreatestBreakdown.{counts_are}
+use Rattle.duration_str.proofs.LawProofs.PrintedTexts.{duration_lexemes, duration_sum, printed_is_sum}
 
 printed_sum : (style : Style) (nanos : ℕ) (text : List ℕ) → FitsDuration nanos → IsPrintedIn style nanos text
     → sum_of (terms_of (rules_of off) (terminals_of (rules_of off) text)) ≡ nanos

@@ -1,17 +1,18 @@
 -- A mended text has no syntax fault before the end of what was written.
 use Rattle.duration_str.proofs.Common.{[], add-zero, ahead, and_parts, arith, chars, chars-nil, drop, Empty, encode_utf8_all, encodes-chars, Expected, false, is_ascii_alphabetic, is_blank, IsRefused, IsUtf8, length, List, list_all, list_all-append, meaning_of, Mixed, nat_tests, None, NotText, NumberTooLarge, Option, option_map, OutOfRange, Overflow, refl, scalars-chars, Second, Some, sym, Syntax, take, take-append-drop, true, ℕ, ◌+◌, ◌==◌, ◌||◌, ◌∙◌, ◌∷◌, ◌≡◌, ◌≤◌}
-use Rattle.duration_str.specs.declared.help.Help.{Help}
-use Rattle.duration_str.specs.declared.help.Help.TheVariants.{DidYouMean, DigitsOnly, Fraction, Iso8601, LeadingPlus, NoPoint, Zero}
-use Rattle.duration_str.specs.declared.mended.Mend.{Mend}
-use Rattle.duration_str.specs.declared.rules.Rules.{Rules as CodeRules}
+use Rattle.duration_str_help.specs.declared.help.Help.{Help}
+use Rattle.duration_str_help.specs.declared.help.Help.TheVariants.{DidYouMean, DigitsOnly, Fraction, Iso8601, LeadingPlus, NoPoint, Zero}
+use Rattle.duration_str_help.specs.declared.suggestion.Mend.{Mend}
+use Rattle.duration_str_units.specs.declared.rules.Rules.{Rules as CodeRules}
 use Rattle.duration_str.specs.Mended.{mended_text, MendedTexts}
-use Rattle.duration_str.specs.OneLine.{begins_with_letter, first_piece, mend_for, name_alone, Pieces, pieces_of, syntax_help}
-use Rattle.duration_str.proofs.LawProofs.MendedHelp.{Reason, reason}
+use Rattle.duration_str_help.specs.Help.{begins_with_letter, first_piece, syntax_help}
+use Rattle.duration_str_help.specs.Mends.{mend_for, name_alone, Pieces, pieces_of}
+use Rattle.duration_str_help.proofs.MendedHelp.{Reason, reason}
 use Rattle.duration_str.proofs.LawProofs.MendedPlaces.{after_place, apart_at_point, apart_at_start, IsPlaced, joined_by, Keeps, name_written, placed, removed_by}
-use Rattle.duration_str.proofs.LawProofs.MendedBytes.{first_char, is_small, plain_no_letter}
+use Rattle.duration_str_help.proofs.MendedBytes.{first_char, is_small, plain_no_letter}
 use Rattle.duration_str.proofs.LawProofs.MendedNames.{near_short}
 use Rattle.duration_str.proofs.LawProofs.MendedTerms.{fraction_kept}
-use Rattle.duration_str.proofs.Printer.MendedLemmas.{after_piece, cut_piece, IsCut, piece_stops}
+use Rattle.duration_str_help.proofs.MendedLemmas.{after_piece, cut_piece, IsCut, piece_stops}
 
 abbrev bytes_at : List ℕ → ℕ → List ℕ
 bytes_at text place = encode_utf8_all (first_piece (ahead text place))

@@ -1,13 +1,15 @@
 -- Texts that begin a sentence, with a number, a number and a unit, or nothing after them.
 use Rattle.duration_str.proofs.Common.{[], add-zero, and_from, and_parts, ap, append-nil, append_assoc, are_of_one_run, AreTokens, arith, BeginsSentence, Bool, byte_len, cases_Bool, EndsRun, Expected, expected_after, false, false_from_ne_true, goes_on, inl, inr, is_blank, is_digit, is_unit_letter, IsBlank, IsRefused, IsTrue, last_of, length, length-append, List, list_all, list_all-append, map-append, None, number, number_of, Options, refl, Rules, Some, start_after, Stops, suc, sym, Syntax, take, Terminal, terminal_of, terminals_of, TimeUnit, Token, tokens_from, tokens_of, true, unit_of_word, width, with_first_character, word, zero, ℕ, ⊤, ◌&&◌, ◌++◌, ◌+◌, ◌||◌, ◌∙◌, ◌∷◌, ◌≡◌, ◌≢◌, ◌≤◌}
-use Rattle.duration_str.specs.OneLine.{begins_with_letter}
-use Rattle.duration_str.proofs.Characters.CharacterLemmas.{byte_len-append, digit-not_blank, digit-not_letter, letter-not_blank, letter-not_digit, run-not_blank}
-use Rattle.duration_str.proofs.Cutting.SortLemmas.{digits_are_lexeme}
-use Rattle.duration_str.proofs.Cutting.TokenLemmas.{tokens_are, tokens_once, tokens_step}
+use Rattle.duration_str_help.specs.Help.{begins_with_letter}
+use Rattle.duration_str_units.proofs.CharacterLemmas.{byte_len-append, digit-not_blank, digit-not_letter, letter-not_blank, letter-not_digit}
+use Rattle.duration_str_reading.proofs.Cutting.RunLemmas.{run-not_blank}
+use Rattle.duration_str_reading.proofs.Cutting.SortLemmas.{digits_are_lexeme}
+use Rattle.duration_str_reading.proofs.Cutting.TokenLemmas.{tokens_are, tokens_once, tokens_step}
 use Rattle.duration_str.proofs.LawProofs.MendedNames.{ends_word, IsWritten, unit_letter_is_letter}
 use Rattle.duration_str.proofs.LawProofs.MendedTokens.{begins_whole, cut_before, follows, IsCutBefore, last_of_pushed, length_stand, placed_past, pushed, refused_at, stand_for, starts_from}
-use Rattle.duration_str.proofs.Sentences.FrontLemmas.{expected_by_table}
+use Rattle.duration_str_reading.proofs.Sentences.FrontLemmas.{expected_by_table}
 use Rattle.std.proofs.Math.Seq.{take-append_seam}
+use Rattle.duration_str_help.proofs.MendedBytes.{ends_in}
 
 -- ---- Two texts with no run over their seam
 
@@ -56,12 +58,6 @@ seamed o at (c ∷ d ∷ text) more h =
             rw (solid, alone) (ap (λ (ts : List Token). record { start = at; characters = c ∷ [] } ∷ ts) later)
       ]
     ]
-
--- whether the last character passes the test
-abbrev pub ends_in : (ℕ → Bool) → List ℕ → Bool
-ends_in test [] = false
-ends_in test (c ∷ []) = test c
-ends_in test (c ∷ d ∷ cs) = ends_in test (d ∷ cs)
 
 no_run : (a b p q : Bool) → a ≡ false → q ≡ false → ((a && b) || (p && q)) ≡ false
 no_run a b p q h k = grind arith

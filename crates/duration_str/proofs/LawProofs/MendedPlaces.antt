@@ -3,16 +3,17 @@ use Rattle.std.specs.List.{prefix_len}
 use Rattle.duration_str.proofs.Common.{[], ahead, ap, append_assoc, arith, Bool, byte_len, chars, chars-append, drop, encode_utf8_all, Expected, false, is_ascii_alphabetic, is_blank, is_digit, IsBlank, IsRefused, IsTrue, IsUtf8, IsUtf8-drop, IsUtf8-take, length, length-take-le, List, meaning_of, nat_le, nat_tests, not, refl, scalars, Some, sym, Syntax, take, take-append-drop, TimeUnit, true, ℕ, ◌++◌, ◌+◌, ◌-◌, ◌||◌, ◌∙◌, ◌∷◌, ◌≡◌, ◌≤◌}
 use Rattle.std.specs.Prelude.{slice_index}
 use Rattle.std.proofs.lemmas.List.{drop-drop}
-use Rattle.duration_str.specs.declared.mended.Mend.{Mend}
-use Rattle.duration_str.specs.declared.rules.Rules.{Rules as CodeRules}
-use Rattle.duration_str.specs.Fraction.{end_run}
-use Rattle.duration_str.specs.OneLine.{begins_with_letter, ends_unit, help_name, is_letter, name_alone, nothing, removed_if, suggestion_text}
-use Rattle.duration_str.proofs.LawProofs.MendedBytes.{blank_small, digit_small, end_cut, EndCut, ends_by_last, ends_chars, first_digit, past_small, run_parts, RunParts, small_chars, some_end}
+use Rattle.duration_str_help.specs.declared.suggestion.Mend.{Mend}
+use Rattle.duration_str_units.specs.declared.rules.Rules.{Rules as CodeRules}
+use Rattle.duration_str_help.specs.Fraction.{end_run}
+use Rattle.duration_str_help.specs.Help.{begins_with_letter, help_name, is_letter}
+use Rattle.duration_str_help.specs.Mends.{ends_unit, name_alone, nothing, removed_if, suggestion_text}
+use Rattle.duration_str_help.proofs.MendedBytes.{blank_small, digit_small, end_cut, EndCut, ends_by_last, ends_chars, first_digit, past_small, run_parts, RunParts, small_chars, some_end, ends_in}
 use Rattle.duration_str.proofs.LawProofs.MendedNames.{joined_chars, mends, name_bytes, name_read, name_scalars, written}
-use Rattle.duration_str.proofs.LawProofs.MendedNumbers.{apart_blank, apart_word, ends_in, front_begins, IsApart, joined_digits, kept}
-use Rattle.duration_str.proofs.Characters.CharacterLemmas.{all_weaker}
-use Rattle.duration_str.proofs.OnePass.PlaceLemmas.{byte_count, fault_placed}
-use Rattle.duration_str.proofs.Sentences.AnswerLemmas.{answer_refused}
+use Rattle.duration_str.proofs.LawProofs.MendedNumbers.{apart_blank, apart_word, front_begins, IsApart, joined_digits, kept}
+use Rattle.duration_str_units.proofs.CharacterLemmas.{all_weaker, byte_count}
+use Rattle.duration_str_reading.proofs.OnePass.PlaceLemmas.{fault_placed}
+use Rattle.duration_str_reading.proofs.Sentences.AnswerLemmas.{answer_refused}
 
 -- What the mend writes has no syntax fault before its end.
 abbrev pub Keeps : CodeRules → List ℕ → Mend → Type 0

@@ -4,19 +4,19 @@ use Rattle.duration_str.proofs.Common.{[], ahead, and_parts, ap, append_assoc, a
 use Rattle.std.proofs.lemmas.List.Folds.{length-prefix_len}
 use Rattle.std.proofs.Math.Nat.{div-le_self}
 use Rattle.std.proofs.Math.Seq.{take-append_seam}
-use Rattle.duration_str.specs.declared.mended.Mend.{Mend}
-use Rattle.duration_str.specs.declared.rules.Rules.{Rules as CodeRules}
-use Rattle.duration_str.specs.Fraction.{as_term, end_run, longest_whole, nanos_of_fraction, whole_quotient}
-use Rattle.duration_str.specs.OneLine.{begins_with_letter, can_end_number, first_piece, fraction_mend, fraction_with, help_name, is_letter, meant_unit, unit_ahead}
-use Rattle.duration_str.proofs.Characters.CharacterLemmas.{all_weaker}
-use Rattle.duration_str.proofs.Characters.NumberLemmas.{decimal_digits}
-use Rattle.duration_str.proofs.Characters.PackedLemmas.{no_long_name}
-use Rattle.duration_str.proofs.LawProofs.MendedBytes.{blank_no_letter, blank_small, digit_small, end_cut, EndCut, first_char, is_small, past_small, plain_no_letter, run_parts, run_stops, RunParts, small_chars, small_len, small_utf8}
+use Rattle.duration_str_help.specs.declared.suggestion.Mend.{Mend}
+use Rattle.duration_str_units.specs.declared.rules.Rules.{Rules as CodeRules}
+use Rattle.duration_str_help.specs.Fraction.{as_term, end_run, longest_whole, nanos_of_fraction, whole_quotient}
+use Rattle.duration_str_help.specs.Help.{begins_with_letter, first_piece, help_name, is_letter}
+use Rattle.duration_str_help.specs.Mends.{can_end_number, fraction_mend, fraction_with, meant_unit, unit_ahead}
+use Rattle.duration_str_units.proofs.CharacterLemmas.{all_weaker, byte_count}
+use Rattle.duration_str_units.proofs.NumberLemmas.{decimal_digits}
+use Rattle.duration_str_units.proofs.PackedLemmas.{no_long_name}
+use Rattle.duration_str_help.proofs.MendedBytes.{blank_no_letter, blank_small, digit_small, end_cut, EndCut, first_char, is_small, past_small, plain_no_letter, run_parts, run_stops, RunParts, small_chars, small_len, small_utf8}
 use Rattle.duration_str.proofs.LawProofs.MendedNames.{length-le-bytes, name_bytes, name_read, name_scalars, near_short, written}
 use Rattle.duration_str.proofs.LawProofs.MendedNumbers.{term_in_place}
 use Rattle.duration_str.proofs.LawProofs.MendedPlaces.{after_place, IsPlaced, Keeps}
-use Rattle.duration_str.proofs.OnePass.PlaceLemmas.{byte_count}
-use Rattle.duration_str.proofs.Printer.MendedLemmas.{after_piece, cut_piece, IsCut, piece_stops}
+use Rattle.duration_str_help.proofs.MendedLemmas.{after_piece, cut_piece, IsCut, piece_stops}
 
 -- ---- The parts of a mend
 

@@ -1,9 +1,9 @@
 use Rattle.duration_str.proofs.Common.{[], all_names, arith, bytes_eq, bytes_eq-Decides, Bool, cases_Bool, codes, comparison_form, false, find, inl, inr, List, list_all, list_any, map, more_names, None, not, Option, Options, or_cases, refl, row_of, rules, rules_of, Some, sym, TimeUnit, to_ascii_lowercase, true, unit_of_word, units, ℕ, ◌∷◌, ◌≡◌, ◌||◌, ◌==◌}
 use Rattle.std.specs.Option.{option_map}
 use Rattle.duration_str.specs.Laws.{IsAdvised, NearWords}
-use Rattle.duration_str.specs.OneLine.{help_name, near_unit, small_words}
-use Rattle.duration_str.proofs.Characters.UnitLemmas.{all_units, each_unit, named_unit}
-use Rattle.duration_str.proofs.Characters.PackedLemmas.{no_letter_mu, no_letter_name, no_name}
+use Rattle.duration_str_help.specs.Help.{help_name, near_unit, small_words}
+use Rattle.duration_str_units.proofs.UnitLemmas.{all_units, each_unit, named_unit}
+use Rattle.duration_str_units.proofs.PackedLemmas.{no_letter_mu, no_letter_name, no_name}
 
 lower_twice : (word : List ℕ) → map to_ascii_lowercase (map to_ascii_lowercase word) ≡ map to_ascii_lowercase word
 lower_twice [] = refl

@@ -1,6 +1,6 @@
 use Rattle.duration_str.proofs.Common.{false, true, [], and_parts, Bool, HasNoOperator, is_operator, IsRead, IsSentence, List, map, NoCalcAgrees, not, number, operator, Rules, Some, Terminal, terminal_of, with_no_calc, word, ℕ, ⊤, ◌∷◌, rules}
-use Rattle.duration_str.proofs.Cutting.SortLemmas.{terminal_cases}
-use Rattle.duration_str.proofs.Sentences.SpellingLemmas.{EachPasses, lexemes_pass}
+use Rattle.duration_str_reading.proofs.Cutting.SortLemmas.{terminal_cases}
+use Rattle.duration_str_reading.proofs.Sentences.SpellingLemmas.{EachPasses, lexemes_pass}
 
 abbrev HaveNoOperator : List Terminal → Type 0
 HaveNoOperator [] = ⊤

@@ -1,7 +1,7 @@
 use Rattle.duration_str.proofs.Common.{arith, List, OneCut, OneSentence, Spells, subst, sym, ℕ, ◌∙◌}
-use Rattle.duration_str.proofs.Cutting.TokenLemmas.{tokens_are, tokens_once}
-use Rattle.duration_str.proofs.Sentences.SpellingLemmas.{sentence_tokens, tokens_spell}
-use Rattle.duration_str.proofs.Sentences.AnswerLemmas.{answer_is_reading_holds, one_reading_holds}
+use Rattle.duration_str_reading.proofs.Cutting.TokenLemmas.{tokens_are, tokens_once}
+use Rattle.duration_str_reading.proofs.Sentences.SpellingLemmas.{sentence_tokens, tokens_spell}
+use Rattle.duration_str_reading.proofs.Sentences.AnswerLemmas.{answer_is_reading_holds, one_reading_holds}
 
 pub one_sentence_holds : OneSentence
 one_sentence_holds = record {

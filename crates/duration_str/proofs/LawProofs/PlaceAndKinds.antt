@@ -1,5 +1,5 @@
 use Rattle.duration_str.proofs.Common.{[], allows, CondUnit, expected_after, IsTrue, last_of, List, None, operator, Option, PlaceAndKinds, Rules, Some, Terminal, true, true≢false, ◌∷◌, ◌≡◌, ◌≢◌, rules}
-use Rattle.duration_str.proofs.Sentences.FrontLemmas.{AreAllowed, begins_allowed, expected_by_table, no_operators, one_front, table_front}
+use Rattle.duration_str_reading.proofs.Sentences.FrontLemmas.{AreAllowed, begins_allowed, expected_by_table, no_operators, one_front, table_front}
 
 allowed_no_operator : (r : Rules) (last : Option Terminal) (t : Terminal)
     (op : CondUnit) → r.options.no_calc ≡ true

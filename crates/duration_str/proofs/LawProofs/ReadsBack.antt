@@ -1,7 +1,7 @@
 use Rattle.duration_str.proofs.Common.{[], arith, counts_of, drop, early, early_fault, eqb-true, false, false_from_ne_true, FitsDuration, IsPrintedIn, IsRead, IsRefused, le-ltb, List, lt-ltb, map, nanos_of, None, nonzero, number, Option, Options, Overflow, Plus, ReadsBack, refl, rules, rules_with, Some, Style, sum_of, sym, Terminal, terminal_of, terms_of, TimeUnit, unit_lengths, units, word, written_terms, Year, ℕ, ◌*◌, ◌+◌, ◌/◌, ◌<◌, ◌==◌, ◌^◌, ◌∙◌, ◌∷◌, ◌≡◌, ◌≤◌}
-use Rattle.duration_str.proofs.Sentences.AnswerLemmas.{EachFits, sentence_refused, sum_fits_each, sum_overflows, sum_read}
-use Rattle.duration_str.proofs.Sentences.SumLemmas.{terms_long}
-use Rattle.duration_str.proofs.Printer.PrintingLemmas.{duration_lexemes, duration_sum, printed_is_sum, terminals, terminals_of_duration}
+use Rattle.duration_str_reading.proofs.Sentences.AnswerLemmas.{EachFits, sentence_refused, sum_fits_each, sum_overflows, sum_read}
+use Rattle.duration_str_reading.proofs.Sentences.SumLemmas.{terms_long}
+use Rattle.duration_str.proofs.LawProofs.PrintedTexts.{duration_lexemes, duration_sum, printed_is_sum, terminals, terminals_of_duration}
 
 abbrev years : ℕ → ℕ
 years nanos = nanos / nanos_of Year

@@ -1,7 +1,7 @@
 use Rattle.duration_str.proofs.Common.{[], arith, cases_Bool, cond-true, eq-eqb, eqb-true, find, if◌then◌else◌, List, map, refl, Reorder, Some, sum_by, sum_by-cons, sum_of, Term, times_in, value_of_term, ℕ, ◌+◌, ◌==◌, ◌∷◌, ◌≡◌, ◌≤◌}
 use Rattle.std.specs.Set.{remove_key}
 use Rattle.std.proofs.lemmas.Map.Made.{sum_by-remove_key}
-use Rattle.duration_str.proofs.Sentences.AnswerLemmas.{read_below, read_sum, sum_read}
+use Rattle.duration_str_reading.proofs.Sentences.AnswerLemmas.{read_below, read_sum, sum_read}
 
 abbrev is_times : ℕ → ℕ → ℕ
 is_times n x = if x == n then 1 else 0

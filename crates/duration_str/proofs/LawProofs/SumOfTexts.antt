@@ -1,8 +1,8 @@
 use Rattle.duration_str.proofs.Common.{[], AllPlus, and_from, append_assoc, arith, cases_Bool, codes, CondUnit, false, HasNoStar, inl, inr, IsBlank, IsRead, IsSentence, List, list_all-append, map, map-append, nat_tests, not, number, operator, Plus, refl, Rules, rules, Some, Spells, sum_of, SumOfTexts, Term, Terminal, terminal_of, terms_after, terms_of, word, written_terms, ℕ, ◌++◌, ◌+◌, ◌==◌, ◌∙◌, ◌∷◌, ◌≡◌, common_steps}
-use Rattle.duration_str.proofs.Cutting.SortLemmas.{terminal_cases}
-use Rattle.duration_str.proofs.Sentences.SpellingLemmas.{begins_with, EachPasses, lexemes_pass}
-use Rattle.duration_str.proofs.Sentences.SumLemmas.{evaluate_fits, sum-append}
-use Rattle.duration_str.proofs.Sentences.AnswerLemmas.{EachFits, fitting_sum_read, IsSumOf, read_sum, sum_overflows}
+use Rattle.duration_str_reading.proofs.Cutting.SortLemmas.{terminal_cases}
+use Rattle.duration_str_reading.proofs.Sentences.SpellingLemmas.{begins_with, EachPasses, lexemes_pass}
+use Rattle.duration_str_reading.proofs.Sentences.SumLemmas.{evaluate_fits, sum-append}
+use Rattle.duration_str_reading.proofs.Sentences.AnswerLemmas.{EachFits, fitting_sum_read, IsSumOf, read_sum, sum_overflows}
 
 spells_after_blanks : (lexemes : List (List ℕ)) (s t : List ℕ) → IsBlank s → Spells lexemes t
     → Spells lexemes (s ++ t)

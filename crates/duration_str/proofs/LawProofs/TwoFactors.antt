@@ -1,6 +1,6 @@
 use Rattle.duration_str.proofs.Common.{[], arith, IsRead, IsSentenceOf, List, mul-div_cancel, mul_comm, refl, Rules, one_second, Some, Star, Term, TwoFactors, value_of, value_of_term, written_terms, ℕ, ◌*◌, ◌/◌, ◌<◌, ◌^◌, ◌↔◌, ◌∷◌, ◌≡◌}
-use Rattle.duration_str.proofs.Sentences.SumLemmas.{no_fault}
-use Rattle.duration_str.proofs.Sentences.AnswerLemmas.{read_sentence}
+use Rattle.duration_str_reading.proofs.Sentences.SumLemmas.{no_fault}
+use Rattle.duration_str_reading.proofs.Sentences.AnswerLemmas.{read_sentence}
 
 abbrev Fit : Term → Term → ℕ → Type 0
 Fit t u nanos =

@@ -1,4 +1,4 @@
-use Rattle.duration_str.proofs.LawProofs.AllParts.{all_parts_holds}
+use Rattle.duration_str_printing.proofs.AllParts.{all_parts_holds}
 use Rattle.duration_str.proofs.laws.all_parts.Goals as goal
 
 pub returns : goal.returns

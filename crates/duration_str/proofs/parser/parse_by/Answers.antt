@@ -1,5 +1,5 @@
 use Rattle.duration_str.proofs.Common.{meaning_of}
-use Rattle.duration_str.proofs.Sentences.AnswerLemmas.{parses_text}
+use Rattle.duration_str.proofs.ResultLemmas.{parses_text}
 use Rattle.duration_str.proofs.parser.parse_by.Goals as goal
 
 pub returns : goal.returns

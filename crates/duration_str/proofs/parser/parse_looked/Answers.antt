@@ -1,6 +1,6 @@
-use Rattle.duration_str.proofs.Sentences.AnswerLemmas.{parses_text, same_on_err}
+use Rattle.duration_str.proofs.ResultLemmas.{parses_text, same_on_err}
 use Rattle.duration_str.proofs.Common.{rules_of}
-use Rattle.duration_str.specs.OtherResults.{ReachesPlace}
+use Rattle.duration_str_reading.specs.Place.{ReachesPlace}
 use Rattle.duration_str.proofs.parser.parse_looked.Goals as goal
 
 pub returns-clause-parsed : goal.returns-clause-parsed

@@ -1,6 +1,6 @@
 use Rattle.std.proofs.Common.{rules, ◌≡◌}
 use Rattle.std.specs.Str.{chars}
-use Rattle.duration_str.specs.Faults.{found_token}
+use Rattle.duration_str_refusals.specs.Faults.{found_token}
 use Rattle.duration_str_c.specs.Answers.{token_length, refusal_answer}
 use Rattle.duration_str_c.proofs.answer.refused.Goals as goal
 

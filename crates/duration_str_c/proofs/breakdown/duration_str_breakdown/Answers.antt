@@ -1,7 +1,7 @@
 use Rattle.std.proofs.Common.{arith, inl, inr, ◌+◌, ◌*◌, ◌≡◌, ◌≤◌, ◌^◌}
 use Rattle.std.proofs.lemmas.Grind.{common_steps}
-use Rattle.duration_str.specs.Breakdown.{ArePartsRounded, nanos_left, parts_left, sum_of_parts}
-use Rattle.duration_str.specs.declared.format.Style.TheVariants.{Short}
+use Rattle.duration_str_printing.specs.Breakdown.{ArePartsRounded, nanos_left, parts_left, sum_of_parts}
+use Rattle.duration_str_printing.specs.declared.format.Style.TheVariants.{Short}
 use Rattle.duration_str_c.specs.Format.{format_of}
 use Rattle.duration_str_c.specs.Rounding.{rounding_numbered}
 use Rattle.duration_str_c.proofs.BreakdownLemmas.{large_counts, large_rest}

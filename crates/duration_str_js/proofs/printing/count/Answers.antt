@@ -1,6 +1,6 @@
 use Rattle.std.proofs.Common.{arith, rules}
 use Rattle.std.proofs.lemmas.Grind.{common_steps}
-use Rattle.duration_str.specs.Breakdown.{nanos_left, parts_left}
+use Rattle.duration_str_printing.specs.Breakdown.{nanos_left, parts_left}
 use Rattle.duration_str_js.proofs.printing.count.Goals as goal
 
 pub returns-in_err-parts-clause-none : goal.returns-in_err-parts-clause-none

@@ -1,6 +1,6 @@
 use Rattle.std.proofs.Common.{◌≡◌}
-use Rattle.duration_str.specs.Breakdown.{parts_left}
-use Rattle.duration_str.specs.Format.{set_of, with_each}
+use Rattle.duration_str_printing.specs.Breakdown.{parts_left}
+use Rattle.duration_str_printing.specs.Format.{set_of, with_each}
 use Rattle.duration_str_js.specs.Printing.{units_among, with_counts}
 use Rattle.duration_str_js.proofs.printing.count_parts.Given as goal
 

@@ -2,7 +2,7 @@ use Rattle.std.proofs.Common.{◌∷◌, ◌++◌, refl, inl, inr, encode_utf8_a
 use Rattle.std.specs.Prelude.{codes}
 use Rattle.std.specs.Duration.{as_nanos}
 use Rattle.std.specs.Fmt.{decimal}
-use Rattle.duration_str.specs.Messages.{message_of}
+use Rattle.duration_str_refusals.specs.Messages.{message_of}
 use Rattle.durstr_run.specs.Output.{IsLineOutput}
 use Rattle.durstr_run.proofs.output.push_line.Goals as goal
 

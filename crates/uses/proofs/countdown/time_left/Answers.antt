@@ -1,6 +1,6 @@
 use Rattle.duration_str.proofs.Common.{map, nanos_of, refl, shorter_units, unit_lengths, units_within, ◌++◌, ◌≡◌, arith, as_nanos, cases_lt, chars, inl, inr, IsMostWithin, IsPrintedWithin, List, ℕ}
 use Rattle.uses.specs.Countdown.{coarse}
-use Rattle.duration_str.specs.Format.{chosen, is_in}
+use Rattle.duration_str_printing.specs.Format.{chosen, is_in}
 use Rattle.uses.proofs.countdown.time_left.Goals as goal
 
 all_lengths : map nanos_of (units_within coarse ++ shorter_units (units_within coarse)) ≡ unit_lengths

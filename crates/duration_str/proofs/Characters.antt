@@ -1,4 +1,0 @@
-pub mod UnitLemmas
-pub mod NumberLemmas
-pub mod PackedLemmas
-pub mod CharacterLemmas

@@ -1,5 +1,0 @@
--- The lemmas that show that the reader's one pass gives the computed answer.
-pub mod PlaceLemmas
-pub mod ReaderLemmas
-pub mod TermsLemmas
-pub mod EvaluationLemmas

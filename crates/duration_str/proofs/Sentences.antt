@@ -1,4 +1,0 @@
-pub mod FrontLemmas
-pub mod SpellingLemmas
-pub mod SumLemmas
-pub mod AnswerLemmas

@@ -1,5 +1,0 @@
-use Rattle.duration_str.proofs.Common.{IsUtf8-between, IsUtf8-had, rules}
-use Rattle.duration_str.proofs.eye.Eye.bytes_since.Goals as goal
-
-pub returns-clause-utf8 : goal.returns-clause-utf8
-returns-clause-utf8 c = search (rules, IsUtf8-had, IsUtf8-between)

@@ -1,7 +1,0 @@
-use Rattle.duration_str.proofs.format.Units.contains.Goals as goal
-use Rattle.duration_str.specs.Format.{is_in}
-use Rattle.std.proofs.lemmas.Nat.Bits.{shr_and_one}
-
-pub returns : goal.returns
-unfolding is_in
-returns c = rw (shr_and_one c.args.self.bits c.rank.result, c.rank.ensures)

@@ -1,5 +1,0 @@
-use Rattle.duration_str.proofs.Common.{drop, number_after, number_of, ◌≡◌}
-use Rattle.duration_str.proofs.fraction.number_of.Given as goal
-
-abbrev pub invariant-loop-b : goal.invariant-loop-b
-invariant-loop-b l = number_after l.number (drop l.b-index l.digits) ≡ number_of l.digits

@@ -1,9 +1,0 @@
-use Rattle.duration_str.proofs.Common.{◌∙◌}
-use Rattle.duration_str.proofs.Printer.MessageLemmas.{run_boundary, run_taken}
-use Rattle.duration_str.proofs.message.short_run.Goals as goal
-
-pub range-requires-clause-end_boundary : goal.range-requires-clause-end_boundary
-range-requires-clause-end_boundary c = run_boundary c.args.count c.requires
-
-pub returns : goal.returns
-returns c = c.range.ensures.value ∙ run_taken c.args.count c.requires

@@ -1,7 +1,0 @@
-use Rattle.duration_str.proofs.Common.{arith}
-use Rattle.duration_str.proofs.Printer.DigitLemmas.{put_last}
-use Rattle.duration_str.proofs.printing.+put_number.Goals as goal
-
-pub returns-clause-text : goal.returns-clause-text
-returns-clause-text t c =
-    put_last _ _ _ c.args.n c.put_digit-2.ensures.text c.put_number-end.ensures.text (omega arith) (omega arith)

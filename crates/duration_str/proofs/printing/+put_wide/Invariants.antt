@@ -1,4 +1,0 @@
-use Rattle.duration_str.proofs.printing.+put_wide.Given as goal
-
-abbrev pub decreases-put_wide : goal.decreases-put_wide
-decreases-put_wide l = l.n

@@ -1,0 +1,3 @@
+-- Definitions for private contracts.
+pub mod Mends
+pub mod Writing

@@ -1,0 +1,6 @@
+pub mod Buffers
+pub mod Fraction
+pub mod Help
+pub mod Mends
+pub mod Quotes
+pub mod Internal

@@ -1,0 +1,150 @@
+-- What to write in place of a part of a refused text, and the text that this gives.
+use Rattle.std.specs.Prelude.{◌≡◌, ℕ, ◌+◌, ◌-◌, Bool, true, not, ◌&&◌, ◌||◌, [], ◌∷◌, ◌++◌, Option, Some, None, if◌then◌else◌, ◌==◌, decimal, encode_utf8_all, take, drop, length, option_map, is_some, chars, bytes_eq, codes}
+use Rattle.std.specs.List.{prefix_len}
+use Rattle.std.specs.Option.{option_or}
+use Rattle.duration_str_units.specs.declared.cause.Expected.{Expected}
+use Rattle.duration_str_units.specs.declared.cause.Cause.{Cause}
+use Rattle.duration_str_units.specs.declared.cause.Cause.TheVariants.{Syntax}
+use Rattle.duration_str_help.specs.declared.help.Help.{Help}
+use Rattle.duration_str_help.specs.declared.help.Help.TheVariants.{DidYouMean, Fraction, DigitsOnly, LeadingPlus, Iso8601, NoPoint, Zero}
+use Rattle.duration_str_help.specs.declared.suggestion.Mend.{Mend}
+use Rattle.duration_str_help.specs.declared.mended.Mended.{Mended}
+use Rattle.duration_str_help.specs.declared.suggestion.Suggestion.{Suggestion}
+use Rattle.duration_str_units.specs.declared.unit.TimeUnit.{TimeUnit}
+use Rattle.duration_str_units.specs.declared.unit.TimeUnit.TheVariants.{Second}
+use Rattle.duration_str_help.specs.Fraction.{as_term, end_run, nanos_of_fraction}
+use Rattle.duration_str_units.specs.Text.{Bytes, Characters, is_blank, is_digit, operator_of}
+use Rattle.duration_str_units.specs.Rules.{Rules, unit_of_word}
+use Rattle.duration_str_help.specs.Help.{begins_with_letter, first_piece, help_name, is_letter, near_unit, syntax_help}
+
+-- the digits of a count, if there is one
+abbrev pub count_text : Option ℕ → Bytes
+count_text (Some count) = decimal count
+count_text None = []
+
+-- the name of a unit that a help names, if there is a unit
+abbrev pub unit_text : Option TimeUnit → Bytes
+unit_text (Some unit) = encode_utf8_all (help_name unit)
+unit_text None = []
+
+-- what a suggestion says to write: the count's digits, and the unit's name after them
+abbrev pub suggestion_text : Suggestion → Bytes
+suggestion_text s = count_text s.count ++ unit_text s.unit
+
+abbrev pub name_alone : TimeUnit → Suggestion
+name_alone unit = record { count = None; unit = Some unit }
+
+abbrev pub nothing : Suggestion
+nothing = record { count = None; unit = None }
+
+-- the mend that removes the bytes from `start` to `end`, if the condition is true
+abbrev pub removed_if : Bool → ℕ → ℕ → Option Mend
+removed_if condition start end =
+    if condition then Some (record { start = start; end = end; suggestion = nothing }) else None
+
+-- the unit that a word names, or otherwise the unit that it is near
+abbrev pub meant_unit : Rules → Characters → Option TimeUnit
+meant_unit r word = option_or (unit_of_word r word) (near_unit word)
+
+-- whether a number without a unit can stand before these bytes: they are none, or begin with an
+-- operator that is read
+abbrev pub can_end_number : Rules → Bytes → Bool
+can_end_number r [] = true
+can_end_number r (b ∷ bytes) = not r.options.no_calc && is_some (operator_of b)
+
+-- the unit of the number before these bytes, and the length of the blanks and the word that name
+-- it. The length is 0 if the number has the default unit
+abbrev pub unit_ahead : Rules → Bytes → Option (TimeUnit × ℕ)
+unit_ahead r bytes =
+    let blanks = prefix_len is_blank bytes in
+    let word = first_piece (chars (drop blanks bytes)) in
+    if begins_with_letter word
+    then option_map (λ u. (u, blanks + length (encode_utf8_all word))) (meant_unit r word)
+    else if can_end_number r (drop blanks bytes) then option_map (λ u. (u, 0)) r.default_unit
+    else None
+
+-- The mend of a number with these digits before and after its point. It starts at byte `start`, its
+-- digits end at byte `end`, and this is its unit, with the length of the blanks and the word that
+-- name it
+abbrev pub fraction_with : Rules → Bytes → Bytes → ℕ → ℕ → Option (TimeUnit × ℕ) → Option Mend
+fraction_with r whole decimals start end (Some (u, more)) =
+    option_map (λ nanos. record { start = start; end = end + more; suggestion = as_term r.table u nanos })
+    (nanos_of_fraction whole decimals (r.table u).nanos)
+fraction_with r whole decimals start end None = None
+
+-- the mend of a number whose point is at byte `place`: one term in place of the number and its
+-- unit. The digits directly before the point can be missing where a number can stand
+abbrev pub fraction_mend : Rules → Bytes → ℕ → Expected → Option Mend
+fraction_mend r text place expected =
+    let whole = end_run is_digit (take place text) in
+    let after = drop (place + 1) text in
+    let decimals = take (prefix_len is_digit after) after in
+    let end = place + 1 + length decimals in
+    if length decimals == 0 || (length whole == 0 && not expected.number) then None
+    else fraction_with r whole decimals (place - length whole) end (unit_ahead r (drop end text))
+
+-- whether a point can go that these characters follow directly: they begin with no letter, which
+-- would join the unit's word, and with no digit, since the point can begin a fraction
+abbrev pub ends_unit : Characters → Bool
+ends_unit [] = true
+ends_unit (c ∷ text) = not (is_letter c || is_digit c)
+
+-- The mend for a help, if it has one that is certain, given the bytes of the piece at byte `place`.
+abbrev pub mend_for : Rules → Bytes → ℕ → Expected → Bytes → Option Help → Option Mend
+mend_for r text place expected piece (Some (DidYouMean unit)) =
+    Some (record { start = place; end = place + length piece; suggestion = name_alone unit })
+mend_for r text place expected piece (Some Fraction) = fraction_mend r text place expected
+mend_for r text place expected piece (Some LeadingPlus) = removed_if true place (place + length piece)
+mend_for r text place expected piece (Some NoPoint) =
+    removed_if (ends_unit (chars (drop (place + length piece) text))) place (place + length piece)
+mend_for r text place expected piece (Some DigitsOnly) =
+    removed_if (bytes_eq piece (codes "_") || bytes_eq piece (codes "'")) place (place + length piece)
+mend_for r text place expected piece (Some Iso8601) =
+    removed_if (length piece == 2 && not r.options.lowercase) place (place + length piece)
+mend_for r text place expected piece (Some Zero) =
+    Some (record { start = place; end = place; suggestion = name_alone Second })
+mend_for r text place expected piece help = None
+
+-- the mend of the bytes of a text that is refused by these rules for this cause, if there is one
+-- that is certain
+abbrev pub mend_of : Rules → Bytes → Cause → Option Mend
+mend_of r text (Syntax place expected) =
+    let piece = first_piece (chars (drop place text)) in
+    mend_for r text place expected (encode_utf8_all piece) (syntax_help text place expected piece)
+mend_of r text cause = None
+
+-- what to write for that mend, if there is one
+abbrev pub suggestion_of : Rules → Bytes → Cause → Option Suggestion
+suggestion_of r text cause = option_map (λ mend. mend.suggestion) (mend_of r text cause)
+
+-- The refused text is the front, the part that is replaced, and the rest. The mended text is the
+-- front, what is written instead, and the rest.
+pub record Pieces : Type 0 where
+  pub front : Bytes
+  pub replaced : Bytes
+  pub written : Bytes
+  pub rest : Bytes
+
+-- the pieces of a text with this mend
+abbrev pub pieces_of : Bytes → Mend → Pieces
+pieces_of text mend = record {
+  front = take mend.start text;
+  replaced = take (mend.end - mend.start) (drop mend.start text);
+  written = suggestion_text mend.suggestion;
+  rest = drop mend.end text;
+}
+
+-- the pieces of a refused text and its mended text, if there is a mend that is certain
+abbrev pub mended_of : Rules → Bytes → Cause → Option Pieces
+mended_of r text cause = option_map (pieces_of text) (mend_of r text cause)
+
+-- The result has these pieces, or is `None` if there are none.
+abbrev pub HasPieces : Option Pieces → Option Mended → Type 0
+HasPieces pieces None = pieces ≡ None
+HasPieces pieces (Some new) =
+    pieces ≡ Some (record {
+      front = new.front.now;
+      replaced = new.replaced.now;
+      written = suggestion_text new.suggestion;
+      rest = new.rest.now;
+    })

@@ -1,0 +1,129 @@
+//! What to write in place of a part of a refused text, and the text that this gives.
+ghost use Rattle.std.specs.Prelude.{◌≡◌, ℕ, ◌^◌, ◌<◌, ◌≤◌, ◌+◌, ◌++◌, ◌==◌, ◌||◌, not, length, take, encode_utf8_all, option_map, IfSome, Some};
+ghost use Rattle.std.specs.Str.{chars, IsCharBoundary};
+ghost use Rattle.duration_str_units.specs.Internal.Positions.{ahead};
+ghost use Rattle.duration_str_help.specs.Internal.Mends.{IsCutOut};
+ghost use Rattle.duration_str_units.specs.Meaning.{meaning_of};
+ghost use Rattle.duration_str_help.specs.Mends.{HasPieces, ends_unit, mend_for, pieces_of, removed_if};
+ghost use Rattle.duration_str_help.specs.Help.{first_piece};
+
+use crate::characters::is_letter;
+use crate::fraction::fraction_mend;
+use crate::help::{Found, Help};
+use crate::suggestion::{Mend, Suggestion};
+use duration_str_units::cause::Expected;
+use duration_str_units::rules::Rules;
+use duration_str_units::slice::{range_from, range_to};
+use duration_str_units::unit::TimeUnit;
+
+/// A refused text, and what to write instead of a part of it. The refused text is `front`,
+/// `replaced` and `rest`, one after the other. The mended text is `front`, the suggestion and
+/// `rest`.
+///
+/// ```
+/// use duration_str::{Options, parse_with};
+///
+/// let mended = parse_with("2 * 1.5h", Options::off()).unwrap_err().mended().unwrap();
+/// assert_eq!([mended.front, mended.replaced, mended.rest], ["2 * ", "1.5h", ""]);
+/// assert_eq!(mended.suggestion.to_string(), "90min");
+/// assert_eq!(mended.to_string(), "2 * 90min");
+/// ```
+#[derive(Clone, Copy, Debug, PartialEq, Eq, Hash)]
+pub struct Mended<'a> {
+    /// The text before the part that is replaced.
+    pub front: &'a str,
+    /// The part that is replaced. It is empty if the suggestion is to be inserted.
+    pub replaced: &'a str,
+    /// What to write instead. It is empty if the part is to be removed.
+    pub suggestion: Suggestion,
+    /// The text after the part that is replaced.
+    pub rest: &'a str,
+}
+
+pub fn cut_out(text: &str, mend: Mend) -> Mended<'_>
+    requires { IsCutOut text.now mend }
+    ensures pieces { HasPieces (Some (pieces_of text.now mend)) (Some result) }
+    ensures suggestion { result.suggestion ≡ mend.suggestion }
+    ensures whole { text.now ≡ result.front.now ++ (result.replaced.now ++ result.rest.now) }
+{
+    let ahead = range_from(text, mend.start);
+    Mended {
+        front: range_to(text, mend.start),
+        replaced: range_to(ahead, mend.end - mend.start),
+        suggestion: mend.suggestion,
+        rest: range_from(text, mend.end),
+    }
+}
+
+/// Returns the mend for what was found at the place, if it has one that is certain.
+pub fn mend_for(
+    text: &str,
+    place: usize,
+    expected: Expected,
+    found: &Found<'_>,
+    rules: Rules,
+) -> Option<Mend>
+    requires boundary { IsCharBoundary text.now place }
+    requires piece { found.now.piece.now ≡ encode_utf8_all (first_piece (ahead text.now place)) }
+    ensures mend { result
+        ≡ mend_for (meaning_of rules) text.now place expected found.now.piece.now found.now.help }
+    ensures cut { IfSome result (IsCutOut text.now) }
+{
+    let piece = found.piece;
+    let end = place + piece.len();
+    match found.help? {
+        Help::DidYouMean(unit) => Some(named(place, end, unit)),
+        Help::Fraction => fraction_mend(text, place, expected, rules),
+        Help::LeadingPlus => removed_if(true, place, end),
+        Help::NoPoint => removed_if(ends_unit(range_from(text, end)), place, end),
+        Help::DigitsOnly => removed_if(piece == "_" || piece == "'", place, end),
+        Help::Iso8601 => removed_if(piece.len() == 2 && !rules.options.lowercase, place, end),
+        Help::Zero => Some(named(place, place, TimeUnit::Second)),
+        _ => None,
+    }
+}
+
+/// Returns whether a point can go that this text follows directly: it begins with no letter, which
+/// would join the unit's word, and with no digit, since the point can begin a fraction.
+fn ends_unit(text: &str) -> bool
+    ensures { result ≡ ends_unit (chars text.now) }
+{
+    match text.chars().next() {
+        Some(c) => !is_letter(c) && !c.is_ascii_digit(),
+        None => true,
+    }
+}
+
+fn named(start: usize, end: usize, unit: TimeUnit) -> Mend
+    ensures start { result.start ≡ start }
+    ensures end { result.end ≡ end }
+    ensures count { result.suggestion.count ≡ None }
+    ensures unit { result.suggestion.unit ≡ Some unit }
+{
+    let suggestion = Suggestion {
+        count: None,
+        unit: Some(unit),
+    };
+    Mend {
+        start,
+        end,
+        suggestion,
+    }
+}
+
+fn removed_if(condition: bool, start: usize, end: usize) -> Option<Mend>
+    ensures { result ≡ removed_if condition start end }
+{
+    if !condition {
+        return None;
+    }
+    let suggestion = Suggestion {
+        count: None,
+        unit: None,
+    };
+    Some(Mend {
+        start,
+        end,
+        suggestion,
+    })
+}

@@ -1,0 +1,14 @@
+pub mod Common
+pub mod AllParts
+pub mod BreakdownLemmas
+pub mod FormatLemmas
+pub mod GreatestBreakdown
+pub mod GreatestWithin
+pub mod PartsAndRest
+pub mod PrintedBytesLemmas
+pub mod RoundingLemmas
+pub mod SetLemmas
+pub mod SpacedLemmas
+pub mod WithinLemmas
+pub mod LawRows
+pub mod ResultRows

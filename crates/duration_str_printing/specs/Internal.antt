@@ -1,0 +1,2 @@
+-- Definitions for private contracts, such as what each step of cutting, reading or printing does.
+pub mod PrintedBytes

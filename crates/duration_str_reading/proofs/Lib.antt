@@ -1,0 +1,6 @@
+pub mod Common
+pub mod Cutting
+pub mod OnePass
+pub mod Sentences
+pub mod LawRows
+pub mod ResultRows

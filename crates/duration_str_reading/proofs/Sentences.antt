@@ -1,0 +1,4 @@
+pub mod AnswerLemmas
+pub mod FrontLemmas
+pub mod SpellingLemmas
+pub mod SumLemmas

@@ -1,0 +1,3 @@
+-- Definitions for private contracts, such as what each step of cutting, reading or printing does.
+pub mod Rest
+pub mod Steps

@@ -1,0 +1,9 @@
+pub mod Grammar
+pub mod Tokens
+pub mod Place
+pub mod Value
+pub mod Reading
+pub mod Answer
+pub mod Iteration
+pub mod Internal
+pub mod ReadingLaws

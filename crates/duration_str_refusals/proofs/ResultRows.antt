@@ -1,0 +1,24 @@
+-- Rows of definitions that say what calls return: what follows from each in one case. A definition
+-- that said less would be refused here.
+use Rattle.std.specs.Prelude.{◌≡◌, Option, None, Some}
+use Rattle.std.proofs.Common.{refl}
+use Rattle.duration_str_refusals.specs.Errors.{IsErrorOf}
+use Rattle.duration_str_help.specs.Mends.{HasPieces, Pieces, suggestion_text}
+use Rattle.duration_str_help.specs.declared.mended.Mended.{Mended}
+use Rattle.duration_str_units.specs.declared.cause.Cause.TheVariants.{Overflow}
+use Rattle.duration_str_refusals.specs.declared.error.DError.TheVariants.{OverflowError}
+
+pub overflow_has_no_line : {A : Type 0} → IsErrorOf {A = A} (Overflow None) OverflowError
+overflow_has_no_line = refl
+
+pub no_pieces : (pieces : Option Pieces) → HasPieces pieces None → pieces ≡ None
+no_pieces pieces is = is
+
+pub has_these_pieces : (pieces : Option Pieces) (new : Mended) → HasPieces pieces (Some new)
+    → pieces ≡ Some (record {
+      front = new.front.now;
+      replaced = new.replaced.now;
+      written = suggestion_text new.suggestion;
+      rest = new.rest.now;
+    })
+has_these_pieces pieces new is = is

@@ -1,0 +1,2 @@
+-- Definitions for private contracts.
+pub mod Escapes

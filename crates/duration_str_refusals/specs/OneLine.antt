@@ -1,0 +1,85 @@
+-- The help for a fault, what to write instead, and the fault in one line: what is wrong, for a
+-- syntax fault at which column, and what stands there, and then the words of the help.
+use Rattle.std.specs.Prelude.{ℕ, ◌+◌, [], ◌∷◌, ◌++◌, Option, Some, None, if◌then◌else◌, ◌==◌, decimal, encode_utf8_all, drop, chars, codes}
+use Rattle.std.specs.List.{list_any}
+use Rattle.duration_str_units.specs.declared.cause.Expected.{Expected}
+use Rattle.duration_str_units.specs.declared.cause.Cause.{Cause}
+use Rattle.duration_str_units.specs.declared.cause.Cause.TheVariants.{Empty, Syntax, NumberTooLarge, Overflow, Mixed}
+use Rattle.duration_str_help.specs.declared.help.Help.{Help}
+use Rattle.duration_str_help.specs.declared.help.Help.TheVariants.{Fraction}
+use Rattle.duration_str_help.specs.declared.suggestion.Mend.{Mend}
+use Rattle.duration_str_help.specs.declared.suggestion.Suggestion.{Suggestion}
+use Rattle.duration_str_units.specs.Text.{Bytes, Characters}
+use Rattle.duration_str_units.specs.Rules.{Rules}
+use Rattle.duration_str_units.specs.Causes.{line_of}
+use Rattle.duration_str_refusals.specs.Messages.{chars_before}
+use Rattle.duration_str_help.specs.Quotes.{quoted}
+use Rattle.duration_str_help.specs.Help.{first_piece, help_words, is_unknown_unit, help_of}
+use Rattle.duration_str_help.specs.Mends.{suggestion_text, mend_of}
+
+-- ---- The words of a help
+
+-- the words for a fraction that has a mend
+abbrev pub fraction_words : Suggestion → Bytes
+fraction_words suggestion = codes " (fractions are not read: write " ++ (suggestion_text suggestion ++ codes ")")
+
+-- the end of a line: the words of its help, if any. Those of a fraction say its mend, if it has one
+abbrev pub help_end : Option Help → Option Mend → Bytes
+help_end (Some Fraction) (Some mend) = fraction_words mend.suggestion
+help_end (Some help) mend = help_words help
+help_end None mend = []
+
+-- ---- The line
+
+abbrev pub expected_words : Expected → Bytes
+expected_words expected =
+    if expected.unit_word then
+    (if expected.operator then codes "expected a unit, '+', '*' or the end"
+    else if expected.text_end then codes "expected a unit or the end"
+    else codes "expected a unit")
+    else if expected.operator then codes "expected a number, '+', '*' or the end"
+    else if expected.text_end then codes "expected a number or the end"
+    else codes "expected a number"
+
+abbrev pub at_column : ℕ → Bytes
+at_column column = codes " at column " ++ decimal column
+
+abbrev pub found_words : Characters → Bytes
+found_words [] = codes ", found the end"
+found_words (c ∷ piece) = codes ", found " ++ quoted (c ∷ piece)
+
+abbrev pub found_problem : Bytes → ℕ → Characters → Bytes
+found_problem words column piece = words ++ (at_column column ++ found_words piece)
+
+abbrev pub unknown_problem : ℕ → Characters → Bytes
+unknown_problem column word = codes "unknown unit " ++ (quoted word ++ at_column column)
+
+-- what is wrong at this column, where this piece stands
+abbrev pub problem_at : ℕ → Expected → Characters → Bytes
+problem_at column expected piece =
+    if is_unknown_unit expected piece then unknown_problem column piece
+    else found_problem (expected_words expected) column piece
+
+abbrev pub text_problem : Bytes → Bytes → Bytes
+text_problem problem text = problem ++ (codes " in " ++ quoted (chars text))
+
+-- what is too large. If the text has a `*`, a step can be too large though the value is not
+abbrev pub overflow_words : Bytes → Bytes
+overflow_words text =
+    if list_any (λ b. b == 42) text then codes "step of over 584 years" else codes "duration of over 584 years"
+
+-- what is wrong, given the bytes of the text that was read. Columns are counted in characters,
+-- from 1
+abbrev pub problem_of : Bytes → Cause → Bytes
+problem_of text Empty = codes "empty text"
+problem_of text (Syntax place expected) =
+    problem_at (chars_before text place + 1) expected (first_piece (chars (drop place text)))
+problem_of text (NumberTooLarge place) = text_problem (codes "number of 2^64 or more") text
+problem_of text (Overflow place) = text_problem (overflow_words text) text
+problem_of text (Mixed first later) = text_problem (codes "sum and product mixed") text
+problem_of text cause = encode_utf8_all (line_of cause)
+
+-- the bytes of the line of a text that is refused by these rules: what is wrong, and the help, if
+-- any
+abbrev pub one_line_of : Rules → Bytes → Cause → Bytes
+one_line_of r text cause = problem_of text cause ++ help_end (help_of text cause) (mend_of r text cause)

@@ -1,0 +1,211 @@
+//! The message of a fault, and its layout.
+ghost use Rattle.std.specs.Prelude.{◌≡◌, ◌≤◌, ◌-◌, ◌^◌, ◌++◌, ◌<◌, ℕ, ⊤, List, None, Some, IfSome, IfNone, IsErr, IsOk, IsUtf8, length, take, replicate, decimal, encode_utf8_all};
+ghost use Rattle.std.specs.Fmt.{DisplaysOnOk, DisplaysStyledOnOk, HasWritten, IsPlainFormatter, WritesInCalls};
+ghost use Rattle.std.specs.Str.{IsCharBoundary};
+ghost use Rattle.duration_str_help.specs.Buffers.{IsInFront};
+ghost use Rattle.duration_str_refusals.specs.Messages.{byte_text, caret_text, chars_before, message_of, laid_out};
+ghost use Rattle.duration_str_units.specs.Causes.{line_of};
+
+use crate::fault::Fault;
+use duration_str_help::buffer::{put, put_decimal};
+use duration_str_units::slice::range_to;
+use std::fmt;
+
+impl Fault<'_> {
+    pub(crate) fn layout(&self) -> Layout
+        ensures text { laid_out result self.now.text.now (encode_utf8_all (line_of self.now.cause))
+            ≡ message_of self.now.text.now self.now.cause }
+        ensures small { (place : ℕ) → result ≡ Layout.Byte place → place < 2 ^ 64 }
+    {
+        let Some(place) = self.cause.place() else {
+            return Layout::Line;
+        };
+        if self.text.as_bytes().contains(&b'\n') {
+            return Layout::Byte { place };
+        }
+        Layout::Caret {
+            spaces: chars_before(self.text, place),
+        }
+    }
+
+    /// Writes the message. It fails only if the sink does.
+    #[tactic(auto, using(crate::proofs::SinkLemmas::in_one_call))]
+    fn write_message<S: Sink>(&self, sink: &mut S) -> fmt::Result
+        ensures writes { IsOk result → WritesInCalls S.took sink.old
+            (message_of self.now.text.now self.now.cause) sink.new }
+        ensures fails { IsErr result → S.has_failed sink.new }
+    {
+        let layout = self.layout();
+        let line = self.cause.line();
+        if let Layout::Line = layout {
+            return sink.put(line);
+        }
+        // Most messages are short and fit into this buffer. Then one call of the sink is enough,
+        // which takes less time than several.
+        if let Some(message) = layout.message(&mut [0; 256], self.text, line) {
+            return sink.put(message);
+        }
+        match layout {
+            Layout::Caret { spaces } => write_caret(sink, self.text, spaces, line),
+            // Messages without a caret fit.
+            _ => unreachable!(),
+        }
+    }
+}
+
+/// Prints the cause's line. If the fault has a place, the text is printed above the line, and
+/// between them a caret, after one space for each character before the place. But if the text has a
+/// line feed, the place is printed before the line instead, as in `byte 5: expected number`.
+///
+/// ```text
+/// 3ms-2ms
+///    ^
+/// expected ['+', '*']
+/// ```
+impl fmt::Display for Fault<'_> {
+    ghost output = { λ fault. Some (message_of fault.text.now fault.cause) };
+
+    fn fmt<W: fmt::Write>(&self, f: &mut fmt::Formatter<W>) -> fmt::Result
+        ensures writes { DisplaysOnOk W.write_str_gives f.old result
+            (Some (message_of self.now.text.now self.now.cause)) f.new }
+        ensures styled { DisplaysStyledOnOk W.write_str_gives f.old result None f.new }
+    {
+        self.write_message(f)
+    }
+}
+
+#[derive(Clone, Copy)]
+pub(crate) enum Layout {
+    Line,
+    /// The place, such as `byte 5: `, and the line.
+    Byte { place: usize },
+    /// The text, below it a caret after this many spaces, and below that the line.
+    Caret { spaces: usize },
+}
+
+impl Layout {
+    pub(crate) fn message<'b>(self, buffer: &'b mut [u8], text: &str, line: &str) -> Option<&'b str>
+        ensures text { IfSome result
+            (λ message. message.now ≡ laid_out self text.now line.now) }
+        ensures long { IfNone result
+            (length buffer.old < length (laid_out self text.now line.now)) }
+    {
+        match self.put(buffer, text, line) {
+            // SAFETY: `put` writes UTF-8 up to `end`, by its clause `utf8`.
+            Some(end) => Some(unsafe { std::str::from_utf8_unchecked(&buffer[..end]) }),
+            None => None,
+        }
+    }
+
+    fn put(self, buffer: &mut [u8], text: &str, line: &str) -> Option<usize>
+        ensures bytes { IsInFront (laid_out self text.now line.now) result buffer.new }
+        ensures utf8 { IfSome result (λ end. IsUtf8 (take end buffer.new)) }
+    {
+        match self {
+            Layout::Line => put(buffer, 0, line.as_bytes()),
+            Layout::Byte { place } => put_byte(buffer, place, line),
+            Layout::Caret { spaces } => put_caret(buffer, text, spaces, line),
+        }
+    }
+}
+
+#[tactic(auto, using(std::proofs::lemmas::Str::chars_from_encodes, crate::proofs::OneLineLemmas::chars_before_le))]
+#[inline(never)]
+pub(crate) fn chars_before(text: &str, place: usize) -> usize
+    requires { IsCharBoundary text.now place }
+    ensures count { result ≡ chars_before text.now place }
+    ensures short { result ≤ length text.now }
+{
+    range_to(text, place).chars().count()
+}
+
+fn put_byte(buffer: &mut [u8], place: usize, line: &str) -> Option<usize>
+    ensures bytes { IsInFront (byte_text place line.now) result buffer.new }
+    ensures utf8 { IfSome result (λ end. IsUtf8 (take end buffer.new)) }
+{
+    let word = put(buffer, 0, b"byte ")?;
+    let number = put_decimal(buffer, word, place as u64)?;
+    let colon = put(buffer, number, b": ")?;
+    put(buffer, colon, line.as_bytes())
+}
+
+fn put_caret(buffer: &mut [u8], text: &str, spaces: usize, line: &str) -> Option<usize>
+    ensures bytes { IsInFront (caret_text text.now spaces line.now) result buffer.new }
+    ensures utf8 { IfSome result (λ end. IsUtf8 (take end buffer.new)) }
+{
+    let above = put(buffer, 0, text.as_bytes())?;
+    let below = put(buffer, above, b"\n")?;
+    let caret = put_spaces(buffer, below, spaces)?;
+    let line_start = put(buffer, caret, b"^\n")?;
+    put(buffer, line_start, line.as_bytes())
+}
+
+fn put_spaces(buffer: &mut [u8], at: usize, count: usize) -> Option<usize>
+    requires { at ≤ length buffer.old }
+    ensures { IsInFront (take at buffer.old ++ replicate count 32) result buffer.new }
+{
+    if count > buffer.len() - at {
+        return None;
+    }
+    let end = at + count;
+    buffer[at..end].fill(b' ');
+    Some(end)
+}
+
+/// What a message is written to.
+trait Sink {
+    /// A call of `put` with these bytes takes the sink from the first state to the second one.
+    ghost took: { Self → List ℕ → Self → Type 0 };
+
+    /// The last call of `put` failed. A function that writes to every sink can show this only after
+    /// such a call. So by its clause `fails` it fails only if its sink does. `fmt::Write` has no
+    /// such word.
+    ghost has_failed: { Self → Type 0 };
+
+    fn put(&mut self, piece: &str) -> fmt::Result
+        ensures took { IsOk result → took self.old piece.now self.new }
+        ensures fails { IsErr result → has_failed self.new };
+}
+
+impl<W: fmt::Write> Sink for fmt::Formatter<W> {
+    ghost took = { λ f bytes g. IsPlainFormatter f → HasWritten W.write_str_gives f bytes g };
+
+    ghost has_failed = { λ _. ⊤ };
+
+    fn put(&mut self, piece: &str) -> fmt::Result {
+        self.write_str(piece)
+    }
+}
+
+fn write_caret<S: Sink>(sink: &mut S, text: &str, spaces: usize, line: &str) -> fmt::Result
+    ensures writes { IsOk result → WritesInCalls S.took sink.old
+        (caret_text text.now spaces line.now) sink.new }
+    ensures fails { IsErr result → S.has_failed sink.new }
+{
+    sink.put(text)?;
+    sink.put("\n")?;
+    write_spaces(sink, spaces)?;
+    sink.put("^\n")?;
+    sink.put(line)
+}
+
+fn write_spaces<S: Sink>(sink: &mut S, count: usize) -> fmt::Result
+    ensures writes { IsOk result → WritesInCalls S.took sink.old (replicate count 32) sink.new }
+    ensures fails { IsErr result → S.has_failed sink.new }
+{
+    let mut left = count;
+    while left > 64 {
+        sink.put(short_run(64))?;
+        left -= 64;
+    }
+    sink.put(short_run(left))
+}
+
+fn short_run(count: usize) -> &'static str
+    requires { count ≤ 64 }
+    ensures { result.now ≡ replicate count 32 }
+{
+    &SPACES[..count]
+}
+
+const SPACES: &str = "                                                                ";

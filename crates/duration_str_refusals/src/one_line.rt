@@ -1,0 +1,391 @@
+//! A fault in one line: what is wrong, and for a syntax fault at which column, and what stands
+//! there.
+//!
+//! Each private function that writes returns the index where its part ends, or `None` if there is
+//! no room. So no contract requires room for a part. One proof, for the whole line, shows that
+//! everything fits.
+ghost use Rattle.std.specs.Prelude.{◌≡◌, ◌≤◌, ◌<◌, ◌++◌, ◌+◌, ◌-◌, ◌&&◌, ◌==◌, not, length, take, encode_utf8_all, IsTrue, ◌||◌, None, if◌then◌else◌};
+ghost use Rattle.std.specs.Char.{digit_char};
+ghost use Rattle.std.specs.Char.Escape.{escape_unicode, short_escape};
+ghost use Rattle.std.specs.List.{list_all, list_any};
+ghost use Rattle.std.specs.Str.{chars, IsCharBoundary};
+ghost use Rattle.duration_str_help.specs.Buffers.{IsInFront};
+ghost use Rattle.duration_str_refusals.specs.Internal.Escapes.{hex_digits};
+ghost use Rattle.duration_str_units.specs.Internal.Positions.{ahead};
+ghost use Rattle.duration_str_units.specs.Causes.{place_of};
+ghost use Rattle.duration_str_refusals.specs.Messages.{chars_before};
+ghost use Rattle.std.specs.Option.{ForSome};
+ghost use Rattle.std.specs.Int.{is_in_range};
+ghost use Rattle.duration_str_help.specs.declared.help.Help.TheVariants.{DidYouMean};
+ghost use Rattle.duration_str_refusals.specs.OneLine.{one_line_of, at_column, found_problem, found_words, unknown_problem, problem_at, text_problem, overflow_words, expected_words, fraction_words, help_end};
+ghost use Rattle.duration_str_help.specs.Help.{help_words};
+ghost use Rattle.duration_str_help.specs.Quotes.{is_plain, is_clear, shown, quoted};
+ghost use Rattle.duration_str_help.specs.Help.{first_piece, is_unknown_unit, overflow_help, syntax_help};
+ghost use Rattle.duration_str_help.specs.Mends.{mend_of};
+ghost use Rattle.duration_str_units.specs.Meaning.{meaning_of};
+ghost use Rattle.duration_str_units.specs.declared.cause.Cause.TheVariants.{Syntax};
+ghost use Rattle.duration_str_refusals.specs.declared.one_line.TheConstants.{MAX_ONE_LINE_LEN};
+
+use crate::fault::Fault;
+use crate::message::chars_before;
+use duration_str_help::buffer::{put, put_decimal};
+use duration_str_help::characters::is_clear;
+use duration_str_help::fraction::fraction_mend;
+use duration_str_help::help::{Found, Help, MOST_SHOWN, found_at, help_words, overflow_help};
+use duration_str_help::suggestion::{Suggestion, put_suggestion};
+use duration_str_units::cause::{Cause, Expected};
+use duration_str_units::rules::Rules;
+
+/// No fault's line has more bytes than this.
+///
+/// ```
+/// use duration_str::{MAX_ONE_LINE_LEN, Options, parse_with};
+///
+/// let text = "1".to_string() + &"\u{1f600}".repeat(50);
+/// let fault = parse_with(&text, Options::off()).unwrap_err();
+/// assert!(fault.to_string().len() <= MAX_ONE_LINE_LEN);
+/// ```
+pub const MAX_ONE_LINE_LEN: usize = 294;
+
+/// The size of a buffer that has room for every fault's line.
+pub const ONE_LINE_BUFFER_SIZE: usize = 384;
+
+impl Fault<'_> {
+    /// Writes the fault in one line to the start of a buffer, and returns the line. It says what is
+    /// wrong, and for a syntax fault at which column, and what stands there. A quote shows at most
+    /// 40 characters. In it, `"`, the backslash, control characters and most characters that can't
+    /// be seen are escaped. `rules` must be those with which the text was read: for a fraction they
+    /// decide what the line says to write. The buffer's old contents do not matter. The call
+    /// allocates nothing and cannot fail.
+    ///
+    /// ```text
+    /// let rules = Rules::of(Options::off());
+    /// let mut buffer = [0; ONE_LINE_BUFFER_SIZE];
+    /// parse_by("1m 3-5", rules).unwrap_err().write_one_line(rules, &mut buffer)
+    /// // expected a unit, '+', '*' or the end at column 5, found "-"
+    /// ```
+    #[must_use]
+    pub fn write_one_line<'b>(
+        &self,
+        rules: Rules,
+        buffer: &'b mut [u8; ONE_LINE_BUFFER_SIZE],
+    ) -> &'b str
+        ensures text { result.now
+            ≡ one_line_of (meaning_of rules) self.now.text.now self.now.cause }
+        ensures plain { IsTrue (list_all is_plain (chars result.now)) }
+        ensures short { length result.now ≤ MAX_ONE_LINE_LEN }
+    {
+        match put_line(buffer, self.text, self.cause, rules) {
+            // SAFETY: the line up to `end` is UTF-8.
+            Some(end) => unsafe { std::str::from_utf8_unchecked(&buffer[..end]) },
+            // The longest line fits.
+            None => unreachable!(),
+        }
+    }
+}
+
+fn put_line(buffer: &mut [u8], text: &str, cause: Cause, rules: Rules) -> Option<usize>
+    requires { ForSome (place_of cause) (IsCharBoundary text.now) }
+    ensures { IsInFront (one_line_of (meaning_of rules) text.now cause) result buffer.new }
+{
+    match cause {
+        Cause::Empty => put(buffer, 0, b"empty text"),
+        Cause::Syntax { place, expected } => put_syntax(buffer, text, place, expected, rules),
+        Cause::NumberTooLarge { .. } => put_text_problem(buffer, "number of 2^64 or more", text),
+        Cause::Overflow { .. } => put_overflow(buffer, text),
+        Cause::Mixed { .. } => put_text_problem(buffer, "sum and product mixed", text),
+        Cause::OutOfRange | Cause::NotText { .. } => put_text(buffer, 0, cause.line()),
+    }
+}
+
+fn put_syntax(
+    buffer: &mut [u8],
+    text: &str,
+    place: usize,
+    expected: Expected,
+    rules: Rules,
+) -> Option<usize>
+    requires { IsCharBoundary text.now place }
+    ensures { IsInFront (problem_at (chars_before text.now place + 1) expected
+        (first_piece (ahead text.now place))
+        ++ help_end (syntax_help text.now place expected (first_piece (ahead text.now place)))
+        (mend_of (meaning_of rules) text.now (Syntax place expected)))
+        result buffer.new }
+{
+    let found = found_at(text, place, expected);
+    let end = put_syntax_problem(buffer, column_at(text, place), expected, &found)?;
+    if found.help != Some(Help::Fraction) {
+        return put_help(buffer, end, found.help);
+    }
+    match fraction_mend(text, place, expected, rules) {
+        Some(mend) => put_fraction_words(buffer, end, mend.suggestion),
+        None => put_help(buffer, end, found.help),
+    }
+}
+
+fn put_fraction_words(buffer: &mut [u8], at: usize, suggestion: Suggestion) -> Option<usize>
+    requires { at ≤ length buffer.old }
+    ensures { IsInFront (take at buffer.old ++ fraction_words suggestion) result buffer.new }
+{
+    let term = put(buffer, at, b" (fractions are not read: write ")?;
+    let end = put_suggestion(buffer, term, suggestion)?;
+    put(buffer, end, b")")
+}
+
+#[inline(always)]
+fn put_syntax_problem(
+    buffer: &mut [u8],
+    column: usize,
+    expected: Expected,
+    found: &Found<'_>,
+) -> Option<usize>
+    requires { found.now.is_unknown_unit ≡ is_unknown_unit expected (chars found.now.piece.now) }
+    ensures { IsInFront (problem_at column expected (chars found.now.piece.now))
+        result buffer.new }
+{
+    if found.is_unknown_unit {
+        put_unknown(buffer, column, found.piece)
+    } else {
+        put_found(buffer, expected_words(expected), column, found.piece)
+    }
+}
+
+fn put_unknown(buffer: &mut [u8], column: usize, word: &str) -> Option<usize>
+    ensures { IsInFront (unknown_problem column (chars word.now)) result buffer.new }
+{
+    let start = put(buffer, 0, b"unknown unit ")?;
+    let end = put_quoted(buffer, start, word)?;
+    put_column(buffer, end, column)
+}
+
+fn put_found(buffer: &mut [u8], words: &str, column: usize, piece: &str) -> Option<usize>
+    ensures { IsInFront (found_problem words.now column (chars piece.now)) result buffer.new }
+{
+    let start = put_text(buffer, 0, words)?;
+    let number = put_column(buffer, start, column)?;
+    put_words(buffer, number, piece)
+}
+
+#[inline(always)]
+fn column_at(text: &str, place: usize) -> usize
+    requires { IsCharBoundary text.now place }
+    ensures column { result ≡ chars_before text.now place + 1 }
+    ensures short { result ≤ length text.now + 1 }
+{
+    chars_before(text, place) + 1
+}
+
+fn put_words(buffer: &mut [u8], at: usize, piece: &str) -> Option<usize>
+    requires { at ≤ length buffer.old }
+    ensures { IsInFront (take at buffer.old ++ found_words (chars piece.now)) result buffer.new }
+{
+    if piece.is_empty() {
+        return put(buffer, at, b", found the end");
+    }
+    let found = put(buffer, at, b", found ")?;
+    put_quoted(buffer, found, piece)
+}
+
+fn put_overflow(buffer: &mut [u8], text: &str) -> Option<usize>
+    ensures { IsInFront (text_problem (overflow_words text.now) text.now
+        ++ help_end (overflow_help text.now) None) result buffer.new }
+{
+    let end = put_overflow_problem(buffer, text)?;
+    put_help(buffer, end, overflow_help(text.as_bytes()))
+}
+
+fn put_overflow_problem(buffer: &mut [u8], text: &str) -> Option<usize>
+    ensures { IsInFront (text_problem (overflow_words text.now) text.now) result buffer.new }
+{
+    if has_star(text.as_bytes()) {
+        put_text_problem(buffer, "step of over 584 years", text)
+    } else {
+        put_text_problem(buffer, "duration of over 584 years", text)
+    }
+}
+
+fn has_star(bytes: &[u8]) -> bool
+    ensures { result ≡ list_any (λ b. b == 42) bytes.now }
+{
+    bytes.iter().any(|b| *b == b'*')
+}
+
+fn put_text_problem(buffer: &mut [u8], problem: &str, text: &str) -> Option<usize>
+    ensures { IsInFront (text_problem problem.now text.now) result buffer.new }
+{
+    let start = put_text(buffer, 0, problem)?;
+    let before = put(buffer, start, b" in ")?;
+    put_quoted(buffer, before, text)
+}
+
+fn put_help(buffer: &mut [u8], at: usize, help: Option<Help>) -> Option<usize>
+    requires { at ≤ length buffer.old }
+    ensures { IsInFront (take at buffer.old ++ help_end help None) result buffer.new }
+{
+    match help {
+        Some(help) => put_text(buffer, at, help_words(help)),
+        None => Some(at),
+    }
+}
+
+fn put_column(buffer: &mut [u8], at: usize, column: usize) -> Option<usize>
+    requires { at ≤ length buffer.old }
+    ensures { IsInFront (take at buffer.old ++ at_column column) result buffer.new }
+{
+    let number = put(buffer, at, b" at column ")?;
+    put_decimal(buffer, number, column as u64)
+}
+
+fn put_text(buffer: &mut [u8], at: usize, text: &str) -> Option<usize>
+    requires { at ≤ length buffer.old }
+    ensures { IsInFront (take at buffer.old ++ text.now) result buffer.new }
+{
+    put(buffer, at, text.as_bytes())
+}
+
+/// Writes a text in quotes. A short ASCII text that needs no escapes is copied whole.
+#[inline(never)]
+fn put_quoted(buffer: &mut [u8], at: usize, text: &str) -> Option<usize>
+    requires { at ≤ length buffer.old }
+    ensures { IsInFront (take at buffer.old ++ quoted (chars text.now)) result buffer.new }
+{
+    let mut end = put(buffer, at, b"\"")?;
+    if text.len() <= MOST_SHOWN && are_clear(text.as_bytes()) {
+        end = put_text(buffer, end, text)?;
+        return put(buffer, end, b"\"");
+    }
+    let mut room = MOST_SHOWN;
+    let mut chars = text.chars();
+    while let Some(c) = chars.next() {
+        let width = shown_len(c);
+        if width > room {
+            return put(buffer, end, b"\"...");
+        }
+        end = put_shown(buffer, end, c)?;
+        room -= width;
+    }
+    put(buffer, end, b"\"")
+}
+
+fn are_clear(bytes: &[u8]) -> bool
+    ensures { result ≡ list_all (λ b. is_in_range 32 126 b && not (b == 34 || b == 92)) bytes.now }
+{
+    bytes
+        .iter()
+        .all(|b| matches!(b, b' '..=b'~') && *b != b'"' && *b != b'\\')
+}
+
+fn shown_len(c: char) -> usize
+    ensures { result ≡ length (shown c) }
+{
+    if is_clear(c) {
+        1
+    } else if escape_letter(c) != 0 {
+        2
+    } else {
+        4 + hex_len(c as u32)
+    }
+}
+
+fn put_shown(buffer: &mut [u8], at: usize, c: char) -> Option<usize>
+    requires { at ≤ length buffer.old }
+    ensures { IsInFront (take at buffer.old ++ encode_utf8_all (shown c)) result buffer.new }
+{
+    if is_clear(c) {
+        return put_text(buffer, at, c.encode_utf8(&mut [0; 4]));
+    }
+    let letter = escape_letter(c);
+    if letter != 0 {
+        return put(buffer, at, &[b'\\', letter]);
+    }
+    put_code(buffer, at, c)
+}
+
+/// Returns the letter after the backslash in a character's escape, as in `\n`. If the escape is the
+/// character's code, as in `\u{1b}`, it returns 0.
+fn escape_letter(c: char) -> u8
+    ensures { result ≡ short_escape c }
+{
+    match c {
+        '\t' => b't',
+        '\r' => b'r',
+        '\n' => b'n',
+        '\'' => b'\'',
+        '"' => b'"',
+        '\\' => b'\\',
+        _ => 0,
+    }
+}
+
+/// Writes the escape that is the character's code, as in `\u{1b}`.
+fn put_code(buffer: &mut [u8], at: usize, c: char) -> Option<usize>
+    requires { at ≤ length buffer.old }
+    ensures { IsInFront (take at buffer.old ++ escape_unicode c) result buffer.new }
+{
+    let start = put(buffer, at, b"\\u{")?;
+    let end = put_hex(buffer, start, c as u32)?;
+    put(buffer, end, b"}")
+}
+
+/// Writes a number to the base 16.
+fn put_hex(buffer: &mut [u8], at: usize, n: u32) -> Option<usize>
+    requires room { at ≤ length buffer.old }
+    requires small { n < 0x100_0000 }
+    ensures { IsInFront (take at buffer.old ++ hex_digits n) result buffer.new }
+{
+    let end = if n < 16 {
+        at
+    } else {
+        put_hex(buffer, at, n / 16)?
+    };
+    put(buffer, end, &[hex_digit(n % 16)])
+}
+
+fn hex_digit(digit: u32) -> u8
+    requires { digit < 16 }
+    ensures { result ≡ digit_char digit }
+{
+    if digit < 10 {
+        b'0' + digit as u8
+    } else {
+        b'a' - 10 + digit as u8
+    }
+}
+
+/// Returns how many digits a number below 2^20 has to the base 16.
+fn hex_len(n: u32) -> usize
+    requires { n < 0x10_0000 }
+    ensures { result ≡ length (hex_digits n) }
+{
+    if n < 0x10 {
+        1
+    } else if n < 0x100 {
+        2
+    } else if n < 0x1000 {
+        3
+    } else if n < 0x1_0000 {
+        4
+    } else {
+        5
+    }
+}
+
+fn expected_words(expected: Expected) -> &'static str
+    ensures { result.now ≡ expected_words expected }
+{
+    if expected.unit_word {
+        if expected.operator {
+            "expected a unit, '+', '*' or the end"
+        } else if expected.text_end {
+            "expected a unit or the end"
+        } else {
+            "expected a unit"
+        }
+    } else if expected.operator {
+        "expected a number, '+', '*' or the end"
+    } else if expected.text_end {
+        "expected a number or the end"
+    } else {
+        "expected a number"
+    }
+}

@@ -1,0 +1,7 @@
+pub mod Common
+pub mod CharacterLemmas
+pub mod DigitLemmas
+pub mod NumberLemmas
+pub mod PackedLemmas
+pub mod TermLemmas
+pub mod UnitLemmas

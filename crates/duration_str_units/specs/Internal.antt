@@ -1,0 +1,4 @@
+-- Definitions for private contracts, such as what each step of cutting, reading or printing does.
+pub mod Numbers
+pub mod Positions
+pub mod UnitTable

@@ -1,0 +1,10 @@
+pub mod Text
+pub mod Units
+pub mod Rules
+pub mod MoreNames
+pub mod Humantime
+pub mod Meaning
+pub mod Options
+pub mod Internal
+pub mod Causes
+pub mod Term

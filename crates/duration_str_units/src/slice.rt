@@ -1,0 +1,26 @@
+//! Slices of a text at a place that is known to be a character boundary. Rust's own slices test
+//! that, and contain what reports that it isn't one.
+ghost use Rattle.std.specs.Prelude.{◌≡◌, ◌+◌, drop, length, slice_range};
+ghost use Rattle.std.specs.Str.{IsCharBoundary};
+
+/// Returns `&text[..to]`.
+#[inline(always)]
+pub fn range_to(text: &str, to: usize) -> &str
+    requires { IsCharBoundary text.now to }
+    ensures value { result.now ≡ slice_range text.now 0 to }
+    ensures len { length result.now ≡ to }
+{
+    // SAFETY: what stands before a character boundary of a text is UTF-8.
+    unsafe { std::str::from_utf8_unchecked(&text.as_bytes()[..to]) }
+}
+
+/// Returns `&text[from..]`.
+#[inline(always)]
+pub fn range_from(text: &str, from: usize) -> &str
+    requires { IsCharBoundary text.now from }
+    ensures value { result.now ≡ drop from text.now }
+    ensures len { length result.now + from ≡ length text.now }
+{
+    // SAFETY: what follows a character boundary of a text is UTF-8.
+    unsafe { std::str::from_utf8_unchecked(&text.as_bytes()[from..]) }
+}
