@@ -49,7 +49,9 @@ function optionsToTry(options) {
 export function offerFor(text, options, value) {
     const tried = value === undefined ? optionsToTry(options) : [options];
     const read = tried.map((each) => {
-        const mended = complete(mend(text, each));
+        // What is left out is told by the unit that was typed, and the mended text of a fraction
+        // can have another one: `1.5h 30` is `90min 30m`.
+        const mended = complete(mend(complete(text), each));
         return { text: mended, options: each, ...tryParseNs(mended, each) };
     });
     return read.find((each) => each.ok && each.value !== value);
