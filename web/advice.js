@@ -54,7 +54,10 @@ export function offerFor(text, options, value) {
         const mended = complete(mend(complete(text), each));
         return { text: mended, options: each, ...tryParseNs(mended, each) };
     });
-    return read.find((each) => each.ok && each.value !== value);
+    const offer = read.find((each) => each.ok && each.value !== value);
+    // `1.5年` is mended only with Chinese units, but its mended text needs none.
+    const needed = offer && tried.find((each) => tryParseNs(offer.text, each).value === offer.value);
+    return offer && { ...offer, options: needed };
 }
 
 const BARE = /[0-9]*[1-9][0-9]*(?=\s*(?:\+|$))/;
