@@ -72,6 +72,17 @@ test("lets nothing unsafe into the message, and keeps it short", () => {
     }
 });
 
+test("mends a part that has fewer UTF-16 units than bytes", () => {
+    const rows = [
+        ["5 μs 2h", "us", "5 us 2h"],
+        ["1分 1.5分 2h 😀", "90s", "1分 90s 2h 😀"],
+    ];
+    for (const [text, suggestion, mended] of rows) {
+        const error = errorOf(text, { cnUnit: true });
+        assert.deepEqual([error.suggestion, error.mended], [suggestion, mended]);
+    }
+});
+
 test("refuses lone surrogates, wherever they stand", () => {
     const rows = [
         ["1s\udfff", 2],
