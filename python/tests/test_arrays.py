@@ -277,10 +277,10 @@ class Reading(unittest.TestCase):
                 line = r"^at index 1: duration of 2\^63 nanoseconds or more, which timedelta64 doesn't have$"
                 with self.assertRaisesRegex(DurationError, line) as raised:
                     to_timedelta(["1s", text, "x"])
-                self.assertEqual(
-                    (raised.exception.index, raised.exception.cause), (1, Cause.OVERFLOW)
-                )
-                self.assertEqual((raised.exception.text, raised.exception.place), (text, None))
+                error = raised.exception
+                self.assertEqual((error.index, error.cause), (1, Cause.OVERFLOW))
+                self.assertEqual((error.text, error.place), (text, None))
+                self.assertEqual((error.help, error.suggestion, error.mended), (None,) * 3)
 
     def test_raises_the_first_refusal(self):
         with self.assertRaisesRegex(
