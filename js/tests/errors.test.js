@@ -182,6 +182,11 @@ test("is shown without a long text where nobody catches it", () => {
             assert.equal(each[field], "x".repeat(81));
         }
     }
+    // The mended text lacks the sign.
+    const [shown, hidden] = [80, 81].map((length) => errorOf(`+${"1".repeat(length)}`));
+    assert.ok(inspect(shown).includes(`mended: '${"1".repeat(80)}'`));
+    assert.ok(inspect(hidden).includes("mended: [Getter]"));
+    assert.equal(hidden.mended, "1".repeat(81));
 });
 
 test("survives a structured clone and JSON, with all that is wrong", () => {
