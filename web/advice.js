@@ -49,10 +49,15 @@ function optionsToTry(options) {
 export function offerFor(text, options, value) {
     const tried = value === undefined ? optionsToTry(options) : [options];
     const read = tried.map((each) => {
-        const mended = complete(mend(text, each));
+        // What is left out is told by the unit that was typed, and the mended text of a fraction
+        // can have another one: `1.5h 30` is `90min 30m`.
+        const mended = complete(mend(complete(text), each));
         return { text: mended, options: each, ...tryParseNs(mended, each) };
     });
-    return read.find((each) => each.ok && each.value !== value);
+    const offer = read.find((each) => each.ok && each.value !== value);
+    // `1.5年` is mended only with Chinese units, but its mended text needs none.
+    const needed = offer && tried.find((each) => tryParseNs(offer.text, each).value === offer.value);
+    return offer && { ...offer, options: needed };
 }
 
 const BARE = /[0-9]*[1-9][0-9]*(?=\s*(?:\+|$))/;

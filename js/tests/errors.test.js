@@ -72,6 +72,17 @@ test("lets nothing unsafe into the message, and keeps it short", () => {
     }
 });
 
+test("mends a part that has fewer UTF-16 units than bytes", () => {
+    const rows = [
+        ["5 μs 2h", "us", "5 us 2h"],
+        ["1分 1.5分 2h 😀", "90s", "1分 90s 2h 😀"],
+    ];
+    for (const [text, suggestion, mended] of rows) {
+        const error = errorOf(text, { cnUnit: true });
+        assert.deepEqual([error.suggestion, error.mended], [suggestion, mended]);
+    }
+});
+
 test("refuses lone surrogates, wherever they stand", () => {
     const rows = [
         ["1s\udfff", 2],
@@ -171,6 +182,11 @@ test("is shown without a long text where nobody catches it", () => {
             assert.equal(each[field], "x".repeat(81));
         }
     }
+    // The mended text lacks the sign.
+    const [shown, hidden] = [80, 81].map((length) => errorOf(`+${"1".repeat(length)}`));
+    assert.ok(inspect(shown).includes(`mended: '${"1".repeat(80)}'`));
+    assert.ok(inspect(hidden).includes("mended: [Getter]"));
+    assert.equal(hidden.mended, "1".repeat(81));
 });
 
 test("survives a structured clone and JSON, with all that is wrong", () => {

@@ -36,6 +36,13 @@ class Errors(unittest.TestCase):
                 self.assertIs(error.help, code and Help[code])
                 self.assertEqual((error.suggestion, error.mended), (suggestion, mended))
 
+    def test_mends_a_part_that_has_fewer_characters_than_bytes(self):
+        rows = [("5 μs 2h", "us", "5 us 2h"), ("1分 1.5分 2h 😀", "90s", "1分 90s 2h 😀")]
+        for text, suggestion, mended in rows:
+            with self.subTest(text=text):
+                error = error_of(text, cn_unit=True)
+                self.assertEqual((error.suggestion, error.mended), (suggestion, mended))
+
     def test_has_each_help(self):
         codes = {code for *_, code, _, _ in VECTORS["refused"]}
         self.assertEqual({None, *(each.name for each in Help)}, codes)

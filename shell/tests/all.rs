@@ -219,6 +219,11 @@ fn says_in_json_which_fields_are_refused() {
     assert_eq!(run(&words, input), (1, output.into(), wanted.concat()));
     let quiet = [&words[..], &["-q"]].concat();
     assert_eq!(run(&quiet, input), (1, "".into(), "".into()));
+    // An object ends with a line feed here, too.
+    let zero_terminated = [&words[..], &["-z"]].concat();
+    let input = input.map(|byte| if byte == b'\n' { 0 } else { byte });
+    let output = output.replace('\n', "\0");
+    assert_eq!(run(&zero_terminated, &input), (1, output, wanted.concat()));
 }
 
 #[test]
