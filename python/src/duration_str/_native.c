@@ -346,8 +346,9 @@ static PyObject *parse_ns(
     return PyLong_FromUnsignedLongLong(nanos);
 }
 
-/* Returns the timedelta of a digit. The state owns it. While it is made, another thread may keep
- * another one, if the module datetime is that in Python. */
+/* Returns the timedelta of a digit, which the state keeps and owns. If the module datetime is the
+ * one in Python, other threads can run while a timedelta is made, and one of them may keep its own
+ * first. */
 static PyObject *term_of(struct state *state, int place, uint64_t digit) {
     PyObject **term = &state->terms[place][digit];
     if (*term)
