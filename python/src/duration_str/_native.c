@@ -1038,13 +1038,13 @@ static int begin(PyObject *module) {
     int is_there = 1;
     for (int at = 0; at < ERROR; at++)
         state->kept[at] = PyUnicode_InternFromString(kept_names[at]);
-    state->kept[ERROR] = member("duration_str._texts", "DurationError");
-    state->kept[TYPE_ERROR_OF] = member("duration_str._texts", "type_error_of");
-    state->kept[SURROGATE_ERROR_OF] = member("duration_str._texts", "surrogate_error_of");
-    state->kept[NANOS_OF] = member("duration_str._texts", "nanos_of");
-    state->kept[WHOLE_OF] = member("duration_str._texts", "whole_of");
-    state->kept[UNNAMED] = member("duration_str._texts", "UNNAMED");
-    state->kept[UNSAID] = member("duration_str._texts", "UNSAID");
+    state->kept[ERROR] = member("duration_str._errors", "DurationError");
+    state->kept[TYPE_ERROR_OF] = member("duration_str._errors", "type_error_of");
+    state->kept[SURROGATE_ERROR_OF] = member("duration_str._errors", "surrogate_error_of");
+    state->kept[NANOS_OF] = member("duration_str._errors", "nanos_of");
+    state->kept[WHOLE_OF] = member("duration_str._errors", "whole_of");
+    state->kept[UNNAMED] = member("duration_str._errors", "UNNAMED");
+    state->kept[UNSAID] = member("duration_str._errors", "UNSAID");
     state->kept[TIMEDELTA] = member("datetime", "timedelta");
     if (state->kept[TIMEDELTA])
         state->kept[A_MICROSECOND] = PyObject_GetAttrString(state->kept[TIMEDELTA], "resolution");
