@@ -203,7 +203,6 @@ extern crate alloc;
 
 #[cfg(feature = "chrono")]
 pub mod dates;
-mod default_unit;
 mod derror;
 mod error;
 mod fault;
@@ -211,6 +210,7 @@ mod formatted;
 mod human_duration;
 mod human_format;
 pub mod humantime;
+mod original;
 mod parser;
 #[cfg(feature = "serde")]
 mod serde;
@@ -223,7 +223,6 @@ pub use dates::{
     after_naive_date, after_naive_date_time, before_naive_date, before_naive_date_time,
     moment_after, moment_before,
 };
-pub use default_unit::{parse_by, parse_in, parse_require_unit};
 pub use derror::{DError, DResult};
 #[doc(inline)]
 pub use duration_str_core::{
@@ -260,7 +259,8 @@ pub use formatted::{FormattedDuration, RoundedDuration, format_duration};
 pub use human_duration::HumanDuration;
 pub use human_format::HumanFormat;
 #[cfg(feature = "chrono")]
-pub use parser::parse_chrono;
+pub use original::parse_chrono;
 #[cfg(feature = "time")]
-pub use parser::parse_time;
-pub use parser::{parse, parse_duration, parse_std, parse_with};
+pub use original::parse_time;
+pub use original::{parse, parse_std};
+pub use parser::{parse_by, parse_duration, parse_in, parse_require_unit, parse_with};

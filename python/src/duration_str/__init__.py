@@ -96,7 +96,7 @@ from importlib import import_module
 
 from ._native import format as format
 from ._native import breakdown, parse, parse_ns, parse_seconds
-from ._texts import Cause, DurationError, DurationTypeError, Expected
+from ._errors import Cause, DurationError, DurationTypeError, Expected
 
 TYPE_CHECKING = False
 if TYPE_CHECKING:

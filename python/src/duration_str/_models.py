@@ -9,7 +9,7 @@ from typing import Annotated, Any
 from ._native import format, parse
 from ._options import WithOptions
 from ._pattern import pattern
-from ._texts import DurationError, DurationTypeError
+from ._errors import DurationError, DurationTypeError
 
 
 def _read(value: Any, options: dict[str, Any]) -> Any:

@@ -346,8 +346,9 @@ static PyObject *parse_ns(
     return PyLong_FromUnsignedLongLong(nanos);
 }
 
-/* Returns the timedelta of a digit. The state owns it. While it is made, another thread may keep
- * another one, if the module datetime is that in Python. */
+/* Returns the timedelta of a digit, which the state keeps and owns. If the module datetime is the
+ * one in Python, other threads can run while a timedelta is made, and one of them may keep its own
+ * first. */
 static PyObject *term_of(struct state *state, int place, uint64_t digit) {
     PyObject **term = &state->terms[place][digit];
     if (*term)
@@ -1037,13 +1038,13 @@ static int begin(PyObject *module) {
     int is_there = 1;
     for (int at = 0; at < ERROR; at++)
         state->kept[at] = PyUnicode_InternFromString(kept_names[at]);
-    state->kept[ERROR] = member("duration_str._texts", "DurationError");
-    state->kept[TYPE_ERROR_OF] = member("duration_str._texts", "type_error_of");
-    state->kept[SURROGATE_ERROR_OF] = member("duration_str._texts", "surrogate_error_of");
-    state->kept[NANOS_OF] = member("duration_str._texts", "nanos_of");
-    state->kept[WHOLE_OF] = member("duration_str._texts", "whole_of");
-    state->kept[UNNAMED] = member("duration_str._texts", "UNNAMED");
-    state->kept[UNSAID] = member("duration_str._texts", "UNSAID");
+    state->kept[ERROR] = member("duration_str._errors", "DurationError");
+    state->kept[TYPE_ERROR_OF] = member("duration_str._errors", "type_error_of");
+    state->kept[SURROGATE_ERROR_OF] = member("duration_str._errors", "surrogate_error_of");
+    state->kept[NANOS_OF] = member("duration_str._errors", "nanos_of");
+    state->kept[WHOLE_OF] = member("duration_str._errors", "whole_of");
+    state->kept[UNNAMED] = member("duration_str._errors", "UNNAMED");
+    state->kept[UNSAID] = member("duration_str._errors", "UNSAID");
     state->kept[TIMEDELTA] = member("datetime", "timedelta");
     if (state->kept[TIMEDELTA])
         state->kept[A_MICROSECOND] = PyObject_GetAttrString(state->kept[TIMEDELTA], "resolution");
