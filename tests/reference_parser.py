@@ -76,7 +76,9 @@ FOLDED = str.maketrans("ABCDEFGHIJKLMNOPQRSTUVWXYZ", "abcdefghijklmnopqrstuvwxyz
 
 
 class Options(typing.NamedTuple):
-    """In Rust and Rattle, `more_names` is no field of `Options`, but a rule of `Rules`."""
+    """In Rust and Rattle, the options from `more_names` on are no fields of `Options`, but rules of
+    `Rules`.
+    """
 
     no_calc: bool = False
     lowercase: bool = False
@@ -86,9 +88,12 @@ class Options(typing.NamedTuple):
     def words(self):
         return [name for name, on in zip(self._fields, self) if on]
 
+    def with_rules(self, rules):
+        return Options(*self[: len(SWITCHES)], *rules)
 
-# The options that the program `durstr` has, too.
-SWITCHES = Options._fields[:3]
+
+# The options that the program `durstr` has, too, and those that it lacks.
+SWITCHES, RULES = Options._fields[:3], Options._fields[3:]
 CHOICES = [
     Options(*choice[::-1]) for choice in itertools.product((False, True), repeat=len(SWITCHES))
 ]

@@ -14,6 +14,7 @@ from reference_parser import (
     ROUNDINGS,
     SECOND,
     STYLES,
+    SWITCHES,
     UNITS,
     Choice,
     as_packages_mean,
@@ -35,7 +36,8 @@ def texts():
     known = {*rows["options"]}
     for group, options in itertools.product(rows["values"], CHOICES):
         named = Choice.named(group["on"])
-        choice = Choice(options._replace(more_names=named.options.more_names), named.default_unit)
+        rules = named.options[len(SWITCHES) :]
+        choice = Choice(options.with_rules(rules), named.default_unit)
         is_read = {*group["on"]} & known <= {*options.words()} <= known - {*group["off"]}
         for secs, nanos, each in group["rows"]:
             nanos = secs * SECOND + nanos if is_read else None

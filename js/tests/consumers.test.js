@@ -160,6 +160,13 @@ test("has types for a CommonJS module", skipWithout("tsc"), () => {
     }
 });
 
+// Node also requires modules from 20.19 on, but not before.
+test("gives a CommonJS file of plain JavaScript to require", () => {
+    const required = createRequire(join(room, "required.cjs"));
+    assert.match(required.resolve("duration-str/plain"), /[/]plain[.]cjs$/);
+    assert.equal(required("duration-str/plain").parse("1h"), 3_600_000);
+});
+
 // tests/compare compares what the plain package reads, and what it prints without a format.
 test("prints in plain JavaScript as in WebAssembly", async () => {
     const [compiled, plain] = await Promise.all(

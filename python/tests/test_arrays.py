@@ -368,6 +368,10 @@ class Reading(unittest.TestCase):
             OverflowError, "^at index 2: .*timedelta64\\(9223372037,'s'\\)$"
         ):
             to_timedelta(column)
+        # Only steps of a power of two have exactly 2**63 nanoseconds.
+        for count in (2**60, -(2**60)):
+            column = numpy.array([count], dtype="timedelta64[8ns]")
+            self.assertRaises(OverflowError, to_timedelta, column)
         for step in ("15250W", "15251W", "40000W"):  # The last two don't fit into 63 and 64 bits.
             longest = numpy.array([0, "NaT", 1], dtype=f"timedelta64[{step}]")
             with self.subTest(step=step):

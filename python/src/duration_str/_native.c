@@ -25,8 +25,8 @@
 
 #define SECOND 1000000000u
 
-/* The Python objects that the module keeps. The first five are names of flags, in the order of
- * their bits. */
+/* The Python objects that the module keeps. Those before DEFAULT_UNIT are names of flags, in the
+ * order of their bits. */
 enum kept {
     NO_CALC,
     LOWERCASE,
@@ -60,9 +60,8 @@ enum kept {
 };
 /* The objects before ERROR are these names, in this order. From PART on they are the package's
  * objects that are taken at the first call of `breakdown`, since they need the module typing. */
-static const char *const kept_names[] = {"no_calc", "lowercase", "cn_unit", "require_unit",
-    "more_names", "default_unit", "parts", "units", "largest", "smallest", "rounding", "style",
-    "days", "seconds", "microseconds"};
+static const char *const kept_names[] = {OPTION_NAMES, "default_unit", "parts", "units", "largest",
+    "smallest", "rounding", "style", "days", "seconds", "microseconds"};
 
 /* timedelta64's NaT as a number, and a count of days that a timedelta64 of nanoseconds can hold
  * with any seconds and microseconds of a timedelta */
@@ -328,8 +327,7 @@ static int read_call(struct state *state, const char *call, PyObject *const *arg
     return is_read == 1 ? 0 : -1;
 }
 
-/* reading(*, no_calc, lowercase, cn_unit, require_unit, more_names, default_unit): returns how
- * values are read, in the form that read_list takes */
+/* reading(*, OPTIONS): returns how values are read, in the form that read_list takes */
 static PyObject *reading(
     PyObject *self, PyObject *const *arguments, Py_ssize_t count, PyObject *keywords) {
     struct reading reading;
@@ -927,9 +925,7 @@ static PyObject *read_list(PyObject *self, PyObject *arguments) {
     return refused;
 }
 
-#define OPTIONS_DOC                                                                                \
-    "($module, text, /, *, no_calc=False, lowercase=False, cn_unit=False, "                        \
-    "require_unit=False, more_names=False, default_unit='s')\n--\n\n"
+#define OPTIONS_DOC "($module, text, /, *, " OPTION_DEFAULTS ")\n--\n\n"
 PyDoc_STRVAR(parse_ns_doc,
     "parse_ns" OPTIONS_DOC "Returns the value of a text in nanoseconds.\n\n"
     "The options are off by default, and the default unit is the second:\n\n"
