@@ -46,7 +46,7 @@ constants = found(r"^const (\w+): u32 = \d+;$", "duration_str_c/src/answer.rt")
 CAUSES = ["READ", *constants[: constants.index("UNKNOWN_OPTION") + 1]]
 # The options of reading, in the order of their bits
 constants = found(r"^const (\w+): u32 = \d+;$", "duration_str_js/src/reading.rt")
-OPTIONS = constants[: constants.index("DEFAULT_UNIT")]
+OPTIONS = constants[: constants.index("DEFAULT_UNIT_SHIFT")]
 
 
 def quoted(words, between=", "):
