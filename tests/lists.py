@@ -47,7 +47,7 @@ CAUSES = ["READ", *constants[: constants.index("UNKNOWN_OPTION") + 1]]
 # The options of reading, in the order of their bits. Those before REQUIRE_UNIT are the fields of
 # `Options` in Rust and Rattle, and the words of the program `durstr`.
 constants = found(r"^const (\w+): u32 = \d+;$", "duration_str_js/src/reading.rt")
-OPTIONS = constants[: constants.index("DEFAULT_UNIT")]
+OPTIONS = constants[: constants.index("DEFAULT_UNIT_SHIFT")]
 SWITCHES = OPTIONS[: OPTIONS.index("REQUIRE_UNIT")]
 
 

@@ -1,5 +1,6 @@
 // Made by tools/erase of crates/duration_str/src/message.rt.
-//! The message of a fault, and its layout.
+//! The message of a fault, and its layout. The line, the report and suggestions also use the calls
+//! that write a piece into a buffer.
 
 use crate::fault::Fault;
 use crate::slice::range_to;
