@@ -23,7 +23,7 @@ use Rattle.duration_str.specs.declared.cause.Cause.TheVariants.{Syntax}
 use Rattle.duration_str.specs.declared.cause.Expected.{Expected}
 use Rattle.duration_str.specs.declared.rules.Rules.{Rules as CodeRules}
 use Rattle.duration_str.specs.declared.table.UnitTable.TheVariants.{Own}
-use Rattle.duration_str.specs.declared.unit.TimeUnit.TheVariants.{Hour, Second}
+use Rattle.duration_str.specs.declared.unit.TimeUnit.TheVariants.{Hour, Minute, Second}
 use Rattle.duration_str.specs.declared.operator.CondUnit.TheVariants.{Plus, Star}
 use Rattle.duration_str.specs.declared.rounding.Rounding.TheVariants.{Nearest, Up}
 use Rattle.std.specs.Str.{chars}
@@ -102,6 +102,32 @@ hour_and_a_half : IsFraction own_rules (codes "1.50 h") (codes "1") (codes "50")
 unfolding chars
 hour_and_a_half = record {
   blanks = codes " ";
+  word = codes "h";
+  parts = refl;
+  whole_digits = refl;
+  decimal_digits = refl;
+  blank = refl;
+  means = refl;
+}
+
+-- A number with each digit before and after its point, and a word that is near a unit.
+pub any_digits_blanks_and_words : IsFraction own_rules (codes "0123456789.0123456789\t mins") (codes "0123456789")
+    (codes "0123456789") Minute
+unfolding chars
+any_digits_blanks_and_words = record {
+  blanks = codes "\t ";
+  word = codes "mins";
+  parts = refl;
+  whole_digits = refl;
+  decimal_digits = refl;
+  blank = refl;
+  means = refl;
+}
+
+pub fraction_without_digits_before_its_point : IsFraction own_rules (codes ".5h") [] (codes "5") Hour
+unfolding chars
+fraction_without_digits_before_its_point = record {
+  blanks = [];
   word = codes "h";
   parts = refl;
   whole_digits = refl;

@@ -1,11 +1,10 @@
 -- The names of units that a mend writes, and the words that it replaces.
-use Rattle.duration_str.proofs.Common.{[], and_parts, ap, arith, Bool, byte_len, bytes_eq, cases_Bool, chars, chars-append, chars-encodes, chinese_letters, comparison_form, encode_utf8_all, EndsRun, eqb-true, Expected, false, false_from_ne_true, find, Humantime, if◌then◌else◌, inl, inr, is_ascii_alphabetic, is_chinese, is_unit_letter, IsLexeme, IsRefused, IsTrue, IsUtf8, leb, leb-true, length, List, list_all, list_any, map, meaning_of, More, more_names, more_rules, nat_tests, None, off, Options, or_cases, Own, refl, Rules, scalars, Some, Syntax, table_of, terminal_of, TimeUnit, to_ascii_lowercase, true, unit_of_word, UnitRow, units, UnitTable, word, ℕ, ◌&&◌, ◌++◌, ◌+◌, ◌==◌, ◌||◌, ◌∙◌, ◌∷◌, ◌≡◌, ◌≤◌}
+use Rattle.duration_str.proofs.Common.{[], and_parts, ap, arith, Bool, byte_len, bytes_eq, cases_Bool, chars, chars-append, chars-encodes, chinese_letters, comparison_form, encode_utf8_all, EndsRun, eqb-true, false, false_from_ne_true, find, Humantime, if◌then◌else◌, inl, inr, is_ascii_alphabetic, is_chinese, is_unit_letter, IsLexeme, IsUtf8, leb, leb-true, length, List, list_all, list_any, map, meaning_of, More, more_names, more_rules, nat_tests, None, off, Options, or_cases, Own, refl, Rules, scalars, Some, table_of, terminal_of, TimeUnit, to_ascii_lowercase, true, unit_of_word, UnitRow, units, UnitTable, word, ℕ, ◌&&◌, ◌++◌, ◌+◌, ◌==◌, ◌||◌, ◌∙◌, ◌∷◌, ◌≡◌, ◌≤◌}
 use Rattle.duration_str.proofs.Characters.UnitLemmas.{all_units, each_unit, named_passes}
 use Rattle.duration_str.specs.declared.rules.Rules.{Rules as CodeRules}
 use Rattle.duration_str.proofs.Characters.PackedLemmas.{no_long_name}
 use Rattle.duration_str.proofs.LawProofs.NearWords.{advised_small, found_among}
 use Rattle.duration_str.proofs.Characters.CharacterLemmas.{letter-not_digit, width_some}
-use Rattle.duration_str.proofs.LawProofs.MendedTokens.{unit_written}
 use Rattle.duration_str.specs.OneLine.{begins_with_letter, help_name, is_letter, near_unit, small_words, with_micro_sign}
 
 -- ---- A suggested name
@@ -45,15 +44,6 @@ IsWritten r (c ∷ cs) =
 
 pub written : (r : Rules) (u : TimeUnit) → IsWritten r (help_name u)
 written r = each_unit (λ u. IsWritten r (help_name u)) assumption
-
-pub mends : (r : Rules) (front found rest name : List ℕ) (u : TimeUnit) (expected : Expected) → IsWritten r name
-    → unit_of_word r name ≡ Some u → begins_with_letter rest ≡ false → IsTrue expected.unit_word
-    → IsRefused r (front ++ (found ++ rest)) (Syntax (byte_len front) expected) → (later : ℕ) (others : Expected)
-    → IsRefused r (front ++ (name ++ rest)) (Syntax later others) → byte_len front + byte_len name ≤ later
-mends r front found rest [] u expected is read ends unit refused later others again = absurd is
-mends r front found rest (c ∷ cs) u expected (letter, lexeme, names) read ends unit refused later others again =
-    unit_written r front found rest cs c u expected refused unit letter lexeme (names ∙ ap word read)
-    (ends_word r.options c cs rest letter ends) later others again
 
 -- ---- The suggested name by the rules that the code has
 
