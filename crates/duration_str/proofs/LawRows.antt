@@ -3,7 +3,7 @@
 use Rattle.std.specs.Prelude.{◌≡◌, ◌≢◌, ℕ, ◌*◌, ◌+◌, ◌<◌, ◌≤◌, List, [], ◌∷◌, ◌++◌, length, map, None, Some, codes, true}
 use Rattle.std.specs.Duration.{FitsDuration}
 use Rattle.duration_str.specs.Laws.{HasNoChinese, OlderTexts, OneRounding, OptionsIdle, PlaceAndKinds}
-use Rattle.duration_str.specs.Mended.{IsFraction, MendedFractions, MendedTexts}
+use Rattle.duration_str.specs.Mended.{FractionsAreMended, IsFraction, MendedFractions, MendedTexts}
 use Rattle.duration_str.specs.Options.{off}
 use Rattle.duration_str.specs.Reading.{IsRead, IsRefused}
 use Rattle.duration_str.specs.Answer.{last_of}
@@ -15,7 +15,7 @@ use Rattle.duration_str.specs.Printing.{weighted_sum}
 use Rattle.duration_str.specs.Rounding.{IsRounded, IsRoundedDown, IsRoundedUp, PrintsWhole}
 use Rattle.duration_str.specs.Rules.{Rules, rules_of, rules_with}
 use Rattle.duration_str.specs.declared.format.Format.{Format}
-use Rattle.std.proofs.Common.{refl}
+use Rattle.std.proofs.Common.{arith, refl}
 use Rattle.duration_str.specs.Meaning.{meaning_of}
 use Rattle.duration_str.specs.OneLine.{mended_of, Pieces}
 use Rattle.duration_str.specs.declared.cause.Cause.{Cause}
@@ -106,6 +106,7 @@ hour_and_a_half = record {
   parts = refl;
   whole_digits = refl;
   decimal_digits = refl;
+  some_decimal = omega arith;
   blank = refl;
   means = refl;
 }
@@ -144,3 +145,12 @@ pub mended_fraction_is_read_as_its_value : (new : Pieces) (cause : Cause) → Me
 unfolding encode
 mended_fraction_is_read_as_its_value new cause law refused is =
     law own_rules (codes "1.50 h") (codes "1") (codes "50") Hour cause new (codes "1.50 h", (refl, refl)) hour_and_a_half refused is
+
+pub exact_fraction_has_a_mend : (place : ℕ) (expected : Expected) → FractionsAreMended
+    → IsRefused (meaning_of own_rules) (chars (codes "1.50 h")) (Syntax place expected)
+    → (new : Pieces) × (mended_of (meaning_of own_rules) (codes "1.50 h") (Syntax place expected) ≡ Some new)
+    × (new.front ≡ []) × (new.rest ≡ [])
+unfolding encode
+exact_fraction_has_a_mend place expected law refused =
+    law own_rules (codes "1.50 h") (codes "1") (codes "50") Hour place expected 5_400_000_000_000 (codes "1.50 h", (refl, refl))
+    hour_and_a_half refused refl (omega arith)
