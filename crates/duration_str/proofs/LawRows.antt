@@ -121,6 +121,7 @@ any_digits_blanks_and_words = record {
   parts = refl;
   whole_digits = refl;
   decimal_digits = refl;
+  some_decimal = omega arith;
   blank = refl;
   means = refl;
 }
@@ -133,6 +134,7 @@ fraction_without_digits_before_its_point = record {
   parts = refl;
   whole_digits = refl;
   decimal_digits = refl;
+  some_decimal = omega arith;
   blank = refl;
   means = refl;
 }
