@@ -17,20 +17,6 @@ function complete(text) {
     return text.replace(END, `${unit}${between || " "}${number}${name}`);
 }
 
-/** A text that people type needs few mends. For each of them, the library reads the whole text. */
-const MOST_MENDS = 100;
-
-/** Takes the mended text, and its mended text, and so on, until there is none. */
-function mend(text, options) {
-    let mended = text;
-    for (let count = 0; count < MOST_MENDS; count++) {
-        const { fault } = tryParseNs(mended, options);
-        if (fault?.mended == null) break;
-        mended = fault.mended;
-    }
-    return mended;
-}
-
 /** The options, and then those with changes by which more texts are read. Of two that both read a
  * text, the one with fewer changes comes first. */
 function optionsToTry(options) {
@@ -51,7 +37,8 @@ export function offerFor(text, options, value) {
     const read = tried.map((each) => {
         // What is left out is told by the unit that was typed, and the mended text of a fraction
         // can have another one: `1.5h 30` is `90min 30m`.
-        const mended = complete(mend(complete(text), each));
+        const completed = complete(text);
+        const mended = complete(tryParseNs(completed, each).fault?.mended ?? completed);
         return { text: mended, options: each, ...tryParseNs(mended, each) };
     });
     const offer = read.find((each) => each.ok && each.value !== value);

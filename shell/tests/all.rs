@@ -82,21 +82,21 @@ fn gives_programs_all_that_a_message_says() {
         concat!(
             r#"{"text":"2h 1.5min","argument":1,"cause":"SYNTAX","column":5,"#,
             r#""expected":["unit","operator","end"],"found":".","#,
-            r#""help":"FRACTION","suggestion":"90s","mended":"2h 90s","#,
+            r#""help":"FRACTION","suggestion":"90s","span":[3,9],"mended":"2h 90s","#,
             r#""message":"expected a unit, '+', '*' or the end at column 5, found \".\" "#,
             r#"(fractions are not read: write 90s)"}"#,
         ),
         concat!(
             r#"{"text":"+5m","argument":2,"cause":"SYNTAX","column":1,"#,
             r#""expected":["number"],"found":"+","#,
-            r#""help":"LEADING_PLUS","suggestion":"","mended":"5m","#,
+            r#""help":"LEADING_PLUS","suggestion":"","span":[0,1],"mended":"5m","#,
             r#""message":"expected a number at column 1, found \"+\" "#,
             r#"(a leading \"+\" is not read)"}"#,
         ),
         concat!(
             r#"{"text":"2h*3m+1","argument":3,"cause":"MIXED","column":null,"#,
             r#""expected":[],"found":null,"help":null,"suggestion":null,"#,
-            r#""mended":null,"message":"sum and product mixed in \"2h*3m+1\""}"#,
+            r#""span":null,"mended":null,"message":"sum and product mixed in \"2h*3m+1\""}"#,
         ),
     ];
     assert_eq!(json.lines().collect::<Vec<_>>(), wanted);
@@ -106,8 +106,9 @@ fn gives_programs_all_that_a_message_says() {
 fn names_the_cause_of_what_is_no_text() {
     let lines = [&b"1\xff\n"[..], &[b'9'; (1 << 20) + 1]].concat();
     let json = run(&["--json"], &lines).1;
-    let fields =
-        r#""column":null,"expected":[],"found":null,"help":null,"suggestion":null,"mended":null,"#;
+    let none = ["found", "help", "suggestion", "span", "mended"];
+    let none = none.map(|name| format!("{name:?}:null,")).concat();
+    let fields = &format!(r#""column":null,"expected":[],{none}"#);
     let not_text = [
         r#"{"text":"1�","line":1,"cause":"NOT_TEXT","#,
         fields,
@@ -203,7 +204,8 @@ fn says_in_json_which_fields_are_refused() {
     let words = "-d, --field 2 --to s --json-errors".split(' ');
     let words: Vec<_> = words.collect();
     let input = b"a,\"1h*1m+1\"\nb,1h\nc";
-    let none = ["found", "help", "suggestion", "mended"].map(|name| format!("{name:?}:null,"));
+    let none =
+        ["found", "help", "suggestion", "span", "mended"].map(|name| format!("{name:?}:null,"));
     let no_more = format!(r#""column":null,"expected":[],{}"#, none.concat());
     let wanted = [
         r#"{"text":"1h*1m+1","line":1,"cause":"MIXED","#,
