@@ -42,7 +42,7 @@ VALUES = (
     }
     | dict.fromkeys(
         """json json-errors quiet zero-terminated lowercase cn-unit more-names require-unit pattern
-        sum""".split(),
+        sum mend""".split(),
         [""],
     )
 )
@@ -233,8 +233,12 @@ def said_of(line, options, where, before=None):
         answer = refused("NO_FIELD", "no such field")
     else:
         answer = read(line[begin:end], options)
+    text = line.decode(errors="replace")
+    if "mend" in options and isinstance(answer, Refused) and answer.mended is not None:
+        text = answer.mended
+        answer = read(text.encode(), options)
     if "json" in options:
-        output = json_object(line.decode(errors="replace"), answer, options, where).encode()
+        output = json_object(text, answer, options, where).encode()
         return Said(output + b"\n", b"", int(isinstance(answer, Refused)))
     if "sum" in options and not isinstance(answer, Refused):
         return Said(answer, b"", 0)

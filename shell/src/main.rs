@@ -218,7 +218,7 @@ impl Run<'_> {
                 self.total += u128::from(nanos);
                 Ok(())
             }
-            Ok((text, nanos)) if self.choices.json => self.object(text, nanos),
+            Ok((text, nanos)) if self.choices.json => self.object(&text, nanos),
             Ok((_, nanos)) => {
                 let mut buffer = [0; FORMAT_BUFFER_SIZE];
                 let printed = self.choices.printed(nanos, &mut buffer);

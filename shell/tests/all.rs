@@ -103,6 +103,30 @@ fn gives_programs_all_that_a_message_says() {
 }
 
 #[test]
+fn reads_mended_texts() {
+    let lines = b"a,\"2hrs 1.5min\"\nb,1h\nc,1_000.5 mins.\n";
+    let words = ["--mend", "-d,", "--field=2"];
+    let output = "a,\"2h 1min 30s\"\nb,1h\nc,16h 40min 30s\n";
+    assert_eq!(run(&words, lines), (0, output.into(), "".into()));
+    let json = answer(&["--mend", "--json", "5 mins", "+5m"]);
+    assert!(json.starts_with(r#"{"text":"5 min","nanoseconds":"300000000000","#));
+    assert!(json.contains("\n{\"text\":\"5m\","), "{json}");
+    let total = run(
+        &["--mend", "--sum", "--header", "--to=s"],
+        b"took\n1.5h\n5 mins\n",
+    )
+    .1;
+    assert_eq!(total, "5700\n");
+    let (status, output, errors) = run(&["--mend", "-q"], b"1.5h\n5mins\n");
+    assert_eq!((status, &*output, &*errors), (0, "", ""));
+    let errors = format!("duration: line 2: {}\n", line("1:30"));
+    assert_eq!(
+        run(&["--mend"], b"1.5h\n1:30\n"),
+        (1, "1h 30min\n".into(), errors)
+    );
+}
+
+#[test]
 fn names_the_cause_of_what_is_no_text() {
     let lines = [&b"1\xff\n"[..], &[b'9'; (1 << 20) + 1]].concat();
     let json = run(&["--json"], &lines).1;
