@@ -862,11 +862,19 @@ def unit_after(text, end, choice):
     return choice.default_unit if can_follow else None, end
 
 
-def mended(text, answer):
-    """The text with something else in place of the part that is wrong, or None."""
-    if answer.mend is None:
-        return None
-    return text[: answer.mend.start] + answer.mend.written + text[answer.mend.end :]
+MOST_SUGGESTIONS = 32
+
+
+def mended(text, choice):
+    """The text with a suggestion for each of its faults, which is read; or None."""
+    for _ in range(1 + MOST_SUGGESTIONS):
+        answer = choice.answer(text)
+        if answer.cause == "read":
+            return text
+        if answer.mend is None:
+            return None
+        text = text[: answer.mend.start] + answer.mend.written + text[answer.mend.end :]
+    return None
 
 
 def expected_in_line(expected):

@@ -391,7 +391,7 @@ for (const { DurationError, formatNs, tryParseNs } of [compiled, plain]) {
         }
     }
     for (const [text, names, ...row] of VECTORS.refused) {
-        const [code, place, found, , line, , help, suggestion, mended] = row;
+        const [code, place, found, , line, , help, suggestion, , mended] = row;
         const error = new DurationError(tryParseNs(text, optionsOf(names)).fault);
         const copy = structuredClone(error.toJSON());
         const got = [copy.code, copy.place, copy.found, copy.help, copy.suggestion, copy.message];

@@ -282,6 +282,17 @@ class Reading(unittest.TestCase):
                 self.assertEqual((error.text, error.place), (text, None))
                 self.assertEqual((error.help, error.suggestion, error.mended), (None,) * 3)
 
+    def test_mends_no_text_to_what_timedelta64_lacks(self):
+        for text, call, mended in (
+            ("292 yrs", to_timedelta, "292 y"),
+            ("293 yrs", to_timedelta, None),
+            (["1s", "293 yrs"], to_timedelta, None),
+            (["1s", "293 yrs"], parse_many, "293 y"),
+        ):
+            with self.subTest(text=text), self.assertRaises(DurationError) as raised:
+                call(text)
+            self.assertEqual(raised.exception.mended, mended)
+
     def test_raises_the_first_refusal(self):
         with self.assertRaisesRegex(
             DurationError, '^at index 2: expected .* at column 5, found "-"$'

@@ -106,17 +106,18 @@
 //! ```
 //!
 //! The line often ends with [`Help`], in parentheses. `help` returns it as a value. If it is certain
-//! what to write instead, `mended` returns the text with that. So a program can say everything in
-//! its own words, or in another language, and need not look into the line:
+//! what to write instead, `mend` returns it and its place. `mended` returns a text that is read, if
+//! that is certain for all faults of the text. So a program can say everything in its own words, or
+//! in another language, and need not look into the line:
 //!
 //! ```
 //! use duration_str::{Help, parse_duration};
 //!
-//! let refusal = parse_duration("2h 1.5min").unwrap_err();
+//! let refusal = parse_duration("2h 1.5mins 1_000ms").unwrap_err();
 //! assert_eq!(refusal.help(), Some(Help::Fraction));
-//! let mended = refusal.mended().unwrap();
-//! assert_eq!(mended.suggestion.to_string(), "90s");
-//! assert_eq!(mended.to_string(), "2h 90s");
+//! assert_eq!(refusal.mend().unwrap().replaced, "1.5mins");
+//! assert_eq!(refusal.mend().unwrap().suggestion.to_string(), "90s");
+//! assert_eq!(refusal.mended().unwrap(), "2h 90s 1000ms");
 //! assert_eq!(parse_duration("1:30").unwrap_err().mended(), None);
 //! ```
 //!
@@ -210,6 +211,7 @@ mod formatted;
 mod human_duration;
 mod human_format;
 pub mod humantime;
+mod mend;
 mod original;
 mod parser;
 #[cfg(feature = "serde")]
@@ -227,9 +229,8 @@ pub use derror::{DError, DResult};
 #[doc(inline)]
 pub use duration_str_core::{
     Breakdown, Cause, CondUnit, Expected, FORMAT_BUFFER_SIZE, Format, HUMAN_BUFFER_SIZE, Help,
-    Mended, ONE_LINE_BUFFER_SIZE, Options, Rounding, Rules, SUGGESTION_BUFFER_SIZE, Style,
-    Suggestion, TimeUnit, Units, UnknownStyle, UnknownUnit, write_format, write_human,
-    write_rounded,
+    ONE_LINE_BUFFER_SIZE, Options, Rounding, Rules, SUGGESTION_BUFFER_SIZE, Style, Suggestion,
+    TimeUnit, Units, UnknownStyle, UnknownUnit, write_format, write_human, write_rounded,
 };
 // `MAX_LONG_LEN`, `MAX_PRINTED_LEN`, `UNITS` and `round_to`, below, are hidden, since programs that
 // use this crate don't need them. Examples in the core's documentation take some of them from here.
@@ -258,6 +259,7 @@ pub use fault::Fault;
 pub use formatted::{FormattedDuration, RoundedDuration, format_duration};
 pub use human_duration::HumanDuration;
 pub use human_format::HumanFormat;
+pub use mend::Mend;
 #[cfg(feature = "chrono")]
 pub use original::parse_chrono;
 #[cfg(feature = "time")]

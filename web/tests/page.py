@@ -109,6 +109,8 @@ REFUSED = [
     ("1.5h", "", ["."], ["90min", "1 hour 30 minutes"]),
     ("2h + .5 mins", "", ["."], ["2h + 30s", "2 hours 30 seconds"]),
     ("1.5h 30", "", ["."], ["90min 30m", "2 hours"]),
+    ("1.5h. 30", "", ["."], ["90min 30m", "2 hours"]),
+    ("1h. 30", "default_unit=refused", ["."], ["1h 30m", "1 hour 30 minutes"]),
     ("1.5 hrs 30", "", ["."], ["90min 30m", "2 hours"]),
     ("1.5", "default_unit=ms", ["."], ["1500us", "1 millisecond 500 microseconds"]),
     ("1.5", "default_unit=refused", ["."], []),

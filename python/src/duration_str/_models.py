@@ -35,6 +35,7 @@ def _read(value: Any, options: dict[str, Any]) -> Any:
             "expected": [str(each.name).lower() for each in error.expected],
             "help": error.help.name if error.help else None,
             "suggestion": error.suggestion,
+            "span": error.span,
             "mended": error.mended,
         }
         # pydantic replaces `{NAME}` in the message by the context's value of that name. So a
