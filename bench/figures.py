@@ -98,7 +98,8 @@ def for_a_line(case):
 
 
 def instructions(cases):
-    """Those of the calls of this library, and of others if they can be counted in seconds."""
+    """The instructions of each case of this library, and of other libraries in Rust and C. Those of
+    others take minutes to count."""
     kinds = dict.fromkeys((case.kind, case.is_ours) for case in cases if case.kind != "shell")
     kinds = [(kind, is_ours) for kind, is_ours in kinds if is_ours or kind in ("rust", "c")]
     build("library")

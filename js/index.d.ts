@@ -222,11 +222,10 @@ interface Refused {
      */
     readonly suggestion: string | null;
     /**
-     * The text with the suggestion in place of that part, such as `2h 90s` for `2h 1.5min`. It is
-     * null if `suggestion` is null. Under the same options the mended text can have a further
-     * syntax fault, but none before the end of the suggestion.
+     * Where that part begins and ends, in UTF-16 units: `text.slice(...span)`. It is null if
+     * `suggestion` is null.
      */
-    readonly mended: string | null;
+    readonly span: readonly [number, number] | null;
 }
 
 /** The token at the place can't follow the text before it, or the text ends too early. */
@@ -279,6 +278,12 @@ export type Refusal = SyntaxFault | SizeFault | TextFault | OtherFault;
 
 interface Told {
     /**
+     * The text with the suggestion for each of its faults, such as `2h 90s` for `2hrs 1.5min`. It
+     * is read under the same options. It is null if it isn't certain for each fault what to write,
+     * or if the text needs more than 32 suggestions. It is computed when you ask for it.
+     */
+    readonly mended: string | null;
+    /**
      * One line that says what is wrong, for `SYNTAX` also where, and often what to write. The line
      * has no control characters.
      */
@@ -291,13 +296,18 @@ interface Told {
     readonly report: string;
 }
 
-/** Why a text is refused, with the message. As a string it is the message. */
-export type Fault = Refusal & Told;
+/**
+ * Why a text is refused, with the message. As a string it is the message. `toJSON` returns all
+ * fields except the report.
+ */
+export type Fault = Refusal & Told & {
+    toJSON(): Refusal & { message: string; mended: string | null };
+};
 
 /**
  * The error for a refused text. In Node 20 a structured clone keeps the message and the `cause`.
- * `toJSON` returns the name, the message and what the `cause` has. In Node `import` and `require`
- * give the same class, and `duration-str/plain` has another class.
+ * `toJSON` returns the name and all fields except the report. In Node `import` and `require` give
+ * the same class, and `duration-str/plain` has another class.
  *
  * ```js
  * try {
@@ -310,7 +320,7 @@ export type Fault = Refusal & Told;
  */
 export type DurationError = Error & Refusal & Told & {
     readonly cause: Refusal;
-    toJSON(): Refusal & { name: string; message: string };
+    toJSON(): Refusal & { name: string; message: string; mended: string | null };
 };
 export declare const DurationError: abstract new (...nobody: never) => DurationError;
 

@@ -4,7 +4,7 @@ documents. tests/repository compares the result with what stands there, and writ
 import re
 import textwrap
 
-from lists import camel, found
+from lists import OPTIONS, SWITCHES, camel, found
 from prose import HEADER, layer_of, read, section
 
 TYPES = "js/index.d.ts"
@@ -47,18 +47,13 @@ def paragraphs():
 
 
 def option_descriptions():
-    """What the options of reading do: three switches of `Options`, and then the further ones, in
-    the order in which Python names them.
-    """
+    """What the options of reading do, in the order of their bits, and then the default unit."""
     page = section("docs/GRAMMAR.md", "## Options")
     rows = dict(re.findall(r"^\| `(\w+)` \| (.*) \|$", page, re.M))
     choices = dict(re.findall(r"^\| (no|another) unit \| (.*?) \|", page, re.M))
-    more_names = rows.pop("more_names")
-    return rows | {
-        "require_unit": f"a number without a unit {choices['no']}",
-        "more_names": more_names,
-        "default_unit": f"a number without a unit {choices['another']}",
-    }
+    rows["require_unit"] = f"a number without a unit {choices['no']}"
+    descriptions = {name: rows[name] for name in map(str.lower, OPTIONS)}
+    return descriptions | {"default_unit": f"a number without a unit {choices['another']}"}
 
 
 def in_mdoc(text):
@@ -72,13 +67,13 @@ def as_list(descriptions):
 
 
 def options(descriptions, sentences):
-    *switches, _, _, _ = descriptions
     bits = dict(found(r"^const (\w+): u32 = (\d+);$", "duration_str_c/src/lib.rt"))
     rows = []
-    for name in (*switches, "require_unit", "more_names"):
-        comment = filled(f"{descriptions[name]} */", 79, "    /* ", "     * ")
-        rows.append(f"{comment}\n    DURATION_STR_OPTION_{name.upper()} = {bits[name.upper()]}")
+    for option in OPTIONS:
+        comment = filled(f"{descriptions[option.lower()]} */", 79, "    /* ", "     * ")
+        rows.append(f"{comment}\n    DURATION_STR_OPTION_{option} = {bits[option]}")
     yield HEADER, "enum duration_str_option {\n", "\n};", ",\n".join(rows)
+    switches = [option.lower() for option in SWITCHES]
     fields = [
         filled(sentences[name], 100, "    /// ") + f"\n    pub {name}: bool," for name in switches
     ]
@@ -92,18 +87,18 @@ def options(descriptions, sentences):
 
 
 def options_in_javascript(descriptions, sentences):
-    names = {name: camel(name) for name in descriptions}
     fields = {
-        name: filled(f"{what} */", 100, "    /** ", "     * ") + f"\n    {names[name]}?: boolean"
-        for name, what in sentences.items()
+        option: filled(f"{sentences[option.lower()]} */", 100, "    /** ", "     * ")
+        + f"\n    {camel(option)}?: boolean"
+        for option in OPTIONS
     }
-    *switches, required, more, _ = fields.values()
+    required = fields.pop("REQUIRE_UNIT")
     end = " | undefined;\n"
-    yield TYPES, "interface Switches {\n", f"{end}}}", end.join([*switches, more])
+    yield TYPES, "interface Switches {\n", f"{end}}}", end.join(fields.values())
     yield TYPES, "interface RequiringOptions extends Switches {\n", end, required
     before = "interface CountingOptions extends Switches {\n    /**\n"
     yield TYPES, before, "\n     *\n", filled(sentences["default_unit"], 100, "     * ")
-    descriptions = {names[name]: what for name, what in descriptions.items()}
+    descriptions = {camel(name): what for name, what in descriptions.items()}
     yield "js/README.md", "the options for reading:\n\n", "\n\n", as_list(descriptions)
 
 

@@ -42,7 +42,7 @@ VALUES = (
     }
     | dict.fromkeys(
         """json json-errors quiet zero-terminated lowercase cn-unit more-names require-unit pattern
-        sum""".split(),
+        sum mend""".split(),
         [""],
     )
 )
@@ -56,7 +56,9 @@ NUMBERS = ("12.5", ".5", "1e-05", "2.5E+3", "0.5e0", "\t3.0 ", "1e-9999999999999
 WORDS = """--to=ms --from=Hour --largest=µs --smallest=mon --units=y,d --style=long
 --round=up""".split()
 Refused = collections.namedtuple(
-    "Refused", "cause column expected found help suggestion mended message", defaults=[None] * 8
+    "Refused",
+    "cause column expected found help suggestion span mended message",
+    defaults=[None] * 9,
 )
 Said = collections.namedtuple("Said", "output errors status")
 quoted = json.JSONEncoder(ensure_ascii=False).encode
@@ -154,7 +156,8 @@ def read(data, options):
         found=answer.found or None,
         help=found.code() if found else None,
         suggestion=answer.mend.written if answer.mend else None,
-        mended=reference.mended(text, answer),
+        span=[answer.mend.start, answer.mend.end] if answer.mend else None,
+        mended=reference.mended(text, choice_of(options)),
         message=reference.one_line(text, answer),
     )
 
@@ -230,8 +233,12 @@ def said_of(line, options, where, before=None):
         answer = refused("NO_FIELD", "no such field")
     else:
         answer = read(line[begin:end], options)
+    text = line.decode(errors="replace")
+    if "mend" in options and isinstance(answer, Refused) and answer.mended is not None:
+        text = answer.mended
+        answer = read(text.encode(), options)
     if "json" in options:
-        output = json_object(line.decode(errors="replace"), answer, options, where).encode()
+        output = json_object(text, answer, options, where).encode()
         return Said(output + b"\n", b"", int(isinstance(answer, Refused)))
     if "sum" in options and not isinstance(answer, Refused):
         return Said(answer, b"", 0)

@@ -15,8 +15,8 @@
 #include "duration_str.h"
 
 static uint32_t option_of(const char *word) {
-    const char names[][16] = {"no_calc", "lowercase", "cn_unit", "require_unit", "more_names"};
-    for (uint32_t bit = 0; bit < 5; bit++)
+    const char *const names[] = {"no_calc", "lowercase", "cn_unit", "require_unit", "more_names"};
+    for (uint32_t bit = 0; bit < sizeof names / sizeof *names; bit++)
         if (strcmp(word, names[bit]) == 0)
             return UINT32_C(1) << bit;
     const char *unit = strchr(word, '=');

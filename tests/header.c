@@ -136,6 +136,12 @@ static void check_long_texts(void) {
     expect(!duration_str_parse_with(text, length, 0, &answer) &&
                is_syntax(answer, length - 1, read_with("1-", 0).expected, 1),
         "the last byte of a long text");
+    memcpy(text + length - 4, "1.5h", 4);
+    size_t start, replaced_length;
+    expect(duration_str_help(text, length, 0, NULL, &start, &replaced_length) ==
+                   DURATION_STR_HELP_FRACTION &&
+               start == length - 4 && replaced_length == 4,
+        "the part of a long text that is replaced");
 }
 
 static void check_null_texts(void) {

@@ -3,8 +3,8 @@ library's. They must be refused: otherwise no caller would need the law for all 
 
 The laws of `crate::by_own_table` hold only for rules with the library's own table of units, and
 those of `crate::by_second` only if the default unit is the second, too. Each clause of a law that
-begins with its rules or its default unit is weakened. `never_more` stays, since it speaks of a
-default unit only within another record.
+begins with its rules or its default unit is weakened. `never_more` stays: it speaks of a default
+unit only in the record `IsMostWithin`.
 """
 import re
 

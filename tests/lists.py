@@ -44,9 +44,11 @@ HELPS = {
 }
 constants = found(r"^const (\w+): u32 = \d+;$", "duration_str_c/src/answer.rt")
 CAUSES = ["READ", *constants[: constants.index("UNKNOWN_OPTION") + 1]]
-# The options of reading, in the order of their bits
+# The options of reading, in the order of their bits. Those before REQUIRE_UNIT are the fields of
+# `Options` in Rust and Rattle, and the words of the program `durstr`.
 constants = found(r"^const (\w+): u32 = \d+;$", "duration_str_js/src/reading.rt")
-OPTIONS = constants[: constants.index("DEFAULT_UNIT")]
+OPTIONS = constants[: constants.index("DEFAULT_UNIT_SHIFT")]
+SWITCHES = OPTIONS[: OPTIONS.index("REQUIRE_UNIT")]
 
 
 def quoted(words, between=", "):
@@ -68,6 +70,26 @@ def describing_patterns(first, further, names):
     text += f"The last four are the same with `{more_names}`."
     text += " */" if first.startswith("/**") else ""
     return textwrap.fill(text, 100, subsequent_indent=further).removeprefix(first)
+
+
+def with_all_options(text):
+    """Two or more lines that each begin with an option of reading, such as the parameters of a
+    function in Python, are a list of all options in their order. The line of an option that is
+    missing is like the line before it.
+    """
+    line = rf"[ \t]*\"?(?:{'|'.join(OPTIONS)})\b.*\n"
+    return re.sub(rf"(?im)^(?:{line}){{2,}}", lambda found: with_missing_lines(found[0]), text)
+
+
+def with_missing_lines(listed):
+    lines = {re.search(r"\w+", line)[0].upper(): line for line in listed.splitlines(keepends=True)}
+    last, last_line = next(iter(lines.items()))
+    for option in OPTIONS:
+        if option not in lines:
+            line = last_line.replace(last, option)
+            lines[option] = line.replace(last.lower(), option.lower())
+        last, last_line = option, lines[option]
+    return "".join(lines[option] for option in OPTIONS)
 
 
 def in_javascript():
@@ -94,6 +116,7 @@ def divided_helps():
 
 
 def in_c():
+    yield "tests/durstr.c", "names[] = {", "}", quoted(map(str.lower, OPTIONS))
     rows = ["    /* no help applies */", "    DURATION_STR_HELP_NONE = 0,"]
     for number, (name, comment) in enumerate(HELPS.items(), 1):
         # The words ` */` stay on the comment's last line.
@@ -141,6 +164,10 @@ def in_python():
 
 def in_c_for_python():
     name = "python/src/duration_str/_lists.h"
+    names = [*map(str.lower, OPTIONS)]
+    defaults = ", ".join(f"{option}=False" for option in names)
+    yield name, "OPTION_NAMES ", "\n", quoted(names)
+    yield name, "OPTION_DEFAULTS ", "\n", f"\"{defaults}, default_unit='s'\""
     latin, utf_8 = (quoted(PRINTED).replace("µ", code) for code in (r"\xb5", r"\xc2\xb5"))
     listed = utf_8.replace('"', "").replace(r"\xc2\xb5s", r"\xc2\xb5s or us")
     yield name, "unit_names[] = {", "}", latin

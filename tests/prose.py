@@ -189,7 +189,7 @@ def other_answers():
 def other_mended_texts():
     for row in rows_of_tables("docs/GRAMMAR.md"):
         for text, claim in claims_of(row, "mended text") if "mended text" in row else ():
-            mended = reference_parser.mended(text, reference_parser.Choice().answer(text))
+            mended = reference_parser.mended(text, reference_parser.Choice())
             if (f"`{mended}`" if mended else "none") != claim:
                 yield f"docs/GRAMMAR.md: for `{text}` the reference parser has {mended}, not {claim}"
 
@@ -207,8 +207,8 @@ def other_advice():
             if len(texts) != len(advised):
                 yield f"docs/MIGRATING.md: not one advice for each text: {row[column]}"
             for text, wanted in zip(texts, advised):
-                answer = reference_parser.Choice.named(ADVISING[column]).answer(text)
-                if (mended := reference_parser.mended(text, answer)) != wanted:
+                choice = reference_parser.Choice.named(ADVISING[column])
+                if (mended := reference_parser.mended(text, choice)) != wanted:
                     yield f"docs/MIGRATING.md: for `{text}` the reference parser has {mended}"
 
 

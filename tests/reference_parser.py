@@ -76,7 +76,9 @@ FOLDED = str.maketrans("ABCDEFGHIJKLMNOPQRSTUVWXYZ", "abcdefghijklmnopqrstuvwxyz
 
 
 class Options(typing.NamedTuple):
-    """In Rust and Rattle, `more_names` is no field of `Options`, but a rule of `Rules`."""
+    """In Rust and Rattle, the options from `more_names` on are no fields of `Options`, but rules of
+    `Rules`.
+    """
 
     no_calc: bool = False
     lowercase: bool = False
@@ -86,9 +88,12 @@ class Options(typing.NamedTuple):
     def words(self):
         return [name for name, on in zip(self._fields, self) if on]
 
+    def with_rules(self, rules):
+        return Options(*self[: len(SWITCHES)], *rules)
 
-# The options that the program `durstr` has, too.
-SWITCHES = Options._fields[:3]
+
+# The options that the program `durstr` has, too, and those that it lacks.
+SWITCHES, RULES = Options._fields[:3], Options._fields[3:]
 CHOICES = [
     Options(*choice[::-1]) for choice in itertools.product((False, True), repeat=len(SWITCHES))
 ]
@@ -857,11 +862,19 @@ def unit_after(text, end, choice):
     return choice.default_unit if can_follow else None, end
 
 
-def mended(text, answer):
-    """The text with something else in place of the part that is wrong, or None."""
-    if answer.mend is None:
-        return None
-    return text[: answer.mend.start] + answer.mend.written + text[answer.mend.end :]
+MOST_SUGGESTIONS = 32
+
+
+def mended(text, choice):
+    """The text with a suggestion for each of its faults, which is read; or None."""
+    for _ in range(1 + MOST_SUGGESTIONS):
+        answer = choice.answer(text)
+        if answer.cause == "read":
+            return text
+        if answer.mend is None:
+            return None
+        text = text[: answer.mend.start] + answer.mend.written + text[answer.mend.end :]
+    return None
 
 
 def expected_in_line(expected):

@@ -14,6 +14,7 @@ from reference_parser import (
     ROUNDINGS,
     SECOND,
     STYLES,
+    SWITCHES,
     UNITS,
     Choice,
     as_packages_mean,
@@ -35,7 +36,8 @@ def texts():
     known = {*rows["options"]}
     for group, options in itertools.product(rows["values"], CHOICES):
         named = Choice.named(group["on"])
-        choice = Choice(options._replace(more_names=named.options.more_names), named.default_unit)
+        rules = named.options[len(SWITCHES) :]
+        choice = Choice(options.with_rules(rules), named.default_unit)
         is_read = {*group["on"]} & known <= {*options.words()} <= known - {*group["off"]}
         for secs, nanos, each in group["rows"]:
             nanos = secs * SECOND + nanos if is_read else None
@@ -56,7 +58,7 @@ def refusals():
     """The rows of refusals, each with what the reference parser has for it, and with its line."""
     rows = tables()
     for row in rows["refused"]:
-        text, names, *_, line, _, _, _, _ = row
+        text, names, _, _, _, _, line, *_ = row
         answer = Choice.named(names).answer(text)
         place = None if answer.place is None else len(text[: answer.place].encode())
         kinds = [kind for kind in KINDS if kind in answer.expected]
@@ -66,7 +68,7 @@ def refusals():
             found = reference_parser.help_of(text, answer)
             wanted += [reference_parser.one_line(text, answer), spaces_of(text, answer)]
             wanted += [found and found.code(), answer.mend and answer.mend.written]
-            wanted.append(reference_parser.mended(text, answer))
+            wanted += [span_of(text, answer), reference_parser.mended(text, Choice.named(names))]
         yield row, wanted, line
     for row in rows["refused_numbers"]:
         unit, number, line = row
@@ -75,6 +77,13 @@ def refusals():
         if answer.cause != "read":
             wanted.append(reference_parser.one_line(str(number), answer))
         yield row, wanted, line
+
+
+def span_of(text, answer):
+    """The bytes where the replaced part begins and ends"""
+    if answer.mend is None:
+        return None
+    return [len(text[:place].encode()) for place in (answer.mend.start, answer.mend.end)]
 
 
 def spaces_of(text, answer):

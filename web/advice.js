@@ -7,7 +7,7 @@ import { UNITS, unitOf } from "./units.js";
 /** How many of the next smaller unit a unit has, and the smaller unit's name. People leave the
  * smaller unit out at the end, as in `1h 30`. */
 const LEFT_OUT = { d: [24n, "h"], h: [60n, "m"], min: [60n, "s"] };
-const END = /(?<unit>\p{L}+)(?<between>\s*\+?\s*)(?<number>[0-9]+)\s*$/u;
+const END = /(?<unit>\p{L}+)(?<between>(?:\.(?=\s))?\s*\+?\s*)(?<number>[0-9]+)\s*$/u;
 
 /** Adds the unit that is left out at the end, if it is certain which one it is. */
 function complete(text) {
@@ -15,20 +15,6 @@ function complete(text) {
     const [limit, name] = LEFT_OUT[unitOf(unit ?? "")?.printed] ?? [0n];
     if (!limit || BigInt(number) >= limit) return text;
     return text.replace(END, `${unit}${between || " "}${number}${name}`);
-}
-
-/** A text that people type needs few mends. For each of them, the library reads the whole text. */
-const MOST_MENDS = 100;
-
-/** Takes the mended text, and its mended text, and so on, until there is none. */
-function mend(text, options) {
-    let mended = text;
-    for (let count = 0; count < MOST_MENDS; count++) {
-        const { fault } = tryParseNs(mended, options);
-        if (fault?.mended == null) break;
-        mended = fault.mended;
-    }
-    return mended;
 }
 
 /** The options, and then those with changes by which more texts are read. Of two that both read a
@@ -48,11 +34,17 @@ function optionsToTry(options) {
  * was typed, if it is read. */
 export function offerFor(text, options, value) {
     const tried = value === undefined ? optionsToTry(options) : [options];
+    // What is left out is told by the unit that was typed, and the mended text of a fraction can
+    // have another one: `1.5h 30` is `90min 30m`.
+    const completed = complete(text);
     const read = tried.map((each) => {
-        const mended = complete(mend(text, each));
-        return { text: mended, options: each, ...tryParseNs(mended, each) };
+        const offered = tryParseNs(completed, each).fault?.mended ?? completed;
+        return { text: offered, options: each, ...tryParseNs(offered, each) };
     });
-    return read.find((each) => each.ok && each.value !== value);
+    const offer = read.find((each) => each.ok && each.value !== value);
+    // `1.5年` is mended only with Chinese units, but its mended text needs none.
+    const needed = offer && tried.find((each) => tryParseNs(offer.text, each).value === offer.value);
+    return offer && { ...offer, options: needed };
 }
 
 const BARE = /[0-9]*[1-9][0-9]*(?=\s*(?:\+|$))/;

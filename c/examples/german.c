@@ -70,10 +70,12 @@ int main(int count, char **words) {
             say_syntax(words[at], &answer);
         else
             fputs(WORDS(causes, answer.cause, "keine Dauer"), stdout);
-        const char *const rest = words[at] + start + replaced;
-        const bool is_mended = *better || replaced;
-        if (is_mended && are_shown(words[at], start) && are_shown(rest, strlen(rest))) {
-            printf(" (besser „%.*s%s%s“)", (int)start, words[at], better, rest);
+        const char *const part = words[at] + start;
+        if (replaced && are_shown(part, replaced)) {
+            if (*better)
+                printf(" (besser „%s“ statt „%.*s“)", better, (int)replaced, part);
+            else
+                printf(" (ohne „%.*s“)", (int)replaced, part);
         } else if (*WORDS(helps, help, "")) {
             printf(" (%s)", WORDS(helps, help, ""));
         } else if (*better) {

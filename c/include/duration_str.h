@@ -467,8 +467,14 @@ size_t duration_str_report(
  * `*start` the byte at which the part begins, and to `*replaced_length` its
  * length in bytes. The suggestion is empty if the part is to be removed, such
  * as the sign of `+5m`. The length is 0 if something is to be inserted. If
- * nothing is certain, writes the empty text and two zeros. So there is a mended
- * text if `*suggestion || *replaced_length`.
+ * nothing is certain, writes the empty text and two zeros. So something is
+ * certain if `*suggestion || *replaced_length`.
+ *
+ * With the suggestion in place of that part, the text can be refused again, such
+ * as `2h 1.5min` for `2hrs 1.5min`. But no syntax fault is before the end of the
+ * suggestion. So a program can put one suggestion after the other into a text.
+ * This ends, since each of them but one leaves fewer bytes after it. (The one is
+ * the `s` that is inserted after a zero.)
  *
  * `suggestion` has DURATION_STR_SUGGESTION_BUFFER_SIZE bytes. Each of the three
  * pointers may be null. */

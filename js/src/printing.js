@@ -62,7 +62,7 @@ function taken(value) {
 
 // ---- Formats
 
-/** The position of an option's name in the list of those that there are. */
+/** The position of this name among those that the option takes. */
 function placeOf(option, name, names) {
     if (typeof name !== "string") {
         throw new TypeError(`the option ${option} must be a string, not ${typeOf(name)}`);

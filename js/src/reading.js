@@ -11,6 +11,9 @@ const LONE_SURROGATE = /[\ud800-\udfff]/u;
 // After the module's own memory come a `struct Answer` and the text to read. The struct has the
 // nanoseconds, the count to write, further numbers of 32 bits, and the report, at these offsets.
 const NANOS = 0, COUNT = 8, NUMBERS = 16, REPORT = 56;
+/** A text that needs more suggestions than this has no mended text. For each of them, the whole
+ * text is read. So without this limit, a long text could take very long. */
+const MOST_SUGGESTIONS = 32;
 /** The longest report fits. */
 const REPORT_SIZE = 867;
 /** The offset of the text. The struct's size is a multiple of 8. */
@@ -61,14 +64,15 @@ function indexAt(text, place) {
 }
 
 /** The fault of the text, from the answer and the report that the call has written. */
-function faultOf(text, reportLength) {
+function faultOf(text, bits, reportLength) {
     const bytes = new Uint8Array(calls.memory.buffer, answer + REPORT, reportLength);
     // Spreading the bytes would take eight times as long as `apply`.
     const report = decodeURIComponent(escape(String.fromCharCode.apply(null, bytes)));
     const numbers = Array.from({ length: 9 }, (_, index) =>
         fields.getInt32(NUMBERS + 4 * index, true));
     const [place, foundLength, cause, expected, help, start, length, hasCount, unit] = numbers;
-    const fault = new Fault(text, report, CODES[cause], expected, help);
+    const mend = (refused) => mended(refused, bits);
+    const fault = new Fault(text, report, CODES[cause], expected, help, mend);
     if (place >= 0) {
         fault.place = place;
         fault.index = indexAt(text, place);
@@ -77,10 +81,19 @@ function faultOf(text, reportLength) {
     if (start >= 0) {
         const count = hasCount ? fields.getBigUint64(COUNT, true) : "";
         fault.suggestion = count + (UNITS[unit - 1] ?? "").replace("µ", "u");
-        const rest = text.slice(indexAt(text, start + length));
-        fault.mended = text.slice(0, indexAt(text, start)) + fault.suggestion + rest;
+        fault.span = [indexAt(text, start), indexAt(text, start + length)];
     }
     return fault;
+}
+
+function mended(fault, bits) {
+    for (let count = 0; count < MOST_SUGGESTIONS && fault.span; count++) {
+        const [start, end] = fault.span;
+        const text = fault.text.slice(0, start) + fault.suggestion + fault.text.slice(end);
+        fault = readText(text, bits);
+        if (typeof fault === "number") return text;
+    }
+    return null;
 }
 
 function surrogateAt(text, index) {
@@ -108,15 +121,19 @@ function read(value, options) {
     const isText = typeof value === "string";
     if (!isText && typeof value !== "number" && typeof value !== "bigint") throw notText(value);
     const bits = bitsOf(options);
-    const text = isText ? value : digitsOf(value, bits);
+    return readText(isText ? value : digitsOf(value, bits), bits & ~READS_NUMBERS);
+}
+
+/** Returns the milliseconds, or the fault. */
+function readText(text, bits) {
     if (!calls) {
         calls = reader();
         answer = calls.__heap_base.value;
     }
     const length = write(text);
     if (length < 0) return surrogateAt(text, ~length);
-    const millis = calls.read(answer, length, bits & ~READS_NUMBERS);
-    return millis < 0 ? faultOf(text, -millis) : millis;
+    const millis = calls.read(answer, length, bits);
+    return millis < 0 ? faultOf(text, bits, -millis) : millis;
 }
 
 const nanoseconds = () => fields.getBigUint64(NANOS, true);

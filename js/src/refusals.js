@@ -5,10 +5,11 @@ const SHOWN_LENGTH = 80;
 /** The report's last line is the message. */
 export class Fault {
     #report;
+    #mend;
 
     /** The bits of `expected` are those of `enum duration_str_expected`. `help` is the number of a
-     * help, from 1, or 0. */
-    constructor(text, report, code, expected = 0, help = 0) {
+     * help, from 1, or 0. `mend` returns the mended text of a fault, if somebody asks for it. */
+    constructor(text, report, code, expected = 0, help = 0, mend = () => null) {
         this.code = code;
         this.text = text;
         this.index = null;
@@ -22,13 +23,22 @@ export class Fault {
         };
         this.help = HELPS[help - 1] ?? null;
         this.suggestion = null;
-        this.mended = null;
+        this.span = null;
         this.message = report.slice(report.lastIndexOf("\n") + 1);
         this.#report = report;
+        this.#mend = mend;
+    }
+
+    get mended() {
+        return this.#mend(this);
     }
 
     get report() {
         return this.#report;
+    }
+
+    toJSON() {
+        return { ...this, mended: this.mended };
     }
 
     toString() {
@@ -44,10 +54,10 @@ function hideLong(cause, name) {
     Object.defineProperty(cause, name, { get: () => text });
 }
 
-/** The fault's fields, except the message and the report, are in `cause`. A structured clone of an
- * error can keep the `cause`, but no fields of this class. */
+/** The fault's fields, except the message, the report and the mended text, are in `cause`. A
+ * structured clone of an error can keep the `cause`, but no fields of this class. */
 export class DurationError extends Error {
-    #report;
+    #fault;
 
     constructor(fault) {
         if (!(fault instanceof Fault)) {
@@ -56,13 +66,12 @@ export class DurationError extends Error {
         const { message, ...cause } = fault;
         hideLong(cause, "text");
         hideLong(cause, "found");
-        hideLong(cause, "mended");
         super(message, { cause });
-        this.#report = fault.report;
+        this.#fault = fault;
     }
 
     get report() {
-        return this.#report;
+        return this.#fault.report;
     }
 
     get code() {
@@ -97,12 +106,16 @@ export class DurationError extends Error {
         return this.cause.suggestion;
     }
 
+    get span() {
+        return this.cause.span;
+    }
+
     get mended() {
-        return this.cause.mended;
+        return this.#fault.mended;
     }
 
     toJSON() {
-        return { name: this.name, message: this.message, ...this.cause };
+        return { name: this.name, message: this.message, ...this.cause, mended: this.mended };
     }
 }
 

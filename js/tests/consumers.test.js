@@ -160,6 +160,13 @@ test("has types for a CommonJS module", skipWithout("tsc"), () => {
     }
 });
 
+// Node also requires modules from 20.19 on, but not before.
+test("gives a CommonJS file of plain JavaScript to require", () => {
+    const required = createRequire(join(room, "required.cjs"));
+    assert.match(required.resolve("duration-str/plain"), /[/]plain[.]cjs$/);
+    assert.equal(required("duration-str/plain").parse("1h"), 3_600_000);
+});
+
 // tests/compare compares what the plain package reads, and what it prints without a format.
 test("prints in plain JavaScript as in WebAssembly", async () => {
     const [compiled, plain] = await Promise.all(
@@ -384,7 +391,7 @@ for (const { DurationError, formatNs, tryParseNs } of [compiled, plain]) {
         }
     }
     for (const [text, names, ...row] of VECTORS.refused) {
-        const [code, place, found, , line, , help, suggestion, mended] = row;
+        const [code, place, found, , line, , help, suggestion, , mended] = row;
         const error = new DurationError(tryParseNs(text, optionsOf(names)).fault);
         const copy = structuredClone(error.toJSON());
         const got = [copy.code, copy.place, copy.found, copy.help, copy.suggestion, copy.message];

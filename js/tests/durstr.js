@@ -1,7 +1,8 @@
 // `node durstr.js [OPTION..]` answers each line of the standard input. It writes the nanoseconds
-// and the printed duration, or why the line is refused, and after a tab the help's number, the
-// suggestion and the mended text. Options are named as in vectors.json, such as `no_calc` or
-// `default_unit=ms`. The status is 0 if all lines are read, and otherwise 1.
+// and the printed duration, or why the line is refused, and after a tab the help's number, where
+// the part to replace begins and ends, in characters, the suggestion, and the mended text. Options
+// are named as in vectors.json, such as `no_calc` or `default_unit=ms`. The status is 0 if all
+// lines are read, and otherwise 1.
 //
 // `node durstr.js rounded` prints durations that are rounded down, to the nearest and up. Each line
 // has the nanoseconds, the number of a set of units, and the greatest number of parts.
@@ -26,10 +27,15 @@ function answer(line) {
     return ok ? [`${value} ${formatNs(value)}`, true] : [lineAndHelp(fault), false];
 }
 
-function lineAndHelp({ message, help, suggestion, mended }) {
+function lineAndHelp({ text, message, help, suggestion, span, mended }) {
     if (help === null) return message;
-    const told = `${message}\t${HELPS.indexOf(help) + 1}`;
-    return mended === null ? told : `${told} <${suggestion}> ${mended}`;
+    const told = [`${message}\t${HELPS.indexOf(help) + 1}`];
+    if (span) {
+        const [start, end] = span.map((index) => [...text.slice(0, index)].length);
+        told.push(`${start}-${end}`, `<${suggestion}>`);
+    }
+    if (mended !== null) told.push(mended);
+    return told.join(" ");
 }
 
 function rounded(line) {

@@ -21,9 +21,13 @@ function errorOf(text, options) {
     return assert.fail(`${JSON.stringify(text)} is read`);
 }
 
+function indices(text, span) {
+    return span?.map((end) => Buffer.from(text).subarray(0, end).toString().length) ?? null;
+}
+
 test("tells all of a refusal", () => {
     for (const [text, names, ...row] of VECTORS.refused) {
-        const [code, place, found, kinds, line, spaces, help, suggestion, mended] = row;
+        const [code, place, found, kinds, line, spaces, help, suggestion, span, mended] = row;
         const options = optionsOf(names);
         const error = errorOf(text, options);
         const before = Buffer.from(text).subarray(0, place ?? 0).toString();
@@ -42,6 +46,7 @@ test("tells all of a refusal", () => {
         assert.deepEqual([error.message, fault.message, String(fault)], [line, line, line]);
         for (const told of [error, fault]) {
             assert.deepEqual([told.help, told.suggestion], [help, suggestion], text);
+            assert.deepEqual(told.span, indices(text, span), text);
             assert.equal(told.mended, mended, text);
         }
         const report = spaces === null ? line : `${text}\n${" ".repeat(spaces)}^\n${line}`;
@@ -50,7 +55,7 @@ test("tells all of a refusal", () => {
 });
 
 test("gives each help", () => {
-    const given = new Set(VECTORS.refused.map((row) => row.at(-3)));
+    const given = new Set(VECTORS.refused.map((row) => row.at(-4)));
     assert.deepEqual(given, new Set([null, ...HELPS]));
 });
 
@@ -72,6 +77,39 @@ test("lets nothing unsafe into the message, and keeps it short", () => {
     }
 });
 
+test("mends a part that has fewer UTF-16 units than bytes", () => {
+    const rows = [
+        ["5 μs 2h", "us", [2, 4], "5 us 2h"],
+        ["1分 1.5分 2h 😀", "90s", [3, 7], null],
+        ["1分 1.5分 2hrs", "90s", [3, 7], "1分 90s 2h"],
+    ];
+    for (const [text, suggestion, span, mended] of rows) {
+        const error = errorOf(text, { cnUnit: true });
+        assert.deepEqual([error.suggestion, error.span, error.mended], [suggestion, span, mended]);
+    }
+});
+
+test("mends until a text is read, and up to 32 faults", () => {
+    const zeros = (count, between) => `0${between}`.repeat(count);
+    const rows = [
+        ["2hrs 1.5min", {}, "2h 90s"],
+        ["1.5h 5x", {}, null],
+        ["600years.", {}, null],
+        ["1_0.5", { defaultUnit: "ms" }, "10500us"],
+        [1.5, { defaultUnit: "ms" }, "1500us"],
+        ["0 0", { requireUnit: true }, null],
+        [`${zeros(32, "_")}0s`, {}, `${zeros(32, "")}0s`],
+        [`${zeros(33, "_")}0s`, {}, null],
+        [`${zeros(500_000, "_")}0s`, {}, null],
+    ];
+    for (const [text, options, mended] of rows) {
+        const error = errorOf(text, options);
+        assert.equal(error.mended, mended);
+        if (mended !== null) parseNs(mended, options);
+        assert.equal(error.mended, mended);
+    }
+});
+
 test("refuses lone surrogates, wherever they stand", () => {
     const rows = [
         ["1s\udfff", 2],
@@ -86,6 +124,7 @@ test("refuses lone surrogates, wherever they stand", () => {
             assert.deepEqual([error.code, error.text], ["NOT_TEXT", text]);
             assert.deepEqual([error.index, error.place, error.found], [index, null, null]);
             assert.deepEqual([error.help, error.suggestion, error.mended], [null, null, null]);
+            assert.equal(error.span, null);
             const line = `not UTF-8: a lone surrogate at index ${index}`;
             assert.deepEqual([error.message, error.report], [line, line]);
         }
@@ -177,8 +216,7 @@ test("survives a structured clone and JSON, with all that is wrong", () => {
     const error = errorOf("2h 1.5min");
     const { fault } = tryParseNs("2h 1.5min");
     const { message, ...cause } = fault;
-    assert.deepEqual([cause.help, cause.suggestion], ["FRACTION", "90s"]);
-    assert.equal(cause.mended, "2h 90s");
+    assert.deepEqual([cause.help, cause.suggestion, cause.span], ["FRACTION", "90s", [3, 9]]);
     const clone = structuredClone(error);
     assert.deepEqual(
         [clone.message, clone.cause, structuredClone(fault)],
@@ -186,9 +224,12 @@ test("survives a structured clone and JSON, with all that is wrong", () => {
     );
     assert.deepEqual(
         JSON.parse(JSON.stringify(error)),
-        { name: "DurationError", message, ...cause },
+        { name: "DurationError", message, ...cause, mended: "2h 90s" },
     );
-    assert.deepEqual(JSON.parse(JSON.stringify(fault)), { message, ...cause });
+    assert.deepEqual(
+        JSON.parse(JSON.stringify(fault)),
+        { message, ...cause, mended: "2h 90s" },
+    );
 });
 
 test("is told without an error by tryParse", () => {
@@ -197,12 +238,15 @@ test("is told without an error by tryParse", () => {
         const { ok, fault } = tryParseNs(text);
         const error = errorOf(text);
         const { code, index, place, found, expected, help, message, report } = error;
-        const { suggestion, mended } = error;
+        const { suggestion, span, mended } = error;
         assert.deepEqual(
-            [ok, { ...fault }, fault.report],
+            [ok, fault.toJSON(), fault.report],
             [
                 false,
-                { code, text, index, place, found, expected, help, suggestion, mended, message },
+                {
+                    code, text, index, place, found, expected, help, suggestion, span, mended,
+                    message,
+                },
                 report,
             ],
         );

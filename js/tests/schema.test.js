@@ -32,9 +32,13 @@ function isSentence(text, options) {
 
 function* texts() {
     for (const { rows } of VECTORS.values) for (const [, , row] of rows) yield* row;
-    for (const [text] of VECTORS.refused) {
-        yield text;
-        for (const character of STRANGE) yield* [text + character, character + text];
+    for (const [text] of VECTORS.refused) yield text;
+    for (const text of ["1h 30m", "1m + 2s", "2 * 1h", "90", "1分"]) {
+        for (let place = 0; place <= text.length; place++) {
+            for (const character of STRANGE) {
+                yield text.slice(0, place) + character + text.slice(place);
+            }
+        }
     }
 }
 

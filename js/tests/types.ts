@@ -69,11 +69,12 @@ try {
     const any: boolean = expected.number || expected.unit || expected.operator || expected.end;
     const texts: (string | null)[] = [
         error.found, error.report, error.text, error.message, cause.text, error.mended,
-        cause.mended,
+        error.toJSON().mended,
     ];
     const help: Help | null = error.help;
     const suggestion: string | null = cause.suggestion;
     if (error.mended !== null) parse(error.mended);
+    if (error.span !== null) error.text.slice(...error.span);
     // @ts-expect-error: it is null if no help applies
     const always: Help = error.help;
     // @ts-expect-error: there is no such help

@@ -277,10 +277,21 @@ class Reading(unittest.TestCase):
                 line = r"^at index 1: duration of 2\^63 nanoseconds or more, which timedelta64 doesn't have$"
                 with self.assertRaisesRegex(DurationError, line) as raised:
                     to_timedelta(["1s", text, "x"])
-                self.assertEqual(
-                    (raised.exception.index, raised.exception.cause), (1, Cause.OVERFLOW)
-                )
-                self.assertEqual((raised.exception.text, raised.exception.place), (text, None))
+                error = raised.exception
+                self.assertEqual((error.index, error.cause), (1, Cause.OVERFLOW))
+                self.assertEqual((error.text, error.place), (text, None))
+                self.assertEqual((error.help, error.suggestion, error.mended), (None,) * 3)
+
+    def test_mends_no_text_to_what_timedelta64_lacks(self):
+        for text, call, mended in (
+            ("292 yrs", to_timedelta, "292 y"),
+            ("293 yrs", to_timedelta, None),
+            (["1s", "293 yrs"], to_timedelta, None),
+            (["1s", "293 yrs"], parse_many, "293 y"),
+        ):
+            with self.subTest(text=text), self.assertRaises(DurationError) as raised:
+                call(text)
+            self.assertEqual(raised.exception.mended, mended)
 
     def test_raises_the_first_refusal(self):
         with self.assertRaisesRegex(
@@ -361,12 +372,17 @@ class Reading(unittest.TestCase):
             [seconds, -seconds, seconds + 1, -seconds - 1, "NaT"], dtype="timedelta64[s]"
         )
         wanted = [seconds * SECOND, -seconds * SECOND, None, None, None]
-        self.assertEqual(numbers(to_timedelta(column, errors="coerce")), wanted)
+        for some in (column, column[3:]):  # The second has no positive one that is too long.
+            self.assertEqual(numbers(to_timedelta(some, errors="coerce")), wanted[-len(some) :])
         self.assertEqual(numbers(to_timedelta(pandas.Series(column[:2]))), wanted[:2])
         with self.assertRaisesRegex(
             OverflowError, "^at index 2: .*timedelta64\\(9223372037,'s'\\)$"
         ):
             to_timedelta(column)
+        # Only steps of a power of two have exactly 2**63 nanoseconds.
+        for count in (2**60, -(2**60)):
+            column = numpy.array([count], dtype="timedelta64[8ns]")
+            self.assertRaises(OverflowError, to_timedelta, column)
         for step in ("15250W", "15251W", "40000W"):  # The last two don't fit into 63 and 64 bits.
             longest = numpy.array([0, "NaT", 1], dtype=f"timedelta64[{step}]")
             with self.subTest(step=step):
@@ -383,7 +399,8 @@ class Reading(unittest.TestCase):
         read.iloc[0] = pandas.Timedelta(5)
         self.assertEqual(numbers(series), [1, None])
         sparse = pandas.Series(pandas.arrays.SparseArray(lengths[:1]))
-        to_timedelta(sparse).iloc[0] = pandas.Timedelta(5)
+        read = to_timedelta(sparse)
+        read.iloc[0] = pandas.Timedelta(5)
         self.assertEqual(numbers(to_timedelta(sparse)), [1])
         masked = numpy.ma.array(lengths, mask=[True, False])
         self.assertEqual(numbers(to_timedelta(masked)), [None, None])

@@ -20,7 +20,8 @@ class JobError(DurationError):
 class Errors(unittest.TestCase):
     def test_tells_what_is_wrong(self):
         for row in VECTORS["refused"]:
-            text, names, cause, place, found, expected, line, spaces, code, suggestion, mended = row
+            text, names, cause, place, found, expected, line, spaces, code, *mend = row
+            suggestion, span, mended = mend
             with self.subTest(text=text):
                 error = error_of(text, **words_of(names))
                 self.assertIsInstance(error, ValueError)
@@ -34,10 +35,42 @@ class Errors(unittest.TestCase):
                 above = "" if spaces is None else f"{text}\n{' ' * spaces}^\n"
                 self.assertEqual((str(error), error.report), (line, above + line))
                 self.assertIs(error.help, code and Help[code])
-                self.assertEqual((error.suggestion, error.mended), (suggestion, mended))
+                ends = span and tuple(len(text.encode()[:end].decode()) for end in span)
+                self.assertEqual((error.suggestion, error.span), (suggestion, ends))
+                self.assertEqual(error.mended, mended)
+
+    def test_mends_a_part_that_has_fewer_characters_than_bytes(self):
+        rows = [
+            ("5 μs 2h", "us", (2, 4), "5 us 2h"),
+            ("1分 1.5分 2h 分", "90s", (3, 7), None),
+            ("1分 1.5分 2hrs", "90s", (3, 7), "1分 90s 2h"),
+        ]
+        for text, suggestion, span, mended in rows:
+            with self.subTest(text=text):
+                error = error_of(text, cn_unit=True)
+                self.assertEqual((error.suggestion, error.span), (suggestion, span))
+                self.assertEqual(error.mended, mended)
+
+    def test_mends_until_a_text_is_read(self):
+        rows = [
+            ("2hrs 1.5min", {}, "2h 90s"),
+            ("1.5h 5x", {}, None),
+            ("600years.", {}, None),
+            ("1_0.5", {"default_unit": "ms"}, "10500us"),
+            (1.5, {"default_unit": "ms"}, "1500us"),
+            ("0 0", {"require_unit": True}, None),
+        ]
+        for text, options, mended in rows:
+            with self.subTest(text=text):
+                self.assertEqual(error_of(text, **options).mended, mended)
+
+    def test_mends_up_to_32_faults(self):
+        for count, is_mended in ((32, True), (33, False), (500_000, False)):
+            error = error_of("0_" * count + "0s")
+            self.assertEqual(error.mended, "0" * count + "0s" if is_mended else None)
 
     def test_has_each_help(self):
-        codes = {code for *_, code, _, _ in VECTORS["refused"]}
+        codes = {code for *_, code, _, _, _ in VECTORS["refused"]}
         self.assertEqual({None, *(each.name for each in Help)}, codes)
 
     def test_reports_nothing_unsafe(self):
@@ -66,6 +99,7 @@ class Errors(unittest.TestCase):
                     line = f"not UTF-8: a lone surrogate at index {place}"
                     self.assertEqual((str(error), error.report), (line, line))
                     self.assertEqual((error.help, error.suggestion, error.mended), (None,) * 3)
+                    self.assertIsNone(error.span)
 
     def test_tells_of_a_long_text_in_a_short_line(self):
         line = "expected a number, '+', '*' or the end at column 100003, found \"x\""

@@ -390,7 +390,8 @@ class Models(unittest.TestCase):
             )
             place = {"cause": "SYNTAX", "place": 2, "pos": 2, "found": "mins"}
             place["expected"] = ["unit", "operator", "end"]
-            place |= {"help": "DID_YOU_MEAN", "suggestion": "min", "mended": "5 min"}
+            place |= {"help": "DID_YOU_MEAN", "suggestion": "min"}
+            place |= {"span": (2, 6), "mended": "5 min"}
             self.assertEqual(error["ctx"], place)
             self.assertEqual(raised.exception.json().count("did you mean"), 1)
         with self.assertRaises(self.pydantic.ValidationError) as raised:
@@ -399,7 +400,7 @@ class Models(unittest.TestCase):
         place["expected"] = ["number", "operator", "end"]
         self.assertEqual(
             raised.exception.errors()[0]["ctx"],
-            place | {"help": None, "suggestion": None, "mended": None},
+            place | {"help": None, "suggestion": None, "span": None, "mended": None},
         )
         with self.assertRaises(self.pydantic.ValidationError) as raised:
             self.model(timeout="600y")

@@ -120,7 +120,7 @@ class Safety(unittest.TestCase):
         values += [SECOND, Clearing(seconds=1), SECOND]
         texts = []
         duration_str._native.format_list(
-            values, duration_str._texts.nanos_of, texts, (0x7FF, 11, 0, 0)
+            values, duration_str._errors.nanos_of, texts, (0x7FF, 11, 0, 0)
         )
         self.assertEqual((values, texts), ([], ["1s", "1s 1ns"]))
         with self.assertRaisesRegex(TypeError, "^at index 1: .* not Odd$"):

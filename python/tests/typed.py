@@ -89,6 +89,7 @@ except duration_str.DurationError as error:
     assert_type(error.pos, "int | None")
     assert_type(error.help, "duration_str.Help | None")
     assert_type(error.suggestion, "str | None")
+    assert_type(error.span, "tuple[int, int] | None")
     assert_type(error.mended, "str | None")
     assert_type(error.help == duration_str.Help.DID_YOU_MEAN, bool)
     error.help = None  # type: ignore[misc]

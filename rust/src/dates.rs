@@ -3,7 +3,8 @@
 //! All calls are also at the root of the crate, where `duration-str` 0.19.0 has the four that start
 //! from now. This module needs the feature `chrono`.
 use crate::fault::Fault;
-use crate::parser::{FEATURES, chrono_of, parse_with};
+use crate::original::{FEATURES, chrono_of};
+use crate::parser::parse_with;
 use alloc::string::String;
 use chrono::{NaiveDate, NaiveDateTime, Utc};
 use duration_str_core::{Cause, Options, Rules};

@@ -1,7 +1,8 @@
 use crate::fault::Fault;
+use crate::mend::Mend;
 use alloc::string::{String, ToString};
 use core::fmt;
-use duration_str_core::{Cause, Expected, Help, Mended, Rules};
+use duration_str_core::{Cause, Expected, Help, Rules};
 
 /// A [`Fault`] that owns its text. Calls such as [`parse_duration`](crate::parse_duration) return
 /// this error.
@@ -113,15 +114,26 @@ impl DurationError {
         self.as_fault().help()
     }
 
-    /// Returns the text with something else in place of the part that is wrong, as
-    /// [`Fault::mended`] does.
+    /// Returns the first suggestion and its place, as [`Fault::mend`] does.
     ///
     /// ```
-    /// let error = duration_str::parse_duration("1.5h").unwrap_err();
-    /// assert_eq!(error.mended().unwrap().to_string(), "90min");
+    /// let error = duration_str::parse_duration("5 mins").unwrap_err();
+    /// assert_eq!(error.mend().unwrap().replaced, "mins");
+    /// assert_eq!(error.mend().unwrap().suggestion.to_string(), "min");
     /// ```
     #[must_use]
-    pub fn mended(&self) -> Option<Mended<'_>> {
+    pub fn mend(&self) -> Option<Mend<'_>> {
+        self.as_fault().mend()
+    }
+
+    /// Returns the mended text, which is read by the same rules, as [`Fault::mended`] does.
+    ///
+    /// ```
+    /// let error = duration_str::parse_duration("2hrs 1.5min").unwrap_err();
+    /// assert_eq!(error.mended().as_deref(), Some("2h 90s"));
+    /// ```
+    #[must_use]
+    pub fn mended(&self) -> Option<String> {
         self.as_fault().mended()
     }
 

@@ -2,9 +2,7 @@ use crate::derror::DError;
 use crate::error::DurationError;
 use alloc::string::{String, ToString};
 use core::fmt;
-use duration_str_core::{
-    self as proved, Cause, Expected, Help, Mended, ONE_LINE_BUFFER_SIZE, Rules,
-};
+use duration_str_core::{self as proved, Cause, Expected, Help, ONE_LINE_BUFFER_SIZE, Rules};
 
 /// Why a text is refused, and often where.
 ///
@@ -42,6 +40,14 @@ impl<'a> Fault<'a> {
     pub(crate) fn of(text: &'a str, cause: Cause, rules: Rules) -> Fault<'a> {
         let fault = proved::Fault::new(text, cause).expect("the place is one of this text");
         Fault::new(fault, rules)
+    }
+
+    pub(crate) const fn proved(&self) -> proved::Fault<'a> {
+        self.fault
+    }
+
+    pub(crate) const fn rules(&self) -> Rules {
+        self.rules
     }
 
     /// Returns the whole refused text.
@@ -113,7 +119,7 @@ impl<'a> Fault<'a> {
     /// Returns the help for the fault: what a user may have meant, or should write instead. It is
     /// `None` if no help applies. The line ends with the help in words.
     ///
-    /// If it is certain what to write instead, [`mended`](Self::mended) says it.
+    /// If it is certain what to write instead, [`mend`](Self::mend) says it.
     ///
     /// ```
     /// use duration_str::{Help, Options, TimeUnit, parse_with};
@@ -125,30 +131,6 @@ impl<'a> Fault<'a> {
     #[must_use]
     pub fn help(&self) -> Option<Help> {
         self.fault.help()
-    }
-
-    /// Returns the mended text: the refused text with a suggestion in place of the part that is
-    /// wrong. It returns `None` if it isn't certain what to write.
-    ///
-    /// The mended text displays as a whole, and its fields are the pieces. It can have a further
-    /// syntax fault, but none before the end of the suggestion. `docs/GRAMMAR.md` in the repository
-    /// says which texts have a mended text.
-    ///
-    /// ```
-    /// use duration_str::{Options, parse_with};
-    ///
-    /// let mended = |text| parse_with(text, Options::off()).unwrap_err().mended();
-    /// let one = mended("2h 1.5min 5s").unwrap();
-    /// assert_eq!(one.to_string(), "2h 90s 5s");
-    /// assert_eq!((one.front, one.replaced, one.rest), ("2h ", "1.5min", " 5s"));
-    /// assert_eq!(one.suggestion.to_string(), "90s");
-    /// assert_eq!(mended("5 mins").unwrap().to_string(), "5 min");
-    /// assert_eq!(mended("+5m").unwrap().to_string(), "5m");
-    /// assert_eq!(mended("1:30"), None);
-    /// ```
-    #[must_use]
-    pub fn mended(&self) -> Option<Mended<'a>> {
-        self.fault.mended(self.rules)
     }
 
     /// Writes the line to the start of a buffer, and returns it. The call allocates nothing.

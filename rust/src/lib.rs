@@ -106,17 +106,18 @@
 //! ```
 //!
 //! The line often ends with [`Help`], in parentheses. `help` returns it as a value. If it is certain
-//! what to write instead, `mended` returns the text with that. So a program can say everything in
-//! its own words, or in another language, and need not look into the line:
+//! what to write instead, `mend` returns it and its place. `mended` returns a text that is read, if
+//! that is certain for all faults of the text. So a program can say everything in its own words, or
+//! in another language, and need not look into the line:
 //!
 //! ```
 //! use duration_str::{Help, parse_duration};
 //!
-//! let refusal = parse_duration("2h 1.5min").unwrap_err();
+//! let refusal = parse_duration("2h 1.5mins 1_000ms").unwrap_err();
 //! assert_eq!(refusal.help(), Some(Help::Fraction));
-//! let mended = refusal.mended().unwrap();
-//! assert_eq!(mended.suggestion.to_string(), "90s");
-//! assert_eq!(mended.to_string(), "2h 90s");
+//! assert_eq!(refusal.mend().unwrap().replaced, "1.5mins");
+//! assert_eq!(refusal.mend().unwrap().suggestion.to_string(), "90s");
+//! assert_eq!(refusal.mended().unwrap(), "2h 90s 1000ms");
 //! assert_eq!(parse_duration("1:30").unwrap_err().mended(), None);
 //! ```
 //!
@@ -203,7 +204,6 @@ extern crate alloc;
 
 #[cfg(feature = "chrono")]
 pub mod dates;
-mod default_unit;
 mod derror;
 mod error;
 mod fault;
@@ -211,6 +211,8 @@ mod formatted;
 mod human_duration;
 mod human_format;
 pub mod humantime;
+mod mend;
+mod original;
 mod parser;
 #[cfg(feature = "serde")]
 mod serde;
@@ -223,14 +225,12 @@ pub use dates::{
     after_naive_date, after_naive_date_time, before_naive_date, before_naive_date_time,
     moment_after, moment_before,
 };
-pub use default_unit::{parse_by, parse_in, parse_require_unit};
 pub use derror::{DError, DResult};
 #[doc(inline)]
 pub use duration_str_core::{
     Breakdown, Cause, CondUnit, Expected, FORMAT_BUFFER_SIZE, Format, HUMAN_BUFFER_SIZE, Help,
-    Mended, ONE_LINE_BUFFER_SIZE, Options, Rounding, Rules, SUGGESTION_BUFFER_SIZE, Style,
-    Suggestion, TimeUnit, Units, UnknownStyle, UnknownUnit, write_format, write_human,
-    write_rounded,
+    ONE_LINE_BUFFER_SIZE, Options, Rounding, Rules, SUGGESTION_BUFFER_SIZE, Style, Suggestion,
+    TimeUnit, Units, UnknownStyle, UnknownUnit, write_format, write_human, write_rounded,
 };
 // `MAX_LONG_LEN`, `MAX_PRINTED_LEN`, `UNITS` and `round_to`, below, are hidden, since programs that
 // use this crate don't need them. Examples in the core's documentation take some of them from here.
@@ -259,8 +259,10 @@ pub use fault::Fault;
 pub use formatted::{FormattedDuration, RoundedDuration, format_duration};
 pub use human_duration::HumanDuration;
 pub use human_format::HumanFormat;
+pub use mend::Mend;
 #[cfg(feature = "chrono")]
-pub use parser::parse_chrono;
+pub use original::parse_chrono;
 #[cfg(feature = "time")]
-pub use parser::parse_time;
-pub use parser::{parse, parse_duration, parse_std, parse_with};
+pub use original::parse_time;
+pub use original::{parse, parse_std};
+pub use parser::{parse_by, parse_duration, parse_in, parse_require_unit, parse_with};

@@ -49,8 +49,9 @@ fn words(help: Help) -> Option<&'static str> {
 fn main() {
     for text in std::env::args().skip(1) {
         if let Err(fault) = parse_with(&text, Options::off()) {
-            let mended = fault.mended().map(|mended| mended.to_string());
-            let offer = mended.map(|mended| format!("besser „{}“", mended.escape_debug()));
+            let offer = fault
+                .mended()
+                .map(|mended| format!("besser „{}“", mended.escape_debug()));
             let advice = offer.or(fault.help().and_then(words).map(str::to_string));
             let end = advice.map_or(String::new(), |advice| format!(" ({advice})"));
             println!("{}{end}", problem(&fault));

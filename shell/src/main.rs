@@ -218,7 +218,7 @@ impl Run<'_> {
                 self.total += u128::from(nanos);
                 Ok(())
             }
-            Ok((text, nanos)) if self.choices.json => self.object(text, nanos),
+            Ok((text, nanos)) if self.choices.json => self.object(&text, nanos),
             Ok((_, nanos)) => {
                 let mut buffer = [0; FORMAT_BUFFER_SIZE];
                 let printed = self.choices.printed(nanos, &mut buffer);
@@ -311,8 +311,13 @@ impl Run<'_> {
             .choices
             .field
             .map_or(String::new(), |field| format!(", field {field}"));
-        let (gap, said) = if refusal.report.contains('\n') && io::stderr().is_terminal() {
-            ('\n', refusal.report)
+        let report = if io::stderr().is_terminal() {
+            refusal.report()
+        } else {
+            String::new()
+        };
+        let (gap, said) = if report.contains('\n') {
+            ('\n', report)
         } else {
             (' ', refusal.message)
         };

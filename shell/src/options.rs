@@ -105,9 +105,13 @@ pub struct Choices {
     /// Refuse a number without a unit
     #[arg(long, conflicts_with = "from")]
     pub require_unit: bool,
+    /// Instead of a refused text read its mended text, if it has one: 90min for 1.5h
+    #[arg(long)]
+    pub mend: bool,
     /// Print the regular expression of the texts that the grammar allows, for validators
     #[arg(long, conflicts_with_all = SHAPES, conflicts_with_all = ["texts", "to", "decimals",
-        "round", "field", "delimiter", "header", "refused", "sum", "json", "json_errors", "quiet"])]
+        "round", "field", "delimiter", "header", "refused", "sum", "json", "json_errors", "quiet",
+        "mend"])]
     pub pattern: bool,
     /// Print the completions for a shell
     #[arg(long, value_name = "SHELL", exclusive = true, value_parser =

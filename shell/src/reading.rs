@@ -1,26 +1,15 @@
 //! Reads a text, and says why it is refused.
 use crate::lists::HELPS;
 use crate::options::{Choices, Round};
-use duration_str::{Cause, Expected, Fault, Help, Rules, TimeUnit, parse_by};
+use duration_str::{Cause, DurationError, Expected, Fault, Mend, Rules, TimeUnit, parse_by};
 use serde_json::json;
+use std::borrow::Cow;
 
-/// `place`, `expected` and `found` are those of a syntax fault.
-#[derive(Default)]
+/// `error` is the library's, if it has read the text.
 pub struct Refusal {
     pub message: String,
-    pub report: String,
     cause: &'static str,
-    place: Option<usize>,
-    expected: Option<Expected>,
-    found: Option<Box<str>>,
-    help: Option<Help>,
-    mend: Option<Box<Mend>>,
-}
-
-/// What to write in place of a part of the text, and the text with it.
-struct Mend {
-    suggestion: String,
-    mended: String,
+    error: Option<DurationError>,
 }
 
 impl Refusal {
@@ -28,37 +17,57 @@ impl Refusal {
         Refusal {
             message: message.to_string(),
             cause,
-            ..Refusal::default()
+            error: None,
         }
+    }
+
+    pub fn report(&self) -> String {
+        self.error
+            .as_ref()
+            .map_or_else(|| self.message.clone(), DurationError::report)
     }
 
     /// The token's first character, if the syntax fault is at the start of the text.
     pub fn first(&self) -> Option<char> {
-        let found = self.found.as_ref().filter(|_| self.place == Some(0))?;
+        let error = self.error.as_ref()?;
+        let found = error.found().filter(|_| error.place() == Some(0))?;
         found.chars().next()
     }
 
     /// Whether the text begins with a letter, and the message gives no advice.
     pub fn is_word(&self) -> bool {
+        let help = self.error.as_ref().and_then(DurationError::help);
         let first = self.first().filter(char::is_ascii_alphabetic);
-        first.is_some() && self.help.is_none()
+        first.is_some() && help.is_none()
     }
 
     pub fn json(&self, text: &[u8], what: &str, number: u64) -> String {
+        let error = self.error.as_ref();
         let text = String::from_utf8_lossy(text);
-        let column = self.place.map(|place| text[..place].chars().count() + 1);
-        let help = self.help.map(|help| HELPS[help.number() as usize - 1]);
-        let mend = self.mend.as_ref();
+        let expected = error.and_then(DurationError::expected);
+        let place = expected.and(error.and_then(DurationError::place));
+        let help = error.and_then(DurationError::help);
+        let mend = error.and_then(DurationError::mend);
         let fields = [
             ("text", json!(text)),
             (what, json!(number)),
             ("cause", json!(self.cause)),
-            ("column", json!(column)),
-            ("expected", json!(self.expected.map_or(vec![], kinds_of))),
-            ("found", json!(self.found)),
-            ("help", json!(help)),
-            ("suggestion", json!(mend.map(|mend| &mend.suggestion))),
-            ("mended", json!(mend.map(|mend| &mend.mended))),
+            (
+                "column",
+                json!(place.map(|place| length(&text[..place]) + 1)),
+            ),
+            ("expected", json!(expected.map_or(vec![], kinds_of))),
+            ("found", json!(error.and_then(DurationError::found))),
+            (
+                "help",
+                json!(help.map(|help| HELPS[help.number() as usize - 1])),
+            ),
+            (
+                "suggestion",
+                json!(mend.map(|mend| mend.suggestion.to_string())),
+            ),
+            ("span", json!(mend.map(span_of))),
+            ("mended", json!(error.and_then(DurationError::mended))),
             ("message", json!(self.message)),
         ];
         let fields = fields.map(|(name, value)| format!("{name:?}:{value}"));
@@ -66,21 +75,22 @@ impl Refusal {
     }
 }
 
+fn length(text: &str) -> usize {
+    text.chars().count()
+}
+
+/// Where the part to replace begins and ends, in characters.
+fn span_of(mend: Mend<'_>) -> [usize; 2] {
+    let start = length(mend.front);
+    [start, start + length(mend.replaced)]
+}
+
 impl From<Fault<'_>> for Refusal {
     fn from(fault: Fault<'_>) -> Refusal {
-        let mend = fault.mended().map(|mended| Mend {
-            suggestion: mended.suggestion.to_string(),
-            mended: mended.to_string(),
-        });
         Refusal {
             message: fault.to_string(),
-            report: fault.report(),
             cause: name_of(fault.cause()),
-            place: fault.expected().and(fault.place()),
-            expected: fault.expected(),
-            found: fault.found().map(Box::from),
-            help: fault.help(),
-            mend: mend.map(Box::new),
+            error: Some(fault.into_owned()),
         }
     }
 }
@@ -107,7 +117,8 @@ fn kinds_of(expected: Expected) -> Vec<&'static str> {
     could_stand.map(|(_, name)| name).collect()
 }
 
-pub fn read<'a>(bytes: &'a [u8], choices: &Choices) -> Result<(&'a str, u64), Refusal> {
+/// Returns the text, or the mended text that was read instead, and its nanoseconds.
+pub fn read<'a>(bytes: &'a [u8], choices: &Choices) -> Result<(Cow<'a, str>, u64), Refusal> {
     let text = std::str::from_utf8(bytes).map_err(|_| Refusal::new("NOT_TEXT", "not UTF-8"))?;
     if let Some((number, nanos)) = choices
         .from
@@ -118,7 +129,7 @@ pub fn read<'a>(bytes: &'a [u8], choices: &Choices) -> Result<(&'a str, u64), Re
             let message = format!("duration of over 584 years in \"{number:.40}\"{dots}");
             Refusal::new("OVERFLOW", &message)
         };
-        return Ok((text, u64::try_from(nanos).map_err(too_large)?));
+        return Ok((text.into(), u64::try_from(nanos).map_err(too_large)?));
     }
     let unit = choices.from.unwrap_or(TimeUnit::Second);
     let default_unit = (!choices.require_unit).then_some(unit);
@@ -128,8 +139,14 @@ pub fn read<'a>(bytes: &'a [u8], choices: &Choices) -> Result<(&'a str, u64), Re
     } else {
         own
     };
-    let duration = parse_by(text, rules)?;
-    Ok((text, duration.as_nanos() as u64))
+    let fault = match parse_by(text, rules) {
+        Ok(duration) => return Ok((text.into(), duration.as_nanos() as u64)),
+        Err(fault) => fault,
+    };
+    let mended = if choices.mend { fault.mended() } else { None };
+    let mended = mended.ok_or(fault)?;
+    let nanos = parse_by(&mended, rules)?.as_nanos() as u64;
+    Ok((mended.into(), nanos))
 }
 
 /// If a text is only a number with a fraction or an exponent, such as `12.5`, `.5` or `1.2e-05`,

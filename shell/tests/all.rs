@@ -82,32 +82,57 @@ fn gives_programs_all_that_a_message_says() {
         concat!(
             r#"{"text":"2h 1.5min","argument":1,"cause":"SYNTAX","column":5,"#,
             r#""expected":["unit","operator","end"],"found":".","#,
-            r#""help":"FRACTION","suggestion":"90s","mended":"2h 90s","#,
+            r#""help":"FRACTION","suggestion":"90s","span":[3,9],"mended":"2h 90s","#,
             r#""message":"expected a unit, '+', '*' or the end at column 5, found \".\" "#,
             r#"(fractions are not read: write 90s)"}"#,
         ),
         concat!(
             r#"{"text":"+5m","argument":2,"cause":"SYNTAX","column":1,"#,
             r#""expected":["number"],"found":"+","#,
-            r#""help":"LEADING_PLUS","suggestion":"","mended":"5m","#,
+            r#""help":"LEADING_PLUS","suggestion":"","span":[0,1],"mended":"5m","#,
             r#""message":"expected a number at column 1, found \"+\" "#,
             r#"(a leading \"+\" is not read)"}"#,
         ),
         concat!(
             r#"{"text":"2h*3m+1","argument":3,"cause":"MIXED","column":null,"#,
             r#""expected":[],"found":null,"help":null,"suggestion":null,"#,
-            r#""mended":null,"message":"sum and product mixed in \"2h*3m+1\""}"#,
+            r#""span":null,"mended":null,"message":"sum and product mixed in \"2h*3m+1\""}"#,
         ),
     ];
     assert_eq!(json.lines().collect::<Vec<_>>(), wanted);
 }
 
 #[test]
+fn reads_mended_texts() {
+    let lines = b"a,\"2hrs 1.5min\"\nb,1h\nc,1_000.5 mins.\n";
+    let words = ["--mend", "-d,", "--field=2"];
+    let output = "a,\"2h 1min 30s\"\nb,1h\nc,16h 40min 30s\n";
+    assert_eq!(run(&words, lines), (0, output.into(), "".into()));
+    let json = answer(&["--mend", "--json", "5 mins", "+5m"]);
+    assert!(json.starts_with(r#"{"text":"5 min","nanoseconds":"300000000000","#));
+    assert!(json.contains("\n{\"text\":\"5m\","), "{json}");
+    let total = run(
+        &["--mend", "--sum", "--header", "--to=s"],
+        b"took\n1.5h\n5 mins\n",
+    )
+    .1;
+    assert_eq!(total, "5700\n");
+    let (status, output, errors) = run(&["--mend", "-q"], b"1.5h\n5mins\n");
+    assert_eq!((status, &*output, &*errors), (0, "", ""));
+    let errors = format!("duration: line 2: {}\n", line("1:30"));
+    assert_eq!(
+        run(&["--mend"], b"1.5h\n1:30\n"),
+        (1, "1h 30min\n".into(), errors)
+    );
+}
+
+#[test]
 fn names_the_cause_of_what_is_no_text() {
     let lines = [&b"1\xff\n"[..], &[b'9'; (1 << 20) + 1]].concat();
     let json = run(&["--json"], &lines).1;
-    let fields =
-        r#""column":null,"expected":[],"found":null,"help":null,"suggestion":null,"mended":null,"#;
+    let none = ["found", "help", "suggestion", "span", "mended"];
+    let none = none.map(|name| format!("{name:?}:null,")).concat();
+    let fields = &format!(r#""column":null,"expected":[],{none}"#);
     let not_text = [
         r#"{"text":"1�","line":1,"cause":"NOT_TEXT","#,
         fields,
@@ -203,7 +228,8 @@ fn says_in_json_which_fields_are_refused() {
     let words = "-d, --field 2 --to s --json-errors".split(' ');
     let words: Vec<_> = words.collect();
     let input = b"a,\"1h*1m+1\"\nb,1h\nc";
-    let none = ["found", "help", "suggestion", "mended"].map(|name| format!("{name:?}:null,"));
+    let none =
+        ["found", "help", "suggestion", "span", "mended"].map(|name| format!("{name:?}:null,"));
     let no_more = format!(r#""column":null,"expected":[],{}"#, none.concat());
     let wanted = [
         r#"{"text":"1h*1m+1","line":1,"cause":"MIXED","#,
@@ -219,6 +245,11 @@ fn says_in_json_which_fields_are_refused() {
     assert_eq!(run(&words, input), (1, output.into(), wanted.concat()));
     let quiet = [&words[..], &["-q"]].concat();
     assert_eq!(run(&quiet, input), (1, "".into(), "".into()));
+    // An object ends with a line feed here, too.
+    let zero_terminated = [&words[..], &["-z"]].concat();
+    let input = input.map(|byte| if byte == b'\n' { 0 } else { byte });
+    let output = output.replace('\n', "\0");
+    assert_eq!(run(&zero_terminated, &input), (1, output, wanted.concat()));
 }
 
 #[test]

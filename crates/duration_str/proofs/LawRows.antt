@@ -49,6 +49,35 @@ hour_and_a_half = record {
   parts = refl;
   whole_digits = refl;
   decimal_digits = refl;
+  some_decimal = omega arith;
+  blank = refl;
+  means = refl;
+}
+
+-- A number with each digit before and after its point, and a word that is near a unit.
+pub any_digits_blanks_and_words : IsFraction own_rules (codes "0123456789.0123456789\t mins") (codes "0123456789")
+    (codes "0123456789") Minute
+unfolding chars
+any_digits_blanks_and_words = record {
+  blanks = codes "\t ";
+  word = codes "mins";
+  parts = refl;
+  whole_digits = refl;
+  decimal_digits = refl;
+  some_decimal = omega arith;
+  blank = refl;
+  means = refl;
+}
+
+pub fraction_without_digits_before_its_point : IsFraction own_rules (codes ".5h") [] (codes "5") Hour
+unfolding chars
+fraction_without_digits_before_its_point = record {
+  blanks = [];
+  word = codes "h";
+  parts = refl;
+  whole_digits = refl;
+  decimal_digits = refl;
+  some_decimal = omega arith;
   blank = refl;
   means = refl;
 }
@@ -61,3 +90,12 @@ pub mended_fraction_is_read_as_its_value : (new : Pieces) (cause : Cause) → Me
 unfolding encode
 mended_fraction_is_read_as_its_value new cause law refused is =
     law own_rules (codes "1.50 h") (codes "1") (codes "50") Hour cause new (codes "1.50 h", (refl, refl)) hour_and_a_half refused is
+
+pub exact_fraction_has_a_mend : (place : ℕ) (expected : Expected) → FractionsAreMended
+    → IsRefused (meaning_of own_rules) (chars (codes "1.50 h")) (Syntax place expected)
+    → (new : Pieces) × (mended_of (meaning_of own_rules) (codes "1.50 h") (Syntax place expected) ≡ Some new)
+    × (new.front ≡ []) × (new.rest ≡ [])
+unfolding encode
+exact_fraction_has_a_mend place expected law refused =
+    law own_rules (codes "1.50 h") (codes "1") (codes "50") Hour place expected 5_400_000_000_000 (codes "1.50 h", (refl, refl))
+    hour_and_a_half refused refl (omega arith)

@@ -1,5 +1,5 @@
 -- The laws about a text in which something else is written instead of the part that a help mends.
-use Rattle.std.specs.Prelude.{◌≡◌, ℕ, ◌+◌, ◌*◌, ◌^◌, ◌≤◌, ◌++◌, Some, IsUtf8, chars, codes, length, IsTrue}
+use Rattle.std.specs.Prelude.{◌≡◌, ℕ, ◌+◌, ◌*◌, ◌^◌, ◌≤◌, ◌++◌, ◌<◌, Some, IsUtf8, chars, codes, length, IsTrue, []}
 use Rattle.std.specs.List.{list_all}
 use Rattle.duration_str_units.specs.declared.cause.Cause.{Cause}
 use Rattle.duration_str_units.specs.declared.cause.Cause.TheVariants.{Syntax}
@@ -32,6 +32,7 @@ pub record IsFraction (s : CodeRules) (text whole decimals : Bytes) (unit : Time
   pub parts : text ≡ whole ++ (codes "." ++ (decimals ++ (blanks ++ word)))
   pub whole_digits : IsTrue (list_all is_digit whole)
   pub decimal_digits : IsTrue (list_all is_digit decimals)
+  pub some_decimal : 1 ≤ length decimals
   pub blank : IsBlank blanks
   pub means : meant_unit (meaning_of s) (chars word) ≡ Some unit
 
@@ -45,3 +46,12 @@ MendedFractions =
     → IsRefused (meaning_of s) (chars text) cause → mended_of (meaning_of s) text cause ≡ Some new
     → (nanos : ℕ) × IsRead (meaning_of s) (chars (mended_text new)) nanos
     × (nanos * 10 ^ length decimals ≡ number_of (whole ++ decimals) * ((meaning_of s).table unit).nanos)
+
+-- Each such text that is refused for a syntax fault, and whose value is a whole number of
+-- nanoseconds below 2^64, has a mend. It replaces the whole text.
+abbrev pub FractionsAreMended : Type 0
+FractionsAreMended =
+    (s : CodeRules) (text whole decimals : Bytes) (unit : TimeUnit) (place : ℕ) (expected : Expected) (nanos : ℕ)
+    → IsUtf8 text → IsFraction s text whole decimals unit → IsRefused (meaning_of s) (chars text) (Syntax place expected)
+    → nanos * 10 ^ length decimals ≡ number_of (whole ++ decimals) * ((meaning_of s).table unit).nanos → nanos < 2 ^ 64
+    → (new : Pieces) × (mended_of (meaning_of s) text (Syntax place expected) ≡ Some new) × (new.front ≡ []) × (new.rest ≡ [])

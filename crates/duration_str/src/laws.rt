@@ -4,7 +4,7 @@ ghost use Rattle.duration_str_reading.specs.ReadingLaws.{OneSentence, OneCut, On
 ghost use Rattle.duration_str_printing.specs.PrintingLaws.{GreatestBreakdown, AllParts, OneRounding, PartsAndRest};
 ghost use Rattle.duration_str.specs.Laws.{EqualTexts, ReadsBack, OlderTexts, NeverMore, NearWords, MoreNames};
 ghost use Rattle.duration_str_refusals.specs.Messages.{LastLine};
-ghost use Rattle.duration_str.specs.Mended.{MendedFractions, MendedTexts};
+ghost use Rattle.duration_str.specs.Mended.{FractionsAreMended, MendedFractions, MendedTexts};
 
 /// At most one sentence spells a text, and the lexemes of that sentence are those of the text's
 /// tokens. Each text is either read as one value or refused for one cause, and the computed answer
@@ -181,7 +181,9 @@ pub fn mended_texts()
 /// If a text is only a number with a fraction and its unit, is refused, and has a mend, the mended
 /// text is read by the same rules. Its value, times 10 for each digit after the point, is the
 /// number without its point times the unit's length. So `1.5h` becomes `90min`, and 10 times 90
-/// minutes are 15 hours.
+/// minutes are 15 hours. Each such text whose value is a whole number of nanoseconds below 2^64 has
+/// a mend.
 pub fn mended_fractions()
-    ensures { MendedFractions }
+    ensures value { MendedFractions }
+    ensures mended { FractionsAreMended }
 {}

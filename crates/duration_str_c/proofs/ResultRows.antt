@@ -1,6 +1,6 @@
 -- Rows of definitions that say what calls return: what follows from each in one case. A definition
 -- that said less would be refused here.
-use Rattle.std.specs.Prelude.{◌≡◌, ◌≤◌, ◌⊎◌, ℕ, ◌+◌, ◌^◌, ◌∷◌, ◌++◌, [], Any, List, None, Some, codes}
+use Rattle.std.specs.Prelude.{◌≡◌, ◌≤◌, ◌⊎◌, ℕ, ◌+◌, ◌^◌, ◌∷◌, ◌++◌, [], Any, IsUtf8, List, None, Some, codes}
 use Rattle.std.specs.Duration.{FitsDuration}
 use Rattle.std.specs.Str.{chars}
 use Rattle.std.proofs.Common.{arith, false, inl, inr, refl, true}
@@ -21,7 +21,7 @@ use Rattle.duration_str_c.specs.Answers.{rules_of_bits}
 use Rattle.duration_str_c.specs.Breakdown.{counts_of, IsBrokenDown, IsTooLarge}
 use Rattle.duration_str_c.specs.Format.{IsFormatted}
 use Rattle.duration_str_c.specs.Help.{IsHelpShown, ShowsHelp}
-use Rattle.duration_str_c.specs.Messages.{IsShown}
+use Rattle.duration_str_c.specs.Messages.{IsSaidOf, IsShown, ShowsRefusal}
 use Rattle.duration_str_c.specs.Rounding.{AreRight, NoneRounded}
 use Rattle.std.specs.Fmt.{digits}
 use lib.Utf8.{encode}
@@ -109,6 +109,122 @@ mend_follows_the_options number start len new (inr (inr (inl (known, utf8, nanos
 mend_follows_the_options number start len new (inr (inr (inr (known, utf8, cause, refused, shown)))) =
     let same = one_reading_holds.one_cause (rules_of_bits in_millis) (chars (codes "1.5")) cause (Syntax 1 after_number) refused fraction in
     let is = rw same at shown in (is.numbered, is.written, is.starts, is.long)
+
+-- ---- Which of the four cases applies
+
+second_read : IsRead (rules_of_bits 0) (chars (codes "1s")) 1_000_000_000
+unfolding chars
+second_read = (answer_read (rules_of_bits 0) (chars (codes "1s")) 1_000_000_000).0 refl
+
+abbrev after_any_number : Expected
+after_any_number = record { number = false; unit_word = true; operator = true; text_end = true }
+
+mins_refused : IsRefused (rules_of_bits 0) (chars (codes "5 mins")) (Syntax 2 after_any_number)
+unfolding chars
+mins_refused = (answer_refused (rules_of_bits 0) (chars (codes "5 mins")) (Syntax 2 after_any_number)).0 refl
+
+mixed_refused : IsRefused (rules_of_bits 0) (chars (codes "1*2+3")) (Mixed Star Plus)
+unfolding chars
+mixed_refused = (answer_refused (rules_of_bits 0) (chars (codes "1*2+3")) (Mixed Star Plus)).0 refl
+
+module _ (Unknown NotUtf8 : Type 0) (Value : ℕ → Type 0) (Refusal : Cause → Type 0) where
+  told_if_read : IsTold Unknown NotUtf8 Value Refusal 0 (codes "1s") → Value 1_000_000_000
+  unfolding chars encode
+  told_if_read (inl (unknown, it)) = absurd (unknown refl)
+  told_if_read (inr (inl (known, no_text, it))) = absurd (no_text (codes "1s", (refl, refl)))
+  told_if_read (inr (inr (inl (known, utf8, nanos, read, it)))) =
+      let same = one_reading_holds.one_value (rules_of_bits 0) (chars (codes "1s")) nanos 1_000_000_000 read second_read in
+      rw same at it
+  told_if_read (inr (inr (inr (known, utf8, cause, refused, it)))) =
+      absurd (one_reading_holds.not_both (rules_of_bits 0) (chars (codes "1s")) 1_000_000_000 cause second_read refused)
+
+  told_if_refused : (bytes : List ℕ) (cause : Cause) → IsUtf8 bytes → IsRefused (rules_of_bits 0) (chars bytes) cause
+      → IsTold Unknown NotUtf8 Value Refusal 0 bytes → Refusal cause
+  told_if_refused bytes cause text refused (inl (unknown, it)) = absurd (unknown refl)
+  told_if_refused bytes cause text refused (inr (inl (known, no_text, it))) = absurd (no_text text)
+  told_if_refused bytes cause text refused (inr (inr (inl (known, utf8, nanos, read, it)))) =
+      absurd (one_reading_holds.not_both (rules_of_bits 0) (chars bytes) nanos cause read refused)
+  told_if_refused bytes cause text refused (inr (inr (inr (known, utf8, other, again, it)))) =
+      rw (one_reading_holds.one_cause (rules_of_bits 0) (chars bytes) other cause again refused) at it
+
+  told_if_unknown : IsTold Unknown NotUtf8 Value Refusal 32 (codes "1s") → Unknown
+  told_if_unknown (inl (unknown, it)) = it
+  told_if_unknown (inr (inl (known, no_text, it))) = absurd cc
+  told_if_unknown (inr (inr (inl (known, utf8, nanos, read, it)))) = absurd cc
+  told_if_unknown (inr (inr (inr (known, utf8, cause, refused, it)))) = absurd cc
+
+  told_if_no_text : (bytes : List ℕ) → (IsUtf8 bytes → ⊥) → IsTold Unknown NotUtf8 Value Refusal 0 bytes → NotUtf8
+  told_if_no_text bytes other (inl (unknown, it)) = absurd (unknown refl)
+  told_if_no_text bytes other (inr (inl (known, no_text, it))) = it
+  told_if_no_text bytes other (inr (inr (inl (known, utf8, nanos, read, it)))) = absurd (other utf8)
+  told_if_no_text bytes other (inr (inr (inr (known, utf8, cause, refused, it)))) = absurd (other utf8)
+
+-- ---- The answer for a text
+
+abbrev answer_of : ℕ → ℕ → ℕ → ℕ → ℕ → ℕ → ℕ → ℕ → Answer
+answer_of nanos place found_length cause expected has_place first_operator later_operator = record {
+  nanos = nanos;
+  place = place;
+  found_length = found_length;
+  cause = cause;
+  expected = expected;
+  has_place = has_place;
+  first_operator = first_operator;
+  later_operator = later_operator;
+}
+
+module _ (answer : Answer) where
+  pub answer_for_a_value : IsAnswerTo 0 (codes "1s") answer → answer ≡ answer_of 1_000_000_000 0 0 0 0 0 0 0
+  answer_for_a_value told = told_if_read _ _ _ _ told
+
+  pub answer_for_a_syntax_fault : IsAnswerTo 0 (codes "5 mins") answer → answer ≡ answer_of 0 2 4 2 14 1 0 0
+  unfolding chars encode
+  answer_for_a_syntax_fault told =
+      (told_if_refused _ _ _ _ (codes "5 mins") (Syntax 2 after_any_number) (codes "5 mins", (refl, refl)) mins_refused told).0
+
+  pub answer_without_a_place : IsAnswerTo 0 (codes "1*2+3") answer → answer ≡ answer_of 0 0 0 5 0 0 42 43
+  unfolding chars encode
+  answer_without_a_place told =
+      (told_if_refused _ _ _ _ (codes "1*2+3") (Mixed Star Plus) (codes "1*2+3", (refl, refl)) mixed_refused told).0
+
+  pub answer_for_an_unknown_option : IsAnswerTo 32 (codes "1s") answer → answer ≡ answer_of 0 0 0 8 0 0 0 0
+  answer_for_an_unknown_option told = told_if_unknown _ _ _ _ told
+
+  pub answer_for_other_bytes : (bytes : List ℕ) → (IsUtf8 bytes → ⊥) → IsAnswerTo 0 bytes answer
+      → answer ≡ answer_of 0 0 0 7 0 0 0 0
+  answer_for_other_bytes bytes other told = told_if_no_text _ _ _ _ bytes other told
+
+  pub place_is_a_boundary : (bytes : List ℕ) (expected : Expected) → TellsFault off bytes (Syntax 2 expected) answer
+      → IsCharBoundary bytes 2
+  place_is_a_boundary bytes expected tells = tells.1 2 refl
+
+-- ---- The message and the help in each case
+
+module _ (len : ℕ) (new : List ℕ) where
+  pub refusal_shows_its_text : ShowsRefusal (λ cause. codes "x") 0 (codes "5 mins") (codes "???") len new
+      → new ≡ codes "x" ++ (0 ∷ codes "?")
+  unfolding encode
+  refusal_shows_its_text told =
+      (told_if_refused _ _ _ _ (codes "5 mins") (Syntax 2 after_any_number) (codes "5 mins", (refl, refl)) mins_refused told).1
+      (omega arith)
+
+  pub read_text_shows_nothing : ShowsRefusal (λ cause. codes "x") 0 (codes "1s") (codes "???") len new → len ≡ 0
+  read_text_shows_nothing told = (told_if_read _ _ _ _ told).0
+
+  pub unknown_option_shows_its_line : ShowsRefusal (λ cause. codes "x") 32 (codes "1s") (codes "????????????????") len new
+      → new ≡ codes "unknown option" ++ (0 ∷ codes "?")
+  unknown_option_shows_its_line told = (told_if_unknown _ _ _ _ told).1 (omega arith)
+
+pub line_of_other_bytes : (bytes line : List ℕ) → (IsUtf8 bytes → ⊥) → IsSaidOf 0 bytes line → line ≡ codes "not UTF-8"
+line_of_other_bytes bytes line other said = told_if_no_text _ _ _ _ bytes other said
+
+module _ (number start len : ℕ) (new : List ℕ) where
+  pub read_text_has_no_help : ShowsHelp 0 (codes "1s") (codes "????") number new start len → number ≡ 0
+  read_text_has_no_help told = (told_if_read _ _ _ _ told).numbered
+
+  pub other_bytes_have_no_help : (bytes : List ℕ) → (IsUtf8 bytes → ⊥)
+      → ShowsHelp 0 bytes (codes "????") number new start len → number ≡ 0
+  other_bytes_have_no_help bytes other told = (told_if_no_text _ _ _ _ bytes other told).numbered
 
 -- ---- A message in a buffer
 

@@ -41,9 +41,11 @@ const REQUIRE_UNIT: u32 = 8;
 
 const MORE_NAMES: u32 = 16;
 
-/// The bits from bit 16 on hold 0, or the default unit's index in `UNITS` plus 1.
-const DEFAULT_UNIT: u32 = 16;
+/// The first of the bits that hold the default unit: its index in `UNITS` plus 1, or 0 if none is
+/// named.
+const DEFAULT_UNIT_SHIFT: u32 = 16;
 
+/// All bits that belong to an option.
 const OPTIONS: u32 = 0xF_001F;
 
 pub(crate) fn options_of_bits(bits: u32) -> Options
@@ -59,7 +61,7 @@ pub(crate) fn options_of_bits(bits: u32) -> Options
 pub(crate) fn are_options(bits: u32) -> bool
     ensures { result ≡ are_options bits }
 {
-    let number = bits >> DEFAULT_UNIT;
+    let number = bits >> DEFAULT_UNIT_SHIFT;
     bits & OPTIONS == bits
         && (number == 0
             || number as usize <= UNITS.len() && bits & NO_CALC != 0 && bits & REQUIRE_UNIT == 0)
@@ -71,7 +73,7 @@ fn default_unit_of_bits(bits: u32) -> Option<TimeUnit>
     if bits & REQUIRE_UNIT != 0 {
         return None;
     }
-    let number = bits >> DEFAULT_UNIT;
+    let number = bits >> DEFAULT_UNIT_SHIFT;
     if number == 0 {
         return Some(TimeUnit::Second);
     }

@@ -58,8 +58,8 @@ pub fn duration_str_report(
     }
 }
 
-/// Reads the bytes, writes the answer, and returns the fault. If there is no fault, the error is
-/// the line to show, which is empty if the text is read.
+/// Reads the bytes, and writes the answer. Returns the fault if the text has one, and otherwise as
+/// `Err` the line to show. That line is empty if the text is read.
 #[inline(always)]
 pub(crate) fn refusal_of<'a>(
     bytes: &'a [u8],

@@ -79,6 +79,8 @@ fn unit_ahead(text: &str, rules: Rules) -> Option<(TimeUnit, usize)>
     ensures boundary { IfSome result (λ found. IsCharBoundary text.now found.1) }
 {
     let blanks = blanks_len(text.as_bytes());
+    // This asks as for a syntax fault at which only a unit could stand. Letters there are then said
+    // to be no unit, but here they can name one.
     let found = found_at(text, blanks, UNIT_ALONE);
     if found.is_unknown_unit {
         let unit = meant_unit(found.piece, found.help, rules)?;

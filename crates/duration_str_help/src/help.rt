@@ -19,7 +19,7 @@ use duration_str_units::slice::{range_from, range_to};
 use duration_str_units::unit::TimeUnit;
 
 /// What a user may have meant by a refused text, or should write instead. The fault's line ends
-/// with it in words.
+/// with the words of its help.
 ///
 /// ```
 /// use duration_str::{Help, Options, TimeUnit, parse_with};

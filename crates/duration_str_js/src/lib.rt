@@ -1,7 +1,7 @@
 //! The calls of the JavaScript package, with slices and references in place of pointers.
 //!
-//! They allocate nothing. A number that JavaScript never passes, such as that of a further style,
-//! has a meaning too.
+//! They allocate nothing, and refuse no argument. A number that JavaScript never passes has a
+//! meaning, too: a style above 2, for example, is the long style.
 #![tactic(auto)]
 
 pub mod printing;

@@ -39,11 +39,13 @@ use duration_str_units::rules::Rules;
 /// No fault's line has more bytes than this.
 ///
 /// ```
-/// use duration_str::{MAX_ONE_LINE_LEN, Options, parse_with};
+/// use duration_str::{MAX_ONE_LINE_LEN, ONE_LINE_BUFFER_SIZE, Options, Rules, parse_by};
 ///
-/// let text = "1".to_string() + &"\u{1f600}".repeat(50);
-/// let fault = parse_with(&text, Options::off()).unwrap_err();
-/// assert!(fault.to_string().len() <= MAX_ONE_LINE_LEN);
+/// let rules = Rules::of(Options::off());
+/// let text = "1".to_string() + &"\u{1f600}".repeat(100);
+/// let mut buffer = [0; ONE_LINE_BUFFER_SIZE];
+/// let line = parse_by(&text, rules).unwrap_err().write_one_line(rules, &mut buffer);
+/// assert!(line.len() <= MAX_ONE_LINE_LEN);
 /// ```
 pub const MAX_ONE_LINE_LEN: usize = 294;
 
@@ -327,7 +329,7 @@ fn put_code(buffer: &mut [u8], at: usize, c: char) -> Option<usize>
     put(buffer, end, b"}")
 }
 
-/// Writes a number to the base 16.
+/// Writes a number in hexadecimal.
 fn put_hex(buffer: &mut [u8], at: usize, n: u32) -> Option<usize>
     requires room { at ≤ length buffer.old }
     requires small { n < 0x100_0000 }
@@ -352,7 +354,7 @@ fn hex_digit(digit: u32) -> u8
     }
 }
 
-/// Returns how many digits a number below 2^20 has to the base 16.
+/// Returns how many hexadecimal digits a number below 2^20 has.
 fn hex_len(n: u32) -> usize
     requires { n < 0x10_0000 }
     ensures { result ≡ length (hex_digits n) }

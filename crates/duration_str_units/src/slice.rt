@@ -1,5 +1,5 @@
-//! Slices of a text at a place that is known to be a character boundary. Rust's own slices test
-//! that, and contain what reports that it isn't one.
+//! Slices of a text at a place that is known to be a character boundary. `&text[place..]` would
+//! test that again, and would contain the code that reports a place inside a character.
 ghost use Rattle.std.specs.Prelude.{◌≡◌, ◌+◌, drop, length, slice_range};
 ghost use Rattle.std.specs.Str.{IsCharBoundary};
 

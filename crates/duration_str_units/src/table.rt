@@ -30,11 +30,14 @@ impl UnitTable {
         }
     }
 
+    /// Returns the unit's length in nanoseconds. It is not inline, since what calls it would be
+    /// twice as large, with a copy for each unit.
+    #[inline(never)]
     pub fn nanos(self, unit: TimeUnit) -> u64
         ensures { result ≡ (table_of self unit).nanos }
     {
         match self {
-            UnitTable::Own | UnitTable::More => unit.nanos(),
+            UnitTable::Own | UnitTable::More => unit.printed().nanos,
             UnitTable::Humantime => humantime::nanos(unit),
         }
     }

@@ -1,8 +1,8 @@
 // Made by tools/erase of crates/duration_str_js/src/lib.rt.
 //! The calls of the JavaScript package, with slices and references in place of pointers.
 //!
-//! They allocate nothing. A number that JavaScript never passes, such as that of a further style,
-//! has a meaning too.
+//! They allocate nothing, and refuse no argument. A number that JavaScript never passes has a
+//! meaning, too: a style above 2, for example, is the long style.
 #![no_std]
 
 mod abi; // Written by hand.

@@ -16,8 +16,9 @@ const REQUIRE_UNIT: u32 = 8;
 
 const MORE_NAMES: u32 = 16;
 
-/// The bits from bit 16 on hold 0, or the default unit's index in `UNITS` plus 1.
-const DEFAULT_UNIT: u32 = 16;
+/// The first of the bits that hold the default unit: its index in `UNITS` plus 1, or 0 if none is
+/// named.
+const DEFAULT_UNIT_SHIFT: u32 = 16;
 
 const EMPTY: u32 = 1;
 
@@ -103,7 +104,7 @@ fn default_unit_of_bits(bits: u32) -> Option<TimeUnit> {
     if bits & REQUIRE_UNIT != 0 {
         return None;
     }
-    let number = bits >> DEFAULT_UNIT;
+    let number = bits >> DEFAULT_UNIT_SHIFT;
     if number == 0 {
         return Some(TimeUnit::Second);
     }

@@ -56,7 +56,7 @@ To read a text:
 If a text is refused, they raise a `DurationError`. As a string it is a line
 for people. To say in another language what is wrong, take the error's fields:
 the `cause`, the place, what was `found` there and what was `expected`, the
-`help`, the `suggestion`, and the `mended` text.
+`help`, and the `suggestion` with its `span`. The `mended` text is read.
 
 To print an int of nanoseconds or a timedelta:
 
@@ -96,7 +96,7 @@ from importlib import import_module
 
 from ._native import format as format
 from ._native import breakdown, parse, parse_ns, parse_seconds
-from ._texts import Cause, DurationError, DurationTypeError, Expected
+from ._errors import Cause, DurationError, DurationTypeError, Expected
 
 TYPE_CHECKING = False
 if TYPE_CHECKING:

@@ -22,7 +22,7 @@ from ._columns import (
     values_of,
 )
 from ._lists import Rounding, Style, Unit
-from ._texts import NANOS, UNNAMED, UNSAID, is_number, nanos_a_step, nanos_of, type_error_of
+from ._errors import NANOS, UNNAMED, UNSAID, is_number, nanos_a_step, nanos_of, type_error_of
 
 if TYPE_CHECKING:
     import numpy

@@ -11,7 +11,7 @@ from typing import Any, Literal, SupportsIndex, overload
 
 from . import _native
 from ._lists import Unit
-from ._texts import NANOS, UNNAMED, UNSAID, DurationTypeError, is_number, type_error_of
+from ._errors import NANOS, UNNAMED, UNSAID, DurationTypeError, is_number, type_error_of
 
 #: What to do with a refused value
 Errors = Literal["raise", "coerce"]

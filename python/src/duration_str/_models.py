@@ -9,7 +9,7 @@ from typing import Annotated, Any
 from ._native import format, parse
 from ._options import WithOptions
 from ._pattern import pattern
-from ._texts import DurationError, DurationTypeError
+from ._errors import DurationError, DurationTypeError
 
 
 def _read(value: Any, options: dict[str, Any]) -> Any:
@@ -35,6 +35,7 @@ def _read(value: Any, options: dict[str, Any]) -> Any:
             "expected": [str(each.name).lower() for each in error.expected],
             "help": error.help.name if error.help else None,
             "suggestion": error.suggestion,
+            "span": error.span,
             "mended": error.mended,
         }
         # pydantic replaces `{NAME}` in the message by the context's value of that name. So a

@@ -25,8 +25,12 @@
 
 #define SECOND 1000000000u
 
-/* The Python objects that the module keeps. The first five are names of flags, in the order of
- * their bits. */
+/* A text that needs more suggestions than this has no mended text. For each of them, the whole text
+ * is read. So without this limit, a long text could take very long. */
+#define MOST_SUGGESTIONS 32
+
+/* The Python objects that the module keeps. Those before DEFAULT_UNIT are names of flags, in the
+ * order of their bits. */
 enum kept {
     NO_CALC,
     LOWERCASE,
@@ -60,9 +64,8 @@ enum kept {
 };
 /* The objects before ERROR are these names, in this order. From PART on they are the package's
  * objects that are taken at the first call of `breakdown`, since they need the module typing. */
-static const char *const kept_names[] = {"no_calc", "lowercase", "cn_unit", "require_unit",
-    "more_names", "default_unit", "parts", "units", "largest", "smallest", "rounding", "style",
-    "days", "seconds", "microseconds"};
+static const char *const kept_names[] = {OPTION_NAMES, "default_unit", "parts", "units", "largest",
+    "smallest", "rounding", "style", "days", "seconds", "microseconds"};
 
 /* timedelta64's NaT as a number, and a count of days that a timedelta64 of nanoseconds can hold
  * with any seconds and microseconds of a timedelta */
@@ -116,21 +119,37 @@ struct help {
     size_t start, replaced_length;
 };
 
+static struct help help_of(struct text text, uint32_t options) {
+    struct help help;
+    help.number = duration_str_help(
+        text.bytes, text.length, options, help.suggestion, &help.start, &help.replaced_length);
+    return help;
+}
+
+static bool is_certain(const struct help *help) {
+    return *help->suggestion || help->replaced_length;
+}
+
 static PyObject *size_or_none(bool is_there, size_t size) {
     return is_there ? PyLong_FromSize_t(size) : Py_NewRef(Py_None);
 }
 
 /* Raises a DurationError. Takes over the references to the report and the text. The index -1 stands
- * for none. */
+ * for none. The text was read under these options, and up to `most` nanoseconds. */
 static void raise_error(struct state *state, PyObject *report, PyObject *text,
-    const struct duration_str_answer *answer, const char *bytes, Py_ssize_t index,
-    struct help help) {
-    const char *suggestion = *help.suggestion || help.replaced_length ? help.suggestion : NULL;
+    const struct duration_str_answer *answer, const char *bytes, Py_ssize_t index, struct help help,
+    uint32_t options, uint64_t most) {
     const char *found = answer->found_length ? bytes + answer->place : NULL;
-    PyObject *error = PyObject_CallFunction(state->kept[ERROR], "NNINIz#NIznn", report, text,
+    const bool is_offered = is_certain(&help);
+    const char *suggestion = is_offered ? help.suggestion : NULL;
+    const size_t end = help.start + help.replaced_length;
+    PyObject *mend = is_offered ? Py_BuildValue("(nnIK)", (Py_ssize_t)help.start, (Py_ssize_t)end,
+                                      options, (unsigned long long)most)
+                                : Py_NewRef(Py_None);
+    PyObject *error = PyObject_CallFunction(state->kept[ERROR], "NNINIz#NIzN", report, text,
         answer->cause, size_or_none(answer->has_place, answer->place), answer->expected, found,
         (Py_ssize_t)answer->found_length, size_or_none(index >= 0, (size_t)index), help.number,
-        suggestion, (Py_ssize_t)help.start, (Py_ssize_t)help.replaced_length);
+        suggestion, mend);
     if (error)
         PyErr_SetObject(state->kept[ERROR], error);
     Py_XDECREF(error);
@@ -157,9 +176,10 @@ static PyObject *report_of(struct text text, uint32_t options, struct duration_s
 }
 
 /* Reads the text of a str, whatever a subclass says that it holds. Returns 1 if the text is read,
- * and 0 if it is refused and `raises` is false. Otherwise returns -1 with an error. */
+ * and 0 if it is refused and `raises` is false. Otherwise returns -1 with an error. `most` is only
+ * for the error: the nanoseconds that its mended text can have. */
 static int read_str(struct state *state, PyObject *given, uint32_t options, uint64_t *nanos,
-    bool raises, Py_ssize_t index) {
+    bool raises, Py_ssize_t index, uint64_t most) {
     Py_ssize_t length;
     struct duration_str_answer answer;
     struct text text = {.bytes = PyUnicode_AsUTF8AndSize(given, &length)};
@@ -183,11 +203,53 @@ static int read_str(struct state *state, PyObject *given, uint32_t options, uint
     if (is_read || !raises)
         return is_read;
     PyObject *report = report_of(text, options, &answer);
-    struct help help;
-    help.number = duration_str_help(
-        text.bytes, text.length, options, help.suggestion, &help.start, &help.replaced_length);
-    raise_error(state, report, PyUnicode_FromObject(given), &answer, text.bytes, index, help);
+    const struct help help = help_of(text, options);
+    PyObject *whole = PyUnicode_FromObject(given);
+    raise_error(state, report, whole, &answer, text.bytes, index, help, options, most);
     return -1;
+}
+
+/* Puts one suggestion after the other into the bytes, in which there is room for all of them.
+ * Returns whether the text is then read, and its nanoseconds. */
+static bool mend(char *bytes, size_t *length, uint32_t options, uint64_t *nanos) {
+    for (int count = 0; count < MOST_SUGGESTIONS; count++) {
+        const struct help help = help_of((struct text){bytes, *length}, options);
+        if (!is_certain(&help))
+            break;
+        const size_t written = strlen(help.suggestion);
+        const size_t end = help.start + help.replaced_length;
+        memmove(bytes + help.start + written, bytes + end, *length - end);
+        memcpy(bytes + help.start, help.suggestion, written);
+        *length += written - help.replaced_length;
+    }
+    struct duration_str_answer answer;
+    const bool is_read = duration_str_parse_with(bytes, *length, options, &answer);
+    *nanos = answer.nanos;
+    return is_read;
+}
+
+/* mended(text, options, most): returns the mended text, or None if the text has none, or if it is
+ * of more than `most` nanoseconds. */
+static PyObject *mended(PyObject *module, PyObject *args) {
+    const char *given;
+    Py_ssize_t given_length;
+    uint32_t options;
+    unsigned long long most;
+    uint64_t nanos;
+    (void)module;
+    if (!PyArg_ParseTuple(args, "s#IK", &given, &given_length, &options, &most))
+        return NULL;
+    size_t length = (size_t)given_length;
+    const size_t room = MOST_SUGGESTIONS * DURATION_STR_SUGGESTION_BUFFER_SIZE;
+    char *bytes = PyMem_Malloc(length + room);
+    if (!bytes)
+        return PyErr_NoMemory();
+    memcpy(bytes, given, length);
+    const bool is_mended = mend(bytes, &length, options, &nanos) && nanos <= most;
+    PyObject *text =
+        is_mended ? PyUnicode_FromStringAndSize(bytes, (Py_ssize_t)length) : Py_NewRef(Py_None);
+    PyMem_Free(bytes);
+    return text;
 }
 
 /* The text that the library is given for a number, such as its digits. Returns NULL without an
@@ -323,13 +385,12 @@ static int read_call(struct state *state, const char *call, PyObject *const *arg
         raise_type_error(state, arguments[0], &reading, -1);
     if (!text)
         return -1;
-    const int is_read = read_str(state, text, reading.options, nanos, true, -1);
+    const int is_read = read_str(state, text, reading.options, nanos, true, -1, UINT64_MAX);
     Py_DECREF(text);
     return is_read == 1 ? 0 : -1;
 }
 
-/* reading(*, no_calc, lowercase, cn_unit, require_unit, more_names, default_unit): returns how
- * values are read, in the form that read_list takes */
+/* reading(*, OPTIONS): returns how values are read, in the form that read_list takes */
 static PyObject *reading(
     PyObject *self, PyObject *const *arguments, Py_ssize_t count, PyObject *keywords) {
     struct reading reading;
@@ -346,8 +407,9 @@ static PyObject *parse_ns(
     return PyLong_FromUnsignedLongLong(nanos);
 }
 
-/* Returns the timedelta of a digit. The state owns it. While it is made, another thread may keep
- * another one, if the module datetime is that in Python. */
+/* Returns the timedelta of a digit, which the state keeps and owns. If the module datetime is the
+ * one in Python, other threads can run while a timedelta is made, and one of them may keep its own
+ * first. */
 static PyObject *term_of(struct state *state, int place, uint64_t digit) {
     PyObject **term = &state->terms[place][digit];
     if (*term)
@@ -830,16 +892,17 @@ static void raise_beyond(struct state *state, PyObject *given, Py_ssize_t index)
     const struct help none = {.number = DURATION_STR_HELP_NONE};
     PyObject *line = PyUnicode_FromString(
         "duration of 2^63 nanoseconds or more, which timedelta64 doesn't have");
-    raise_error(state, line, PyUnicode_FromObject(given), &answer, NULL, index, none);
+    raise_error(state, line, PyUnicode_FromObject(given), &answer, NULL, index, none, 0, 0);
 }
 
 /* Returns what read_str does. If there is a function, a value that timedelta64 can't hold is
  * refused, too. */
 static int read_text(
     struct state *state, const struct list *list, Py_ssize_t at, PyObject *text, bool raises) {
-    int is_read =
-        read_str(state, text, list->reading.options, list->nanos + at, raises, list->first + at);
-    if (is_read == 1 && list->function && list->nanos[at] > INT64_MAX) {
+    const uint64_t most = list->function ? INT64_MAX : UINT64_MAX;
+    int is_read = read_str(
+        state, text, list->reading.options, list->nanos + at, raises, list->first + at, most);
+    if (is_read == 1 && list->nanos[at] > most) {
         is_read = raises ? -1 : 0;
         if (raises)
             raise_beyond(state, text, list->first + at);
@@ -926,9 +989,7 @@ static PyObject *read_list(PyObject *self, PyObject *arguments) {
     return refused;
 }
 
-#define OPTIONS_DOC                                                                                \
-    "($module, text, /, *, no_calc=False, lowercase=False, cn_unit=False, "                        \
-    "require_unit=False, more_names=False, default_unit='s')\n--\n\n"
+#define OPTIONS_DOC "($module, text, /, *, " OPTION_DEFAULTS ")\n--\n\n"
 PyDoc_STRVAR(parse_ns_doc,
     "parse_ns" OPTIONS_DOC "Returns the value of a text in nanoseconds.\n\n"
     "The options are off by default, and the default unit is the second:\n\n"
@@ -1029,6 +1090,7 @@ static PyMethodDef methods[] = {
     {"limits", FAST(limits), NULL},
     {"format_list", format_list, METH_VARARGS, NULL},
     {"read_list", read_list, METH_VARARGS, NULL},
+    {"mended", mended, METH_VARARGS, NULL},
     {NULL, NULL, 0, NULL},
 };
 
@@ -1037,13 +1099,13 @@ static int begin(PyObject *module) {
     int is_there = 1;
     for (int at = 0; at < ERROR; at++)
         state->kept[at] = PyUnicode_InternFromString(kept_names[at]);
-    state->kept[ERROR] = member("duration_str._texts", "DurationError");
-    state->kept[TYPE_ERROR_OF] = member("duration_str._texts", "type_error_of");
-    state->kept[SURROGATE_ERROR_OF] = member("duration_str._texts", "surrogate_error_of");
-    state->kept[NANOS_OF] = member("duration_str._texts", "nanos_of");
-    state->kept[WHOLE_OF] = member("duration_str._texts", "whole_of");
-    state->kept[UNNAMED] = member("duration_str._texts", "UNNAMED");
-    state->kept[UNSAID] = member("duration_str._texts", "UNSAID");
+    state->kept[ERROR] = member("duration_str._errors", "DurationError");
+    state->kept[TYPE_ERROR_OF] = member("duration_str._errors", "type_error_of");
+    state->kept[SURROGATE_ERROR_OF] = member("duration_str._errors", "surrogate_error_of");
+    state->kept[NANOS_OF] = member("duration_str._errors", "nanos_of");
+    state->kept[WHOLE_OF] = member("duration_str._errors", "whole_of");
+    state->kept[UNNAMED] = member("duration_str._errors", "UNNAMED");
+    state->kept[UNSAID] = member("duration_str._errors", "UNSAID");
     state->kept[TIMEDELTA] = member("datetime", "timedelta");
     if (state->kept[TIMEDELTA])
         state->kept[A_MICROSECOND] = PyObject_GetAttrString(state->kept[TIMEDELTA], "resolution");

@@ -6,7 +6,7 @@ from typing import Any
 
 from ._lists import Unit
 from ._native import reading
-from ._texts import UNNAMED, UNSAID
+from ._errors import UNNAMED, UNSAID
 
 
 class WithOptions:

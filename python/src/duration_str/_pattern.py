@@ -4,7 +4,7 @@ from __future__ import annotations
 
 from ._lists import SENTENCES, UNIT_PATTERNS, Unit
 from ._native import reading
-from ._texts import UNNAMED, UNSAID
+from ._errors import UNNAMED, UNSAID
 
 
 def pattern(

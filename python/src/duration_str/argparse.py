@@ -7,7 +7,7 @@ import datetime
 
 from ._native import parse
 from ._options import WithOptions
-from ._texts import DurationError
+from ._errors import DurationError
 
 
 class DurationType(WithOptions):

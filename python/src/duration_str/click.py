@@ -12,7 +12,7 @@ import click
 
 from ._native import parse
 from ._options import WithOptions
-from ._texts import DurationError
+from ._errors import DurationError
 
 
 class DurationParamType(WithOptions, click.ParamType):

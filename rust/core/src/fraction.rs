@@ -58,6 +58,8 @@ fn first_digits(bytes: &[u8]) -> &[u8] {
 /// name it. The length is 0 if the number has the default unit.
 fn unit_ahead(text: &str, rules: Rules) -> Option<(TimeUnit, usize)> {
     let blanks = blanks_len(text.as_bytes());
+    // This asks as for a syntax fault at which only a unit could stand. Letters there are then said
+    // to be no unit, but here they can name one.
     let found = found_at(text, blanks, UNIT_ALONE);
     if found.is_unknown_unit {
         let unit = meant_unit(found.piece, found.help, rules)?;

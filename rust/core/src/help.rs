@@ -12,7 +12,7 @@ use crate::slice::{range_from, range_to};
 use crate::unit::TimeUnit;
 
 /// What a user may have meant by a refused text, or should write instead. The fault's line ends
-/// with it in words.
+/// with the words of its help.
 ///
 /// ```
 /// use duration_str::{Help, Options, TimeUnit, parse_with};

@@ -25,9 +25,12 @@ impl UnitTable {
         }
     }
 
+    /// Returns the unit's length in nanoseconds. It is not inline, since what calls it would be
+    /// twice as large, with a copy for each unit.
+    #[inline(never)]
     pub(crate) fn nanos(self, unit: TimeUnit) -> u64 {
         match self {
-            UnitTable::Own | UnitTable::More => unit.nanos(),
+            UnitTable::Own | UnitTable::More => unit.printed().nanos,
             UnitTable::Humantime => humantime::nanos(unit),
         }
     }

@@ -96,11 +96,10 @@
 //! assert_eq!(serde_json::to_string(&settings)?, r#"{"retention":"30d"}"#);
 //! # Ok::<(), serde_json::Error>(())
 //! ```
-use crate::default_unit::{REQUIRING_UNITS, naming, parse_by};
 use crate::human_duration::HumanDuration;
 use crate::human_format::Sealed;
 use crate::humantime;
-use crate::parser::{ADDITIONS, parse_with};
+use crate::parser::{ADDITIONS, REQUIRING_UNITS, naming, parse_by, parse_with};
 use crate::serde::original::Length;
 use crate::{HUMAN_BUFFER_SIZE, Rules, TimeUnit, write_human};
 use alloc::collections::BTreeMap;

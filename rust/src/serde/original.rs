@@ -1,6 +1,6 @@
 //! The calls of `duration-str` 0.19.0 for durations in data that serde reads.
 use crate::human_format::Sealed;
-use crate::parser::parse;
+use crate::original::parse;
 use core::fmt;
 use core::marker::PhantomData;
 use core::time::Duration;
@@ -172,14 +172,14 @@ deserializes!(
 #[cfg(feature = "chrono")]
 deserializes!(
     chrono::Duration,
-    crate::parser::chrono_of,
+    crate::original::chrono_of,
     |length: chrono::Duration| length.to_std().ok(),
     deserialize_option_duration_chrono
 );
 #[cfg(feature = "time")]
 deserializes!(
     time::Duration,
-    crate::parser::time_of,
+    crate::original::time_of,
     |length: time::Duration| length.try_into().ok(),
     deserialize_option_duration_time
 );

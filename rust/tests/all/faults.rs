@@ -62,6 +62,7 @@ fn tells_all_of_a_refusal() {
             spaces,
             help,
             suggestion,
+            span,
             mended,
         ) = row;
         let options = options_of(names);
@@ -77,12 +78,15 @@ fn tells_all_of_a_refusal() {
             assert_eq!(same.as_ref(), Err(&error), "{text}");
         }
         assert_eq!(error.help(), fault.help(), "{text}");
-        assert_eq!(error.mended(), fault.mended(), "{text}");
-        let pieces = fault.mended();
-        assert_eq!(pieces.map(|it| it.to_string()), *mended, "{text}");
-        let written = pieces.map(|it| it.suggestion.to_string());
+        assert_eq!(fault.mended(), *mended, "{text}");
+        assert_eq!(error.mended(), *mended, "{text}");
+        assert_eq!(error.mend(), fault.mend(), "{text}");
+        let mend = fault.mend();
+        let written = mend.map(|mend| mend.suggestion.to_string());
         assert_eq!(written, *suggestion, "{text}");
-        let before = pieces.map_or(text.clone(), |it| [it.front, it.replaced, it.rest].concat());
+        let ends = mend.map(|mend| (mend.front.len(), text.len() - mend.rest.len()));
+        assert_eq!(ends, *span, "{text}");
+        let before = mend.map_or(text.clone(), |it| [it.front, it.replaced, it.rest].concat());
         assert_eq!(before, *text);
         assert_eq!([fault.to_string(), error.to_string()], [&line[..]; 2]);
         let above = spaces.map_or(String::new(), |spaces| {
@@ -162,8 +166,33 @@ fn mends_fractions_by_the_lengths_of_humantime() {
     ];
     for (text, wanted) in rows {
         let error = duration_str::humantime::parse_duration(text).expect_err(text);
-        let mended = error.mended().map(|mended| mended.to_string());
+        assert_eq!(error.mended().as_deref(), wanted, "{text}");
+    }
+}
+
+#[test]
+fn mends_until_a_text_is_read() {
+    let rows = [
+        ("2hrs 1.5min", Some("2h 90s")),
+        ("+1_000_000.5 mins.", Some("60000030s")),
+        ("1.5h 5x", None),
+        ("1.5h, 5s", None),
+        ("600years.", None),
+        ("1min 2sec. * 3", None),
+    ];
+    for (text, wanted) in rows {
+        let mended = fault(text, Options::off()).mended();
         assert_eq!(mended.as_deref(), wanted, "{text}");
+    }
+}
+
+#[test]
+fn mends_up_to_32_faults() {
+    for (count, is_mended) in [(1, true), (32, true), (33, false), (500_000, false)] {
+        let digits = "0".repeat(count);
+        let text = format!("{}0s", "0_".repeat(count));
+        let wanted = is_mended.then(|| format!("{digits}0s"));
+        assert_eq!(fault(&text, Options::off()).mended(), wanted, "{count}");
     }
 }
 

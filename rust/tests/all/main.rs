@@ -129,7 +129,8 @@ struct Group {
 
 /// A refused text, its options, the cause, the place, the token that was found there, the kinds that
 /// could stand there, the line, the spaces before the caret, if the report has a caret, the help's
-/// name in capitals, and what the help suggests.
+/// name in capitals, the suggestion, the bytes where the part that it replaces begins and ends, and
+/// the mended text.
 #[derive(Deserialize)]
 struct Refused(
     String,
@@ -142,6 +143,7 @@ struct Refused(
     Option<usize>,
     Option<String>,
     Option<String>,
+    Option<(usize, usize)>,
     Option<String>,
 );
 

@@ -81,8 +81,8 @@ fn reads_whole_floats_as_numbers() {
     assert_eq!(in_millis(F64Deserializer::new(-0.0)), Ok(Duration::ZERO));
     let json: Option<Duration> = human_or_millis::deserialize(json!(1_500.0)).unwrap();
     assert_eq!(json, Some(Duration::from_millis(1_500)));
-    // This is the greatest float of 32 bits that can't have lost a digit. The one of 64 bits is too
-    // large for milliseconds, and is refused as the same integer is.
+    // These are the greatest floats of 32 and of 64 bits that can't have lost a digit. As
+    // milliseconds, the second is too long, so it is refused with the error of the same integer.
     assert_eq!(
         in_millis(F32Deserializer::new(16_777_215.0)),
         Ok(Duration::from_millis(16_777_215))

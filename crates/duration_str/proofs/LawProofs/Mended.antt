@@ -46,8 +46,7 @@ keeps s text place expected mend (Some (DidYouMean u)) p why is =
     let stops : begins_with_letter cut.rest ≡ false =
     rw cut.same (piece_stops (ahead text place) both.1 (omega (arith, short))) in
     let after = after_place text place (length (bytes_at text place)) ∙ after_piece (drop place text) p.back_utf8 in
-    let written = name_written s text place (length (bytes_at text place)) u expected piece cut.rest p both.0 cut.parts after
-    cut.are stops in
+    let written = name_written s text place (length (bytes_at text place)) u expected cut.rest p both.0 after cut.are stops in
     let same : record { start = place; end = place + length (bytes_at text place); suggestion = name_alone u } ≡ mend = cc in
     rw (← same) written
 keeps s text place expected mend (Some Fraction) p why is = fraction_kept s text place expected mend p why is
@@ -64,7 +63,7 @@ keeps s text place expected mend (Some Iso8601) p why is =
 keeps s text place expected mend (Some Zero) p why is =
     let same : record { start = place; end = place; suggestion = name_alone Second } ≡ mend = cc in
     let written : Keeps s text (record { start = place; end = place + 0; suggestion = name_alone Second }) =
-    name_written s text place 0 Second expected [] (ahead text place) p why.0 refl
+    name_written s text place 0 Second expected (ahead text place) p why.0
     (rw add-zero (sym (encodes-chars (drop place text) p.back_utf8))) (scalars-chars (drop place text) p.back_utf8)
     (zeros_end text place p.back_utf8 why.1) in
     rw (← same) (rw add-zero at written)

@@ -1,7 +1,7 @@
 -- A text that is only a number with a fraction and its unit: its mended text has the same value.
 use Rattle.std.specs.List.{prefix_len}
-use Rattle.duration_str.proofs.Common.{[], add-zero, ahead, all_names_in, and_from, and_parts, ap, append-nil, arith, BeginsSentence, Bool, byte_len, bytes_eq, cases_Bool, chars, chars-append, chars-encodes, codes, comparison_form, decimal, digits_decimal, drop, drop_all, Empty, encode_ascii, encode_utf8_all, encodes-chars, EndsRun, eqb-true, Expected, false, false_from_ne_true, find, Humantime, if◌then◌else◌, inl, inr, is_ascii_alphabetic, is_blank, is_digit, is_unit_letter, IsBlank, IsRead, IsRefused, IsUtf8, length, length-append, lexemes_of, List, list_all, list_all-append, list_any, map, meaning_of, Mixed, More, more_names, nat_le, nat_lt, nat_tests, None, not, NotText, number, number_of, NumberTooLarge, off, Option, option_map, Options, or_right, other, OutOfRange, Overflow, Own, refl, Rules, Second, Some, Spells, Stops, suc, sym, Syntax, table_of, take, take_while, take_while-cons, Terminal, terminal_of, terminals_of, TimeUnit, to_ascii_lowercase, Token, tokens_from, tokens_of, true, unit_of_word, units, UnitTable, unwrap_or, word, ℕ, ◌%◌, ◌&&◌, ◌*◌, ◌++◌, ◌+◌, ◌-◌, ◌/◌, ◌<◌, ◌==◌, ◌^◌, ◌||◌, ◌∙◌, ◌∷◌, ◌≡◌, ◌≤◌}
-use Rattle.std.proofs.lemmas.List.{drop-drop, take_all}
+use Rattle.duration_str.proofs.Common.{[], add-zero, ahead, all_names_in, and_from, and_parts, ap, append-nil, arith, BeginsSentence, Bool, byte_len, bytes_eq, cases_Bool, chars, chars-append, chars-encodes, codes, comparison_form, decimal, digits_decimal, drop, drop_all, Empty, encode_ascii, encode_utf8_all, encodes-chars, EndsRun, eqb-true, Expected, false, false_from_ne_true, find, fits, Humantime, if◌then◌else◌, inl, inr, is_ascii_alphabetic, is_blank, is_digit, is_unit_letter, IsBlank, IsRead, IsRefused, IsUtf8, length, length-append, lexemes_of, List, list_all, list_any, map, meaning_of, Mixed, More, more_names, nat_le, nat_lt, nat_tests, ne_eqb, None, not, NotText, number, number_of, NumberTooLarge, off, Option, option_map, Options, or_right, other, OutOfRange, Overflow, Own, refl, Rules, Second, Some, Spells, Stops, suc, sym, Syntax, table_of, take, take_while, take_while-cons, Terminal, terminal_of, terminals_of, TimeUnit, to_ascii_lowercase, Token, tokens_from, tokens_of, true, unit_of_word, units, UnitTable, unwrap_or, word, ℕ, ◌%◌, ◌&&◌, ◌*◌, ◌++◌, ◌+◌, ◌-◌, ◌/◌, ◌<◌, ◌==◌, ◌^◌, ◌||◌, ◌∙◌, ◌∷◌, ◌≡◌, ◌≤◌}
+use Rattle.std.proofs.lemmas.List.{drop-drop, get_or-append-add, take_all}
 use Rattle.std.proofs.Math.Nat.{div-le_self}
 use Rattle.std.proofs.Math.Seq.{drop-append_seam, take-append_seam}
 use Rattle.std.proofs.lemmas.List.Folds.{list_all_at}
@@ -26,7 +26,7 @@ use Rattle.duration_str_help.proofs.MendedBytes.{blank_no_letter, blank_small, d
 use Rattle.duration_str_help.proofs.MendedHelp.{Reason, reason}
 use Rattle.duration_str.proofs.LawProofs.MendedNames.{IsWritten, name_read, name_scalars, own_more, written}
 use Rattle.duration_str.proofs.LawProofs.MendedNumbers.{digits_token}
-use Rattle.duration_str.proofs.LawProofs.MendedTerms.{count_in, fraction_parts, IsFractionMend, IsQuotient, short_meant, value_parts}
+use Rattle.duration_str.proofs.LawProofs.MendedTerms.{IsQuotient, short_meant, value_parts}
 use Rattle.duration_str.proofs.LawProofs.MendedTokens.{refused_at}
 use Rattle.duration_str.proofs.LawProofs.NearWords.{found_among}
 use Rattle.duration_str_reading.proofs.Sentences.AnswerLemmas.{fitting_sum_read, IsSumOf}
@@ -221,7 +221,8 @@ number_begins : (r : Rules) (n : ℕ) → BeginsSentence r (number n ∷ [])
 number_begins r n = (word (Some Second) ∷ [], tt)
 
 point_place : (r : Rules) (whole rest : List ℕ) (place : ℕ) (expected : Expected) → list_all is_digit whole ≡ true
-    → IsRefused r (whole ++ 46 ∷ rest) (Syntax place expected) → place ≡ byte_len whole
+    → IsRefused r (whole ++ 46 ∷ rest) (Syntax place expected)
+    → (place ≡ byte_len whole) × (length whole ≡ 0 → expected.number ≡ true)
 point_place r [] rest place expected digits (front, left, is_front, refused) =
     let o = r.options in
     let cut : tokens_of o (46 ∷ rest) ≡ record { start = 0; characters = codes "." } ∷ tokens_from o 1 rest = point_token o 0 rest in
@@ -229,7 +230,8 @@ point_place r [] rest place expected digits (front, left, is_front, refused) =
     let all : terminals_of r (46 ∷ rest) ≡ other ∷ map (terminal_of r) (lexemes_of (tokens_from o 1 rest)) =
     rw (cut, point_terminal r) refl in
     let none = no_front r _ front left (sym all ∙ is_front.parts) is_front.begins in
-    rw (none, cut) at at_front.0
+    let can = rw none at at_front.1 in
+    (rw (none, cut) at at_front.0, λ e. can.number_expected.1 (0, number_begins r 0))
 point_place r (w ∷ ws) rest place expected digits (front, left, is_front, refused) =
     let o = r.options in
     let whole = w ∷ ws in
@@ -247,7 +249,7 @@ point_place r (w ∷ ws) rest place expected digits (front, left, is_front, refu
     let least = is_front.longest 1 some (rw all (number_begins r (number_of whole))) in
     let n : length front ≡ 1 = omega (arith, most, least) in
     let found : place ≡ 0 + byte_len whole = rw (n, cut) at at_front.0 in
-    omega (arith, found)
+    (omega (arith, found), λ e. absurd (omega (arith, e)))
 
 -- ---- The mend
 
@@ -265,20 +267,23 @@ digit_last (d ∷ digits) all = elim (cases_Bool (is_digit (slice_index (d ∷ d
     no_letter : (b : ℕ) → is_digit b ≡ true → (is_ascii_alphabetic b || nat_le 0x80 b) ≡ false
     no_letter b digit = grind (arith, nat_tests)
 
-point_mend : (r : Rules) (text : List ℕ) (place : ℕ) (expected : Expected) (help : Option Help) (mend : Mend)
-    → list_all is_digit (take place text) ≡ true → list_all (λ b. b == 48 || is_blank b) text ≡ false
-    → Reason text place expected (codes ".") help
-    → mend_for r text place expected (encode_utf8_all (codes ".")) help ≡ Some mend
-    → fraction_mend r text place expected ≡ Some mend
-point_mend r text place expected (Some (DidYouMean u)) mend digits others why is =
-    absurd (cc ((and_parts expected.unit_word _ why.0).1))
-point_mend r text place expected (Some Fraction) mend digits others why is = is
-point_mend r text place expected (Some LeadingPlus) mend digits others why is = absurd (cc (rw point_bytes at why.1))
-point_mend r text place expected (Some NoPoint) mend digits others why is = absurd (cc (digit_last (take place text) digits, why))
-point_mend r text place expected (Some DigitsOnly) mend digits others why is = absurd (cc (rw point_bytes at is))
-point_mend r text place expected (Some Iso8601) mend digits others why is = absurd (cc (rw point_bytes at is))
-point_mend r text place expected (Some Zero) mend digits others why is = absurd (cc (why.1, others))
-point_mend r text place expected help mend digits others why is = absurd cc
+none_of_three : (a b : Bool) → (a && b && false) ≡ false
+none_of_three a b = grind arith
+
+none_of_two : (a : Bool) → (a && false) ≡ false
+none_of_two a = grind arith
+
+-- The help for a point after digits, or at the start, and before a digit.
+point_help : (text : List ℕ) (place : ℕ) (expected : Expected) → list_all is_digit (take place text) ≡ true
+    → is_digit (slice_index text (place + 1)) ≡ true → syntax_help text place expected (codes ".") ≡ Some Fraction
+point_help text place expected before after =
+    rw (
+      none_of_two expected.unit_word,
+      point_bytes,
+      none_of_three expected.number expected.text_end,
+      digit_last (take place text) before,
+      after,
+    ) refl
 
 point_piece : (cs : List ℕ) → first_piece (46 ∷ cs) ≡ codes "."
 point_piece [] = refl
@@ -366,19 +371,18 @@ mend_found r whole decimals bytes expected digits more stops =
     rw (front, end_all is_digit whole digits, back, run, take-append_seam decimals bytes, rest)
     (refl {a = mend_with r whole decimals (length whole) bytes expected})
 
-mend_parts : (r : Rules) (whole decimals bytes : List ℕ) (place : ℕ) (expected : Expected) (mend : Mend)
-    → mend_with r whole decimals place bytes expected ≡ Some mend
-    → IsFractionMend r whole decimals (place - length whole) (place + 1 + length decimals) (unit_ahead r bytes) mend
-mend_parts r whole decimals bytes place expected mend is =
-    elim (cases_Bool (length decimals == 0 || (length whole == 0 && not expected.number))) [
-      | inl missing ↦ absurd (cc (rw missing at is))
-      | inr there ↦
-          fraction_parts r whole decimals (place - length whole) (place + 1 + length decimals) (unit_ahead r bytes) mend (rw there at is)
-    ]
+first_decimal : (decimals bytes : List ℕ) → 1 ≤ length decimals → list_all is_digit decimals ≡ true
+    → is_digit (slice_index (46 ∷ (decimals ++ bytes)) 1) ≡ true
+first_decimal [] bytes some all = absurd (omega (arith, some))
+first_decimal (d ∷ decimals) bytes some all = (and_parts (is_digit d) _ all).0
 
-abbrev unit_in : Option (TimeUnit × ℕ) → TimeUnit
-unit_in None = Second
-unit_in (Some (u, n)) = u
+can_stand : (d w : ℕ) (b : Bool) → 1 ≤ d → (w ≡ 0 → b ≡ true) → (d == 0 || (w == 0 && not b)) ≡ false
+can_stand d w b some can =
+    let more : (d == 0) ≡ false = ne_eqb d 0 (λ e. omega (arith, some, e)) in
+    elim (cases_Bool (w == 0)) [
+      | inl none ↦ rw (more, none, can (eqb-true w 0 none)) refl
+      | inr digits ↦ rw (more, digits) refl
+    ]
 
 -- The mended text has a value, which times 10 for each digit after the point is the number without
 -- its point times the unit's length.
@@ -387,82 +391,110 @@ IsScaled s whole decimals unit mended =
     (nanos : ℕ) × IsRead (meaning_of s) (chars mended) nanos
     × (nanos * 10 ^ length decimals ≡ number_of (whole ++ decimals) * ((meaning_of s).table unit).nanos)
 
-mend_scaled : (s : CodeRules) (whole decimals blanks name : List ℕ) (unit : TimeUnit) (mend : Mend)
-    → (let text = whole ++ 46 ∷ (decimals ++ (blanks ++ name)) in
-    unit_ahead (meaning_of s) (blanks ++ name) ≡ Some (unit, length blanks + length name)
-    → IsFractionMend (meaning_of s) whole decimals (length whole - length whole) (length whole + 1 + length decimals)
-    (unit_ahead (meaning_of s) (blanks ++ name)) mend
-    → IsScaled s whole decimals unit (take mend.start text ++ (suggestion_text mend.suggestion ++ drop mend.end text)))
-mend_scaled s whole decimals blanks name unit mend found f =
-    let r = meaning_of s in
-    let text = whole ++ 46 ∷ (decimals ++ (blanks ++ name)) in
-    let same : unit ≡ f.unit = ap unit_in (sym found ∙ f.named) in
-    let more : length blanks + length name ≡ f.more = ap count_in (sym found ∙ f.named) in
-    let v = longest_whole r.table f.unit f.nanos in
-    let count = f.nanos / (r.table v).nanos in
-    let q = value_parts whole decimals (r.table f.unit).nanos f.nanos f.value in
-    let small : count < 2 ^ 64 = omega (arith, q.fits, div-le_self f.nanos (r.table v).nanos) in
-    let read = term_read s count f.nanos v small q.fits (whole_unit s f.unit f.nanos) in
-    let start : length whole - length whole ≡ 0 = omega arith in
-    let long : length text ≡ length whole + suc (length decimals + (length blanks + length name)) =
-    simp length-append refl in
-    let rest : drop (length whole + 1 + length decimals + f.more) text ≡ [] =
-    drop_all (length whole + 1 + length decimals + f.more) text (omega (arith, long, more)) in
-    let digits : list_all is_digit (decimal count) ≡ true = digits_decimal decimal_digits count small in
-    let ascii = all_weaker is_digit _ (decimal count) digit_small digits in
-    let term : chars (decimal count ++ encode_utf8_all (help_name v)) ≡ decimal count ++ help_name v =
-    chars-append (decimal count) (encode_utf8_all (help_name v)) (small_utf8 (decimal count) ascii)
-    ∙ rw (small_chars (decimal count) ascii, chars-encodes (help_name v) (name_scalars v)) refl in
-    rw (← f.is, start, rest, append-nil) (f.nanos, rw term read, rw same (scaled whole decimals (r.table f.unit).nanos f.nanos q))
+module _ (s : CodeRules) (whole decimals blanks name : List ℕ) (unit : TimeUnit) where
+  abbrev fraction_text : List ℕ
+  fraction_text = whole ++ 46 ∷ (decimals ++ (blanks ++ name))
 
-mended_scaled : (s : CodeRules) (whole decimals blanks name : List ℕ) (unit : TimeUnit) (place : ℕ) (expected : Expected)
-    (new : Pieces) → (let text = whole ++ 46 ∷ (decimals ++ (blanks ++ name)) in
-    IsUtf8 text → list_all is_digit whole ≡ true → list_all is_digit decimals ≡ true → IsBlank blanks
-    → meant_unit (meaning_of s) (chars name) ≡ Some unit → IsRefused (meaning_of s) (chars text) (Syntax place expected)
-    → (mend : Option Mend)
-    → mend_for (meaning_of s) text place expected (encode_utf8_all (first_piece (ahead text place)))
-    (syntax_help text place expected (first_piece (ahead text place))) ≡ mend
-    → option_map (pieces_of text) mend ≡ Some new
-    → IsScaled s whole decimals unit (mended_text new))
-mended_scaled s whole decimals blanks name unit place expected new utf8 digits more blank means refused None is pieces = cc
-mended_scaled s whole decimals blanks name unit place expected new utf8 digits more blank means refused (Some mend) is pieces =
-    let r = meaning_of s in
-    let bytes = blanks ++ name in
-    let after = decimals ++ bytes in
-    let text = whole ++ 46 ∷ after in
-    let k : IsSpelled whole after = spelled_point whole after digits utf8 in
-    let bytes_utf8 = (past_small decimals bytes (all_weaker is_digit _ decimals digit_small more) k.utf8).1 in
-    let word_utf8 = (past_small blanks name (all_weaker is_blank _ blanks blank_small blank) bytes_utf8).1 in
-    let letters = meant_letters s (chars name) unit means in
-    let first = (and_parts (begins_with_letter (chars name)) _ letters).0 in
-    let stops = stops_after_blanks blanks name blank (stops_before_letter is_digit name word_utf8 first digit_apart) in
-    let n : place ≡ length whole =
-    point_place r whole (chars after) place expected digits (rw k.spelled at refused)
-    ∙ small_len whole (all_weaker is_digit _ whole digit_small digits) in
-    let piece : first_piece (ahead text (length whole)) ≡ codes "." =
-    ap (λ (bs : List ℕ). first_piece (chars bs)) (drop-append_seam whole (46 ∷ after)) ∙ ap first_piece k.point
-    ∙ point_piece (chars after) in
-    let front : list_all is_digit (take (length whole) text) ≡ true =
-    ap (list_all is_digit) (take-append_seam whole (46 ∷ after)) ∙ digits in
-    let others : list_all (λ b. b == 48 || is_blank b) text ≡ false =
-    false_from_ne_true _ (λ t. cc ((and_parts (list_all (λ b. b == 48 || is_blank b) whole) _
-    (sym (list_all-append (λ b. b == 48 || is_blank b) whole (46 ∷ after)) ∙ t)).1)) in
-    let there = rw (n, piece) at is in
-    let fraction = point_mend r text (length whole) expected (syntax_help text (length whole) expected (codes ".")) mend front others
-    (reason text (length whole) expected (codes ".")) there in
-    let with_parts = sym (mend_found r whole decimals bytes expected digits more stops) ∙ fraction in
-    let f = mend_parts r whole decimals bytes (length whole) expected mend with_parts in
-    let same : pieces_of text mend ≡ new = cc in
-    rw (← same) (mend_scaled s whole decimals blanks name unit mend (unit_found s blanks name unit blank word_utf8 means) f)
+  abbrev unit_nanos : ℕ
+  unit_nanos = ((meaning_of s).table unit).nanos
+
+  -- The mend that writes these nanoseconds as one term.
+  abbrev term_mend : ℕ → Mend
+  term_mend nanos = record {
+    start = length whole - length whole;
+    end = length whole + 1 + length decimals + (length blanks + length name);
+    suggestion = as_term (meaning_of s).table unit nanos;
+  }
+
+  term_scaled : (nanos : ℕ) → nanos_of_fraction whole decimals unit_nanos ≡ Some nanos
+      → let new = pieces_of fraction_text (term_mend nanos) in
+      IsScaled s whole decimals unit (mended_text new) × (new.front ≡ []) × (new.rest ≡ [])
+  term_scaled nanos value =
+      let r = meaning_of s in
+      let v = longest_whole r.table unit nanos in
+      let count = nanos / (r.table v).nanos in
+      let q = value_parts whole decimals unit_nanos nanos value in
+      let small : count < 2 ^ 64 = omega (arith, q.fits, div-le_self nanos (r.table v).nanos) in
+      let read = term_read s count nanos v small q.fits (whole_unit s unit nanos) in
+      let start : length whole - length whole ≡ 0 = omega arith in
+      let long : length fraction_text ≡ length whole + suc (length decimals + (length blanks + length name)) =
+      simp length-append refl in
+      let end = length whole + 1 + length decimals + (length blanks + length name) in
+      let rest : drop end fraction_text ≡ [] = drop_all end fraction_text (omega (arith, long)) in
+      let digits : list_all is_digit (decimal count) ≡ true = digits_decimal decimal_digits count small in
+      let ascii = all_weaker is_digit _ (decimal count) digit_small digits in
+      let term : chars (decimal count ++ encode_utf8_all (help_name v)) ≡ decimal count ++ help_name v =
+      chars-append (decimal count) (encode_utf8_all (help_name v)) (small_utf8 (decimal count) ascii)
+      ∙ rw (small_chars (decimal count) ascii, chars-encodes (help_name v) (name_scalars v)) refl in
+      rw (start, rest, append-nil)
+      ((nanos, rw term read, scaled whole decimals unit_nanos nanos q), refl, refl)
+
+  mend_is : (place : ℕ) (expected : Expected) → IsUtf8 fraction_text → list_all is_digit whole ≡ true
+      → list_all is_digit decimals ≡ true → 1 ≤ length decimals → IsBlank blanks
+      → meant_unit (meaning_of s) (chars name) ≡ Some unit
+      → IsRefused (meaning_of s) (chars fraction_text) (Syntax place expected)
+      → mend_of (meaning_of s) fraction_text (Syntax place expected)
+      ≡ option_map term_mend (nanos_of_fraction whole decimals unit_nanos)
+  mend_is place expected utf8 digits more some blank means refused =
+      let r = meaning_of s in
+      let bytes = blanks ++ name in
+      let after = decimals ++ bytes in
+      let text = whole ++ 46 ∷ after in
+      let k : IsSpelled whole after = spelled_point whole after digits utf8 in
+      let bytes_utf8 = (past_small decimals bytes (all_weaker is_digit _ decimals digit_small more) k.utf8).1 in
+      let word_utf8 = (past_small blanks name (all_weaker is_blank _ blanks blank_small blank) bytes_utf8).1 in
+      let letters = meant_letters s (chars name) unit means in
+      let first = (and_parts (begins_with_letter (chars name)) _ letters).0 in
+      let stops = stops_after_blanks blanks name blank (stops_before_letter is_digit name word_utf8 first digit_apart) in
+      let at = point_place r whole (chars after) place expected digits (rw k.spelled at refused) in
+      let n : place ≡ length whole = at.0 ∙ small_len whole (all_weaker is_digit _ whole digit_small digits) in
+      let piece : first_piece (ahead text (length whole)) ≡ codes "." =
+      ap (λ (bs : List ℕ). first_piece (chars bs)) (drop-append_seam whole (46 ∷ after)) ∙ ap first_piece k.point
+      ∙ point_piece (chars after) in
+      let front : list_all is_digit (take (length whole) text) ≡ true =
+      ap (list_all is_digit) (take-append_seam whole (46 ∷ after)) ∙ digits in
+      let next : is_digit (slice_index text (length whole + 1)) ≡ true =
+      ap is_digit (get_or-append-add whole (46 ∷ after) 1 0) ∙ first_decimal decimals bytes some more in
+      let asked : mend_of r text (Syntax place expected) ≡ fraction_mend r text (length whole) expected =
+      rw (n, piece, point_help text (length whole) expected front next) refl in
+      asked ∙ mend_found r whole decimals bytes expected digits more stops
+      ∙ rw (
+        can_stand (length decimals) (length whole) expected.number some at.1,
+        unit_found s blanks name unit blank word_utf8 means,
+      ) refl
+
+  mended_scaled : (value : Option ℕ) (new : Pieces) → nanos_of_fraction whole decimals unit_nanos ≡ value
+      → option_map (pieces_of fraction_text) (option_map term_mend value) ≡ Some new
+      → IsScaled s whole decimals unit (mended_text new)
+  mended_scaled None new value is = absurd cc
+  mended_scaled (Some nanos) new value is =
+      let same : pieces_of fraction_text (term_mend nanos) ≡ new = cc in rw (← same) (term_scaled nanos value).0
 
 pub mended_fractions_hold : MendedFractions
 mended_fractions_hold s text whole decimals unit (Syntax place expected) new utf8 fraction refused is =
     let parts = fraction.parts in
-    mended_scaled s whole decimals fraction.blanks fraction.word unit place expected new (rw parts at utf8) fraction.whole_digits
-    fraction.decimal_digits fraction.blank fraction.means (rw parts at refused) _ refl (rw parts at is)
+    let blanks = fraction.blanks in
+    let name = fraction.word in
+    let mend = mend_is s whole decimals blanks name unit place expected (rw parts at utf8) fraction.whole_digits
+    fraction.decimal_digits fraction.some_decimal fraction.blank fraction.means (rw parts at refused) in
+    mended_scaled s whole decimals blanks name unit _ new refl (rw mend at (rw parts at is))
 mended_fractions_hold s text whole decimals unit Empty new utf8 fraction refused is = cc
 mended_fractions_hold s text whole decimals unit (NumberTooLarge place) new utf8 fraction refused is = cc
 mended_fractions_hold s text whole decimals unit (Overflow place) new utf8 fraction refused is = cc
 mended_fractions_hold s text whole decimals unit (Mixed first next) new utf8 fraction refused is = cc
 mended_fractions_hold s text whole decimals unit OutOfRange new utf8 fraction refused is = cc
 mended_fractions_hold s text whole decimals unit (NotText optional) new utf8 fraction refused is = cc
+
+pub fractions_are_mended : FractionsAreMended
+fractions_are_mended s text whole decimals unit place expected nanos utf8 fraction refused is below =
+    let parts = fraction.parts in
+    let blanks = fraction.blanks in
+    let name = fraction.word in
+    let mend = mend_is s whole decimals blanks name unit place expected (rw parts at utf8) fraction.whole_digits
+    fraction.decimal_digits fraction.some_decimal fraction.blank fraction.means (rw parts at refused) in
+    let fit : fits nanos ≡ true = grind (arith, nat_tests) in
+    let value : nanos_of_fraction whole decimals (unit_nanos s whole decimals blanks name unit) ≡ Some nanos =
+    quotient_some nanos _ (length decimals) is ∙ rw fit refl in
+    let (scaled, front, rest) = term_scaled s whole decimals blanks name unit nanos value in
+    let new = pieces_of (fraction_text s whole decimals blanks name unit) (term_mend s whole decimals blanks name unit nanos) in
+    (new, rw (parts, mend, value) refl, front, rest)

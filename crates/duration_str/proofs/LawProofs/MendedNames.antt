@@ -46,15 +46,6 @@ IsWritten r (c ∷ cs) =
 pub written : (r : Rules) (u : TimeUnit) → IsWritten r (help_name u)
 written r = each_unit (λ u. IsWritten r (help_name u)) assumption
 
-pub mends : (r : Rules) (front found rest name : List ℕ) (u : TimeUnit) (expected : Expected) → IsWritten r name
-    → unit_of_word r name ≡ Some u → begins_with_letter rest ≡ false → IsTrue expected.unit_word
-    → IsRefused r (front ++ (found ++ rest)) (Syntax (byte_len front) expected) → (later : ℕ) (others : Expected)
-    → IsRefused r (front ++ (name ++ rest)) (Syntax later others) → byte_len front + byte_len name ≤ later
-mends r front found rest [] u expected is read ends unit refused later others again = absurd is
-mends r front found rest (c ∷ cs) u expected (letter, lexeme, names) read ends unit refused later others again =
-    unit_written r front found rest cs c u expected refused unit letter lexeme (names ∙ ap word read)
-    (ends_word r.options c cs rest letter ends) later others again
-
 -- ---- The suggested name by the rules that the code has
 
 -- whether the word is a name in the row

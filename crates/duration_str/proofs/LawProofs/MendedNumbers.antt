@@ -89,18 +89,64 @@ apart_blank o (c ∷ []) (d ∷ rest) h =
     rw (digit, letter) refl
 apart_blank o (c ∷ e ∷ text) rest h = apart_blank o (e ∷ text) rest (and_parts (is_blank c) _ h).1
 
--- ---- A text that begins a sentence, and nothing written after it
+ends_digits : (o : Options) (c : ℕ) (cs rest : List ℕ) → is_digit c ≡ true → Stops is_digit rest → EndsRun o (c ∷ cs) rest
+ends_digits o c cs [] digit stops = refl
+ends_digits o c cs (d ∷ rest) digit stops = rw (digit, stops, digit-not_letter o c digit) refl
 
-starts_over : (o : Options) (n at len : ℕ) (text : List ℕ) (before after : List Token) → AreTokens o at text after
-    → at + byte_len text ≤ len → length before ≤ n → at ≤ start_after n len (before ++ after)
-starts_over o n at len text [] after are h most = starts_from o n at len text after are h
-starts_over o zero at len text (first ∷ before) after are h most = absurd (omega (arith, most))
-starts_over o (suc n) at len text (first ∷ before) after are h most =
-    starts_over o n at len text before after are h (omega (arith, most))
+pub digits_token : (o : Options) (at c : ℕ) (cs rest : List ℕ) → IsTrue (list_all is_digit (c ∷ cs)) → Stops is_digit rest
+    → tokens_from o at ((c ∷ cs) ++ rest)
+    ≡ record { start = at; characters = c ∷ cs } ∷ tokens_from o (at + byte_len (c ∷ cs)) rest
+digits_token o at c cs rest digits stops =
+    let ends = ends_digits o c cs rest (and_parts (is_digit c) _ digits).0 stops in
+    rw add-zero at (tokens_step o at [] (c ∷ cs) rest refl (digits_are_lexeme o c cs digits) ends)
 
--- Some sentence starts with what the text's tokens stand for.
-abbrev pub Begins : Rules → List ℕ → Type 0
-Begins r text = BeginsSentence r (stand_for r (tokens_of r.options text))
+-- ---- A text that ends with a whole token
+
+apart_run : (o : Options) (c : ℕ) (cs rest : List ℕ) → IsLexeme o (c ∷ cs) → EndsRun o (c ∷ cs) rest
+    → IsApart o (c ∷ cs) rest
+apart_run o c [] rest lexeme ends = ends
+apart_run o c (d ∷ cs) rest lexeme ends =
+    let (run, more) = and_parts (are_of_one_run o c d) (list_all (are_of_one_run o c) cs) lexeme.1 in
+    apart_run o d cs rest (run-not_blank o c d run, same_all o c d cs run ∙ more) (same_end o c d rest run ∙ ends)
+
+apart_past : (o : Options) (front : List ℕ) (c : ℕ) (cs rest : List ℕ) → IsApart o (c ∷ cs) rest
+    → IsApart o (front ++ c ∷ cs) rest
+apart_past o [] c cs rest h = h
+apart_past o (d ∷ []) c cs rest h = h
+apart_past o (d ∷ e ∷ front) c cs rest h = apart_past o (e ∷ front) c cs rest h
+
+apart_last : (o : Options) (front cs rest : List ℕ) → IsLexeme o cs → EndsRun o cs rest → IsApart o (front ++ cs) rest
+apart_last o front [] rest lexeme ends = absurd lexeme
+apart_last o front (c ∷ cs) rest lexeme ends = apart_past o front c cs rest (apart_run o c cs rest lexeme ends)
+
+no_token : (o : Options) (cs blanks left : List ℕ) → IsLexeme o cs → [] ≡ blanks ++ (cs ++ left) → ⊥
+no_token o [] blanks left lexeme parts = lexeme
+no_token o (c ∷ cs) [] left lexeme parts = cc
+no_token o (c ∷ cs) (b ∷ blanks) left lexeme parts = cc
+
+number_ends : (r : Rules) (n w : ℕ) (more : List ℕ) → is_unit_letter r.options w ≡ true → (cs : List ℕ)
+    → terminal_of r cs ≡ number n → EndsRun r.options cs (w ∷ more)
+number_ends r n w more letter = terminal_cases r (λ cs t. t ≡ number n → EndsRun r.options cs (w ∷ more))
+    (λ e. tt) (λ d cs digits e. ends_digits r.options d cs (w ∷ more) (and_parts _ _ digits).0 (letter-not_digit r.options w letter))
+    (λ d cs letters e. cc) (λ d op _ _ sign e. cc) (λ d cs _ _ e. cc)
+
+-- A unit can follow directly a text whose last token is a number.
+apart_number : (r : Rules) (at n w : ℕ) (text more : List ℕ) (last : Option Terminal) (tokens : List Token)
+    → AreTokens r.options at text tokens → last_of last (stand_for r tokens) ≡ Some (number n)
+    → is_unit_letter r.options w ≡ true → IsApart r.options text (w ∷ more)
+apart_number r at n w text more last [] blank e letter = apart_blank r.options text (w ∷ more) blank
+apart_number r at n w text more last (token ∷ tokens) (d ∷ rest, next, are) e letter =
+    let later = apart_number r (token.start + byte_len token.characters) n w (d ∷ rest) more (Some (terminal_of r token.characters))
+    tokens are e letter in
+    rw (next.parts, ← append_assoc) (apart_past r.options (next.blanks ++ token.characters) d rest (w ∷ more) later)
+apart_number r at n w text more last (token ∷ []) ([], next, are) e letter =
+    let same : terminal_of r token.characters ≡ number n = cc in
+    rw (next.parts, append-nil) (apart_last r.options next.blanks token.characters (w ∷ more) next.is_lexeme
+    (number_ends r n w more letter token.characters same))
+apart_number r at n w text more last (token ∷ second ∷ tokens) ([], next, (left, is, are)) e letter =
+    absurd (no_token r.options second.characters is.blanks left is.is_lexeme is.parts)
+
+-- ---- A text that begins a sentence
 
 pub kept : (r : Rules) (front rest : List ℕ) → IsApart r.options front rest → Begins r front → (later : ℕ) (others : Expected)
     → IsRefused r (front ++ rest) (Syntax later others) → byte_len front ≤ later
@@ -125,127 +171,100 @@ kept r front rest apart begins later others again = past (front ++ rest) refl ag
         rw (at_front.0, cut) (starts_over o (length terminals) (byte_len front) (byte_len (c ∷ cs)) rest before after
         (tokens_are o (byte_len front) rest) (omega (arith, bytes)) long)
 
+alone : (o : Options) (at : ℕ) (cs : List ℕ) → IsLexeme o cs
+    → tokens_from o at cs ≡ record { start = at; characters = cs } ∷ []
+alone o at [] lexeme = absurd lexeme
+alone o at (c ∷ cs) lexeme =
+    ap (tokens_from o at) (sym (append-nil (c ∷ cs))) ∙ rw add-zero at (tokens_step o at [] (c ∷ cs) [] refl lexeme refl)
+
+one_more : (r : Rules) (text cs : List ℕ) → IsLexeme r.options cs → IsApart r.options text cs
+    → terminals_of r (text ++ cs) ≡ terminals_of r text ++ terminal_of r cs ∷ []
+one_more r text cs lexeme apart =
+    rw (seamed r.options 0 text cs apart, alone r.options (0 + byte_len text) cs lexeme, map-append, map-append) refl
+
+-- A token is written after a text, and some sentence starts with both.
+token_kept : (r : Rules) (text cs rest : List ℕ) → IsLexeme r.options cs → IsApart r.options text cs
+    → EndsRun r.options cs rest → BeginsSentence r (terminals_of r text ++ terminal_of r cs ∷ []) → (later : ℕ) (others : Expected)
+    → IsRefused r (text ++ (cs ++ rest)) (Syntax later others) → byte_len text + byte_len cs ≤ later
+token_kept r text cs rest lexeme apart ends begins later others again =
+    let least = kept r (text ++ cs) rest (apart_last r.options text cs rest lexeme ends)
+    (rw (one_more r text cs lexeme apart) begins) later others (rw append_assoc again) in
+    omega (arith, least, byte_len-append text cs)
+
+pub front_begins : (r : Rules) (front back : List ℕ) (expected : Expected)
+    → IsRefused r (front ++ back) (Syntax (byte_len front) expected) → Begins r front
+front_begins r front back expected refused = (cut_before r front back expected refused).begins
+
+-- What can follow some terminals depends on neither a number's value nor which unit it is.
+same_follows : (r : Rules) (ts : List Terminal) (s t : Terminal) → BeginsSentence r ts
+    → (IsTrue (allows (expected_after r (last_of None ts)) s) → IsTrue (allows (expected_after r (last_of None ts)) t))
+    → BeginsSentence r (ts ++ s ∷ []) → BeginsSentence r (ts ++ t ∷ [])
+same_follows r ts s t begins same h = (follows_by_table r ts t begins).0 (same ((follows_by_table r ts s begins).1 h))
+
+-- ---- A unit after a number
+
+-- A unit is expected only after a number.
+after_number : (r : Rules) (last : Option Terminal) → IsTrue (expected_after r last).unit_word
+    → (n : ℕ) × (last ≡ Some (number n))
+after_number r None h = cc
+after_number r (Some (number n)) h = (n, refl)
+after_number r (Some (word u)) h = cc
+after_number r (Some (operator op)) h = cc
+after_number r (Some other) h = cc
+
+pub mends : (r : Rules) (front back rest name : List ℕ) (u : TimeUnit) (expected : Expected) → IsWritten r name
+    → unit_of_word r name ≡ Some u → begins_with_letter rest ≡ false → IsTrue expected.unit_word
+    → IsRefused r (front ++ back) (Syntax (byte_len front) expected) → (later : ℕ) (others : Expected)
+    → IsRefused r (front ++ (name ++ rest)) (Syntax later others) → byte_len front + byte_len name ≤ later
+mends r front back rest [] u expected is read ends unit refused later others again = absurd is
+mends r front back rest (c ∷ cs) u expected (letter, lexeme, names) read ends unit refused later others again =
+    let b : IsCutBefore r front expected = cut_before r front back expected refused in
+    let ts = terminals_of r front in
+    let (v, begins) = b.can_follow.unit_expected.0 unit in
+    let allowed = (follows_by_table r ts (word (Some v)) b.begins).1 begins in
+    let (n, last) = after_number r (last_of None ts) (and_parts _ _ allowed).0 in
+    let apart = apart_number r 0 n c front cs None (tokens_of r.options front) (tokens_are r.options 0 front) last letter in
+    token_kept r front (c ∷ cs) rest lexeme apart (ends_word r.options c cs rest letter ends)
+    (rw (names ∙ ap word read) (same_follows r ts (word (Some v)) (word (Some u)) b.begins (λ h. h) begins)) later others again
+
 -- ---- A number after a text
 
 shorter : (r : Rules) (front : List Terminal) (t : Terminal) → BeginsSentence r (front ++ t ∷ []) → BeginsSentence r front
 shorter r front t (more, sentence) = (t ∷ more, rw append_assoc at sentence)
 
-other_number : (r : Rules) (front : List Terminal) (m n : ℕ) → BeginsSentence r (front ++ number m ∷ [])
-    → BeginsSentence r (front ++ number n ∷ [])
-other_number r front m n h =
-    let b = shorter r front (number m) h in
-    let fits = (pushed r None front (number m) ((begins_whole r front).0 b)).1 ((begins_whole r (front ++ number m ∷ [])).0 h) in
-    follows r front (number n) b fits
+other_number : (r : Rules) (ts : List Terminal) (m n : ℕ) → BeginsSentence r (ts ++ number m ∷ [])
+    → BeginsSentence r (ts ++ number n ∷ [])
+other_number r ts m n h = same_follows r ts (number m) (number n) (shorter r ts (number m) h) (λ h. h) h
 
 -- A number can stand after the text.
-abbrev pub TakesNumber : Rules → List ℕ → Type 0
-TakesNumber r text = (n : ℕ) → BeginsSentence r (stand_for r (tokens_of r.options text) ++ number n ∷ [])
+abbrev TakesNumber : Rules → List ℕ → Type 0
+TakesNumber r text = (n : ℕ) → BeginsSentence r (terminals_of r text ++ number n ∷ [])
 
-ends_digits : (o : Options) (c : ℕ) (cs rest : List ℕ) → is_digit c ≡ true → Stops is_digit rest → EndsRun o (c ∷ cs) rest
-ends_digits o c cs [] digit stops = refl
-ends_digits o c cs (d ∷ rest) digit stops = rw (digit, stops, digit-not_letter o c digit) refl
+number_instead : (r : Rules) (text same : List ℕ) (n : ℕ) → same ≡ text
+    → (m : ℕ) × BeginsSentence r (terminals_of r same ++ number m ∷ []) → BeginsSentence r (terminals_of r text ++ number n ∷ [])
+number_instead r text same n is (m, begins) = other_number r (terminals_of r text) m n (rw is at begins)
 
-pub digits_token : (o : Options) (at c : ℕ) (cs rest : List ℕ) → IsTrue (list_all is_digit (c ∷ cs)) → Stops is_digit rest
-    → tokens_from o at ((c ∷ cs) ++ rest)
-    ≡ record { start = at; characters = c ∷ cs } ∷ tokens_from o (at + byte_len (c ∷ cs)) rest
-digits_token o at c cs rest digits stops =
-    let ends = ends_digits o c cs rest (and_parts (is_digit c) _ digits).0 stops in
-    rw add-zero at (tokens_step o at [] (c ∷ cs) rest refl (digits_are_lexeme o c cs digits) ends)
+more_digits : (r : Rules) (text cs : List ℕ) (c : ℕ) → ends_in is_digit text ≡ false → IsTrue (list_all is_digit (c ∷ cs))
+    → terminals_of r (text ++ c ∷ cs) ≡ terminals_of r text ++ number (number_of (c ∷ cs)) ∷ []
+more_digits r text cs c ends digits =
+    one_more r text (c ∷ cs) (digits_are_lexeme r.options c cs digits)
+    (apart_digit r.options text c cs ends (and_parts (is_digit c) _ digits).0) ∙ rw digits refl
 
-pub takes_number : (r : Rules) (text digits back : List ℕ) (expected : Expected) → ends_in is_digit text ≡ false
+takes_number : (r : Rules) (text digits back : List ℕ) (expected : Expected) → ends_in is_digit text ≡ false
     → IsTrue (list_all is_digit digits) → (digits ≡ [] → IsTrue expected.number)
     → IsRefused r ((text ++ digits) ++ back) (Syntax (byte_len (text ++ digits)) expected) → TakesNumber r text
 takes_number r text [] back expected ends digits can refused n =
-    let b : IsCutBefore r (text ++ []) expected = cut_before r ((text ++ []) ++ back) (text ++ []) back expected refl refused in
-    let same : b.tokens ≡ tokens_of r.options text =
-    tokens_once r.options 0 (text ++ []) b.tokens (tokens_of r.options text) b.are (rw append-nil (tokens_are r.options 0 text)) in
-    let before = stand_for r b.tokens in
-    let table : expected ≡ expected_after r (last_of None before) = (expected_by_table r before expected b.begins).0 b.can_follow in
-    rw same at (follows r before (number n) b.begins (rw table at (can refl)))
+    number_instead r text (text ++ []) n (append-nil text)
+    ((cut_before r (text ++ []) back expected refused).can_follow.number_expected.0 (can refl))
 takes_number r text (c ∷ cs) back expected ends digits can refused n =
-    let o = r.options in
-    let front = text ++ c ∷ cs in
-    let b : IsCutBefore r front expected = cut_before r (front ++ back) front back expected refl refused in
-    let at = 0 + byte_len text in
-    let token : Token = record { start = at; characters = c ∷ cs } in
-    let apart = apart_digit o text c cs ends (and_parts (is_digit c) _ digits).0 in
-    let own : tokens_from o at (c ∷ cs) ≡ token ∷ [] =
-    ap (tokens_from o at) (sym (append-nil (c ∷ cs))) ∙ digits_token o at c cs [] digits tt in
-    let cut : tokens_of o front ≡ tokens_of o text ++ token ∷ [] =
-    seamed o 0 text (c ∷ cs) apart ∙ ap (λ (ts : List Token). tokens_of o text ++ ts) own in
-    let same : b.tokens ≡ tokens_of o text ++ token ∷ [] =
-    tokens_once o 0 front b.tokens (tokens_of o front) b.are (tokens_are o 0 front) ∙ cut in
-    let all : stand_for r b.tokens ≡ stand_for r (tokens_of o text) ++ number (number_of (c ∷ cs)) ∷ [] =
-    rw (same, map-append, map-append, digits) refl in
-    other_number r (stand_for r (tokens_of o text)) (number_of (c ∷ cs)) n (rw all at b.begins)
-
-pub number_written : (r : Rules) (text rest cs : List ℕ) (c : ℕ) → ends_in is_digit text ≡ false
-    → IsTrue (list_all is_digit (c ∷ cs)) → Stops is_digit rest → TakesNumber r text → (later : ℕ) (others : Expected)
-    → IsRefused r (text ++ ((c ∷ cs) ++ rest)) (Syntax later others) → byte_len text + byte_len (c ∷ cs) ≤ later
-number_written r text rest cs c ends digits stops takes later others again =
-    let o = r.options in
-    let at = 0 + byte_len text in
-    let end = at + byte_len (c ∷ cs) in
-    let token : Token = record { start = at; characters = c ∷ cs } in
-    let apart = apart_digit o text c (cs ++ rest) ends (and_parts (is_digit c) _ digits).0 in
-    let cut : tokens_of o (text ++ ((c ∷ cs) ++ rest)) ≡ tokens_of o text ++ token ∷ tokens_from o end rest =
-    seamed o 0 text ((c ∷ cs) ++ rest) apart
-    ∙ ap (λ (ts : List Token). tokens_of o text ++ ts) (digits_token o at c cs rest digits stops) in
-    let named : terminal_of r (c ∷ cs) ≡ number (number_of (c ∷ cs)) = rw digits refl in
-    let bytes : byte_len (text ++ ((c ∷ cs) ++ rest)) ≡ byte_len text + (byte_len (c ∷ cs) + byte_len rest) =
-    rw (byte_len-append text ((c ∷ cs) ++ rest), byte_len-append (c ∷ cs) rest) refl in
-    let least : end ≤ later =
-    placed_past r (text ++ ((c ∷ cs) ++ rest)) rest end (tokens_of o text) token (tokens_from o end rest) later others cut
-    (rw named (takes (number_of (c ∷ cs)))) (tokens_are o end rest) (omega (arith, bytes)) again in
-    omega (arith, least)
-
--- ---- A number and a unit after a text
-
-pub term_written : (r : Rules) (text rest name cs : List ℕ) (c : ℕ) (u : TimeUnit) → ends_in is_digit text ≡ false
-    → IsTrue (list_all is_digit (c ∷ cs)) → IsWritten r name → unit_of_word r name ≡ Some u
-    → begins_with_letter rest ≡ false → TakesNumber r text → (later : ℕ) (others : Expected)
-    → IsRefused r (text ++ ((c ∷ cs) ++ (name ++ rest))) (Syntax later others)
-    → byte_len text + (byte_len (c ∷ cs) + byte_len name) ≤ later
-term_written r text rest [] cs c u ends digits is read after takes later others again = absurd is
-term_written r text rest (w ∷ ws) cs c u ends digits (letter, lexeme, names) read after takes later others again =
-    let o = r.options in
-    let name = w ∷ ws in
-    let at = 0 + byte_len text in
-    let middle = at + byte_len (c ∷ cs) in
-    let end = middle + byte_len name in
-    let n = number_of (c ∷ cs) in
-    let count : Token = record { start = at; characters = c ∷ cs } in
-    let unit : Token = record { start = middle; characters = name } in
-    let before = tokens_of o text ++ count ∷ [] in
-    let apart = apart_digit o text c (cs ++ (name ++ rest)) ends (and_parts (is_digit c) _ digits).0 in
-    let step : tokens_from o middle (name ++ rest) ≡ unit ∷ tokens_from o end rest =
-    rw add-zero at (tokens_step o middle [] name rest refl lexeme (ends_word o w ws rest letter after)) in
-    let cut : tokens_of o (text ++ ((c ∷ cs) ++ (name ++ rest))) ≡ before ++ unit ∷ tokens_from o end rest =
-    seamed o 0 text ((c ∷ cs) ++ (name ++ rest)) apart
-    ∙ ap (λ (ts : List Token). tokens_of o text ++ ts) (digits_token o at c cs (name ++ rest) digits (letter-not_digit o w letter))
-    ∙ ap (λ (ts : List Token). tokens_of o text ++ count ∷ ts) step ∙ sym (append_assoc (tokens_of o text) _ _) in
-    let front = stand_for r (tokens_of o text) in
-    let all : stand_for r before ≡ front ++ number n ∷ [] = rw (map-append, map-append, digits) refl in
-    let called : terminal_of r name ≡ word (Some u) = names ∙ ap word read in
-    let begins : BeginsSentence r ((front ++ number n ∷ []) ++ word (Some u) ∷ []) =
-    follows r (front ++ number n ∷ []) (word (Some u)) (takes n) (rw (last_of_pushed None front (number n)) refl) in
-    let bytes : byte_len (text ++ ((c ∷ cs) ++ (name ++ rest)))
-    ≡ byte_len text + (byte_len (c ∷ cs) + (byte_len name + byte_len rest)) =
-    rw (byte_len-append text ((c ∷ cs) ++ (name ++ rest)), byte_len-append (c ∷ cs) (name ++ rest), byte_len-append name rest) refl in
-    let least : end ≤ later =
-    placed_past r (text ++ ((c ∷ cs) ++ (name ++ rest))) rest end before unit (tokens_from o end rest) later others cut
-    (rw (all, called) begins) (tokens_are o end rest) (omega (arith, bytes)) again in
-    omega (arith, least)
+    other_number r (terminals_of r text) (number_of (c ∷ cs)) n
+    (rw (more_digits r text cs c ends digits) at (front_begins r (text ++ c ∷ cs) back expected refused))
 
 -- ---- What is written where a text is cut
 
-pub front_begins : (r : Rules) (front back : List ℕ) (expected : Expected)
-    → IsRefused r (front ++ back) (Syntax (byte_len front) expected) → Begins r front
-front_begins r front back expected refused =
-    let b : IsCutBefore r front expected = cut_before r (front ++ back) front back expected refl refused in
-    let same : b.tokens ≡ tokens_of r.options front =
-    tokens_once r.options 0 front b.tokens (tokens_of r.options front) b.are (tokens_are r.options 0 front) in
-    rw same at b.begins
+last_of_pushed : (last : Option Terminal) (front : List Terminal) (t : Terminal) → last_of last (front ++ t ∷ []) ≡ Some t
+last_of_pushed last [] t = refl
+last_of_pushed last (s ∷ front) t = last_of_pushed (Some s) front t
 
 pub joined_digits : (r : Rules) (text digits more rest back : List ℕ) (expected : Expected) → ends_in is_digit text ≡ false
     → IsTrue (list_all is_digit digits) → IsTrue (list_all is_digit more) → Stops is_digit rest → digits ≢ []
@@ -253,12 +272,16 @@ pub joined_digits : (r : Rules) (text digits more rest back : List ℕ) (expecte
     → IsRefused r (text ++ (digits ++ (more ++ rest))) (Syntax later others) → byte_len (text ++ digits) ≤ later
 joined_digits r text [] more rest back expected ends are also stops some refused later others again = absurd (some refl)
 joined_digits r text (c ∷ cs) more rest back expected ends are also stops some refused later others again =
+    let o = r.options in
     let takes = takes_number r text (c ∷ cs) back expected ends are (λ e. absurd (some e)) refused in
+    let first = (and_parts (is_digit c) _ are).0 in
     let digits : list_all is_digit (c ∷ (cs ++ more)) ≡ true =
     list_all-append is_digit (c ∷ cs) more ∙ and_from _ _ are also in
     let same : text ++ ((c ∷ cs) ++ (more ++ rest)) ≡ text ++ ((c ∷ (cs ++ more)) ++ rest) =
     ap (λ (xs : List ℕ). text ++ c ∷ xs) (sym (append_assoc cs more rest)) in
-    let least = number_written r text rest (cs ++ more) c ends digits stops takes later others (rw same at again) in
+    let least = token_kept r text (c ∷ (cs ++ more)) rest (digits_are_lexeme o c (cs ++ more) digits)
+    (apart_digit o text c (cs ++ more) ends first) (ends_digits o c (cs ++ more) rest first stops)
+    (rw digits (takes (number_of (c ∷ (cs ++ more))))) later others (rw same at again) in
     omega (arith, least, byte_len-append text (c ∷ cs), byte_len-append cs more)
 
 pub term_in_place : (r : Rules) (text digits back count name rest : List ℕ) (u : TimeUnit) (expected : Expected)
@@ -270,6 +293,18 @@ pub term_in_place : (r : Rules) (text digits back count name rest : List ℕ) (u
     → byte_len text + (byte_len count + byte_len name) ≤ later
 term_in_place r text digits back [] name rest u expected ends are can new some is read after refused later others again =
     absurd (some refl)
-term_in_place r text digits back (c ∷ cs) name rest u expected ends are can new some is read after refused later others again =
-    term_written r text rest name cs c u ends new is read after
-    (takes_number r text digits back expected ends are can refused) later others again
+term_in_place r text digits back (c ∷ cs) [] rest u expected ends are can new some is read after refused later others again =
+    absurd is
+term_in_place r text digits back (c ∷ cs) (w ∷ ws) rest u expected ends are can new some (letter, lexeme, names) read after refused
+    later others again =
+    let o = r.options in
+    let n = number_of (c ∷ cs) in
+    let ts = terminals_of r text in
+    let takes = takes_number r text digits back expected ends are can refused in
+    let stops = ends_digits o c cs (w ∷ ws) (and_parts (is_digit c) _ new).0 (letter-not_digit o w letter) in
+    let apart = apart_last o text (c ∷ cs) (w ∷ ws) (digits_are_lexeme o c cs new) stops in
+    let begins : BeginsSentence r ((ts ++ number n ∷ []) ++ word (Some u) ∷ []) =
+    (follows_by_table r (ts ++ number n ∷ []) (word (Some u)) (takes n)).0 (rw (last_of_pushed None ts (number n)) refl) in
+    let least = token_kept r (text ++ c ∷ cs) (w ∷ ws) rest lexeme apart (ends_word o w ws rest letter after)
+    (rw (more_digits r text cs c ends new, names ∙ ap word read) begins) later others (rw append_assoc again) in
+    omega (arith, least, byte_len-append text (c ∷ cs))

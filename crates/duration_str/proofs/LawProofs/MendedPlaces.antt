@@ -140,17 +140,16 @@ joined_by s text place n expected mend false p utf8 digit is = absurd cc
 
 -- ---- A name is written
 
-pub name_written : (s : CodeRules) (text : List ℕ) (place n : ℕ) (u : TimeUnit) (expected : Expected) (found rest : List ℕ)
-    → IsPlaced s text place expected → IsTrue expected.unit_word → ahead text place ≡ found ++ rest
-    → drop (place + n) text ≡ encode_utf8_all rest → scalars rest ≡ true → begins_with_letter rest ≡ false
+pub name_written : (s : CodeRules) (text : List ℕ) (place n : ℕ) (u : TimeUnit) (expected : Expected) (rest : List ℕ)
+    → IsPlaced s text place expected → IsTrue expected.unit_word → drop (place + n) text ≡ encode_utf8_all rest
+    → scalars rest ≡ true → begins_with_letter rest ≡ false
     → Keeps s text (record { start = place; end = place + n; suggestion = name_alone u })
-name_written s text place n u expected found rest p unit parts is are stops later others again =
+name_written s text place n u expected rest p unit is are stops later others again =
     let r = meaning_of s in
     let front = take place text in
     let name = help_name u in
     let new : chars (front ++ (encode_utf8_all name ++ drop (place + n) text)) ≡ chars front ++ (name ++ rest) =
     rw is (joined_chars front name rest p.front_utf8 (name_scalars u) are) in
-    let before : IsRefused r (chars front ++ (found ++ rest)) (Syntax (byte_len (chars front)) expected) = rw (← parts) p.refused in
-    let least = mends r (chars front) found rest name u expected (written r u) (name_read s u) stops unit before later others
-    (rw new at again) in
+    let least = mends r (chars front) (ahead text place) rest name u expected (written r u) (name_read s u) stops unit p.refused
+    later others (rw new at again) in
     omega (arith, least, name_bytes u, p.wide, p.long)

@@ -9,12 +9,12 @@ blanks_no_token o at (b ∷ blanks) rest h =
     grind (arith, and_parts, add_assoc, blanks_no_token o (at + width b) blanks rest)
 
 module _ (o : Options) where
-  same_all : (c d : ℕ) (cs : List ℕ) → are_of_one_run o c d ≡ true
+  pub same_all : (c d : ℕ) (cs : List ℕ) → are_of_one_run o c d ≡ true
       → list_all (are_of_one_run o d) cs ≡ list_all (are_of_one_run o c) cs
   same_all c d [] h = refl
   same_all c d (e ∷ cs) h = rw (same_run o c d e h, same_all c d cs h)
 
-  same_end : (c d : ℕ) (rest : List ℕ) → are_of_one_run o c d ≡ true → goes_on o d rest ≡ goes_on o c rest
+  pub same_end : (c d : ℕ) (rest : List ℕ) → are_of_one_run o c d ≡ true → goes_on o d rest ≡ goes_on o c rest
   same_end c d [] h = refl
   same_end c d (e ∷ rest) h = same_run o c d e h
 

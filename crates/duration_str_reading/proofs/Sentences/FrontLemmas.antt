@@ -84,7 +84,7 @@ module _ (r : Rules) where
   complete_sentence terminals s =
       whole_complete r terminals ((allowed_begins terminals (sentence_allowed terminals s)).1.1 s)
 
-  follows_by_table : (front : List Terminal) (t : Terminal) → BeginsSentence r front
+  pub follows_by_table : (front : List Terminal) (t : Terminal) → BeginsSentence r front
       → (IsTrue (allows (expected_after r (last_of None front)) t) ↔ BeginsSentence r (front ++ t ∷ []))
   follows_by_table front t b =
       let both = allowed-append None front (t ∷ []) in

@@ -109,10 +109,6 @@ class DurationError(ValueError):
     """What to write in place of the part of the text that is wrong, such as `90min` for `1.5h`. It
     is the empty text if that part is to be removed, such as the sign of `+5m`. It is None if it
     isn't certain what to write."""
-    mended: str | None
-    """The text with the suggestion in place of that part, such as `2h 90s` for `2h 1.5min`. It is
-    None if `suggestion` is None. Under the same options the mended text can have a further syntax
-    fault, but none before the end of the suggestion."""
     index: int | None
     """The position of the text in its column, or None if it is in no column."""
     report: str
@@ -123,7 +119,7 @@ class DurationError(ValueError):
     def __init__(
         self, report: str, text: str, cause: int, place: int | None = None, expected: int = 0,
         found: str | None = None, index: int | None = None, help: int = 0,
-        suggestion: str | None = None, start: int = 0, replaced_length: int = 0,
+        suggestion: str | None = None, mend: tuple[int, int, int, int] | None = None,
     ) -> None:  # fmt: skip
         above, feed, line = report.rpartition("\n")
         line = line if index is None else f"at index {index}: {line}"
@@ -136,15 +132,13 @@ class DurationError(ValueError):
         self.found = found
         self.index = index
         self.suggestion = suggestion
-        self.mended = None
         self._help = help
+        # The bytes at which the part to replace begins and ends, the options of the call, and the
+        # most nanoseconds that it reads
+        self._mend = mend
         self.pos = place
         if place is not None and not text.isascii():
             self.pos = len(text.encode()[:place].decode())
-        if suggestion is not None:
-            encoded = text.encode()
-            rest = encoded[start + replaced_length :]
-            self.mended = (encoded[:start] + suggestion.encode() + rest).decode()
 
     @property
     def help(self) -> "Help | None":
@@ -153,6 +147,25 @@ class DurationError(ValueError):
         from ._help import Help
 
         return Help(self._help) if self._help else None
+
+    @property
+    def span(self) -> tuple[int, int] | None:
+        """Where the part that the suggestion replaces begins and ends, in characters. It is None if
+        `suggestion` is None."""
+        if self._mend is None:
+            return None
+        encoded = self.text.encode()
+        start, end = (len(encoded[:place].decode()) for place in self._mend[:2])
+        return start, end
+
+    @property
+    def mended(self) -> str | None:
+        """The text with the suggestion for each of its faults, such as `2h 90s` for `2hrs 1.5min`.
+        The call that has refused the text reads this one. It is None if it isn't certain for each
+        fault what to write, or if the text needs more than 32 suggestions."""
+        from ._native import mended
+
+        return None if self._mend is None else mended(self.text, *self._mend[2:])
 
     def __reduce__(self) -> tuple[object, ...]:
         return type(self), (str(self), self.text, self.cause), self.__dict__
