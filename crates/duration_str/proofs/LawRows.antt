@@ -1,14 +1,14 @@
 -- Rows of clauses of laws that no caller in `uses` needs: what follows from each in one case. A
 -- clause that said less would be refused here.
-use Rattle.std.specs.Prelude.{◌≡◌, ℕ, ◌*◌, ◌+◌, ◌≤◌, List, ◌++◌, length, map, Some, codes}
+use Rattle.std.specs.Prelude.{◌≡◌, ℕ, ◌*◌, ◌+◌, ◌≤◌, List, [], ◌++◌, length, map, Some, codes}
 use Rattle.duration_str.specs.Laws.{OlderTexts}
-use Rattle.duration_str.specs.Mended.{IsFraction, MendedFractions, MendedTexts}
+use Rattle.duration_str.specs.Mended.{FractionsAreMended, IsFraction, MendedFractions, MendedTexts}
 use Rattle.duration_str_units.specs.Options.{off}
 use Rattle.duration_str_reading.specs.Reading.{IsRead, IsRefused}
 use Rattle.duration_str_reading.specs.Grammar.{IsSentenceOf, terminal_of}
 use Rattle.duration_str.specs.Older.{older_rules}
 use Rattle.duration_str_units.specs.Rules.{rules_of}
-use Rattle.std.proofs.Common.{refl}
+use Rattle.std.proofs.Common.{arith, refl}
 use Rattle.duration_str_units.specs.Meaning.{meaning_of}
 use Rattle.duration_str_help.specs.Mends.{mended_of, Pieces}
 use Rattle.duration_str_units.specs.declared.cause.Cause.{Cause}
@@ -16,7 +16,7 @@ use Rattle.duration_str_units.specs.declared.cause.Cause.TheVariants.{Syntax}
 use Rattle.duration_str_units.specs.declared.cause.Expected.{Expected}
 use Rattle.duration_str_units.specs.declared.rules.Rules.{Rules as CodeRules}
 use Rattle.duration_str_units.specs.declared.table.UnitTable.TheVariants.{Own}
-use Rattle.duration_str_units.specs.declared.unit.TimeUnit.TheVariants.{Hour, Second}
+use Rattle.duration_str_units.specs.declared.unit.TimeUnit.TheVariants.{Hour, Minute, Second}
 use Rattle.std.specs.Str.{chars}
 use lib.Utf8.{encode}
 

@@ -2,9 +2,9 @@
 -- that said less would be refused here.
 use Rattle.std.specs.Prelude.{◌≡◌, ◌≤◌, ◌⊎◌, ℕ, ◌+◌, ◌^◌, ◌∷◌, ◌++◌, [], Any, IsUtf8, List, None, Some, codes}
 use Rattle.std.specs.Duration.{FitsDuration}
-use Rattle.std.specs.Str.{chars}
+use Rattle.std.specs.Str.{chars, IsCharBoundary}
 use Rattle.std.proofs.Common.{arith, false, inl, inr, refl, true}
-use Rattle.duration_str_reading.proofs.Sentences.AnswerLemmas.{answer_refused, one_reading_holds}
+use Rattle.duration_str_reading.proofs.Sentences.AnswerLemmas.{answer_read, answer_refused, one_reading_holds}
 use Rattle.duration_str_reading.specs.Answer.{expected_at_start}
 use Rattle.duration_str_printing.specs.Breakdown.{ArePartsRounded, sum_of_parts}
 use Rattle.duration_str_printing.specs.Format.{IsPrintedWithin, whole_format}
@@ -12,12 +12,15 @@ use Rattle.duration_str_help.specs.Mends.{Pieces}
 use Rattle.duration_str_reading.specs.Reading.{IsRead, IsRefused}
 use Rattle.duration_str_printing.specs.Rounding.{NoneAbove}
 use Rattle.duration_str_units.specs.declared.cause.Cause.{Cause}
-use Rattle.duration_str_units.specs.declared.cause.Cause.TheVariants.{Syntax}
+use Rattle.duration_str_units.specs.declared.cause.Cause.TheVariants.{Mixed, Syntax}
 use Rattle.duration_str_units.specs.declared.cause.Expected.{Expected}
 use Rattle.duration_str_printing.specs.declared.format.Format.{Format}
+use Rattle.duration_str_units.specs.Options.{off}
 use Rattle.duration_str_help.specs.declared.help.Help.TheVariants.{DidYouMean}
+use Rattle.duration_str_units.specs.declared.operator.CondUnit.TheVariants.{Plus, Star}
 use Rattle.duration_str_units.specs.declared.unit.TimeUnit.TheVariants.{Minute}
-use Rattle.duration_str_c.specs.Answers.{rules_of_bits}
+use Rattle.duration_str_c.specs.Answers.{IsAnswerTo, IsTold, rules_of_bits, TellsFault}
+use Rattle.duration_str_c.specs.declared.answer.Answer.{Answer}
 use Rattle.duration_str_c.specs.Breakdown.{counts_of, IsBrokenDown, IsTooLarge}
 use Rattle.duration_str_c.specs.Format.{IsFormatted}
 use Rattle.duration_str_c.specs.Help.{IsHelpShown, ShowsHelp}

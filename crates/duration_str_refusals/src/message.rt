@@ -1,5 +1,4 @@
-//! The message of a fault, and its layout. The line, the report and suggestions also use the calls
-//! that write a piece into a buffer.
+//! The message of a fault, and its layout.
 ghost use Rattle.std.specs.Prelude.{◌≡◌, ◌≤◌, ◌-◌, ◌^◌, ◌++◌, ◌<◌, ℕ, ⊤, List, None, Some, IfSome, IfNone, IsErr, IsOk, IsUtf8, length, take, replicate, decimal, encode_utf8_all};
 ghost use Rattle.std.specs.Fmt.{DisplaysOnOk, DisplaysStyledOnOk, HasWritten, IsPlainFormatter, WritesInCalls};
 ghost use Rattle.std.specs.Str.{IsCharBoundary};

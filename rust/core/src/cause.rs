@@ -98,7 +98,8 @@ impl Cause {
         }
     }
 
-    /// Returns the line that says why the text is refused.
+    /// Returns the last line of the message that `duration-str` 0.19.0 has for this cause. The line
+    /// of a refusal, which `Fault::write_one_line` writes, says more.
     ///
     /// ```
     /// assert_eq!(duration_str::Cause::Empty.line(), "Empty input");

@@ -1,6 +1,6 @@
 // Made by tools/erase of crates/duration_str_units/src/slice.rt.
-//! Slices of a text at a place that is known to be a character boundary. Rust's own slices test
-//! that, and contain what reports that it isn't one.
+//! Slices of a text at a place that is known to be a character boundary. `&text[place..]` would
+//! test that again, and would contain the code that reports a place inside a character.
 
 /// Returns `&text[..to]`.
 #[inline(always)]

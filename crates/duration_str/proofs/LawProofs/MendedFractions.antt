@@ -7,23 +7,21 @@ use Rattle.std.proofs.Math.Seq.{drop-append_seam, take-append_seam}
 use Rattle.std.proofs.lemmas.List.Folds.{list_all_at}
 use Rattle.std.proofs.lemmas.Nat.{div-add-mod'}
 use Rattle.std.specs.Prelude.{slice_index}
-use Rattle.duration_str_help.specs.declared.help.Help.{Help}
-use Rattle.duration_str_help.specs.declared.help.Help.TheVariants.{DidYouMean, DigitsOnly, Fraction, Iso8601, LeadingPlus, NoPoint, Zero}
+use Rattle.duration_str_help.specs.declared.help.Help.TheVariants.{Fraction}
 use Rattle.duration_str_help.specs.declared.suggestion.Mend.{Mend}
 use Rattle.duration_str_units.specs.declared.rules.Rules.{Rules as CodeRules}
-use Rattle.duration_str_help.specs.Fraction.{is_whole_in, longest_whole}
-use Rattle.duration_str.specs.Mended.{mended_text, MendedFractions}
+use Rattle.duration_str_help.specs.Fraction.{as_term, is_whole_in, longest_whole, nanos_of_fraction}
+use Rattle.duration_str.specs.Mended.{FractionsAreMended, mended_text, MendedFractions}
 use Rattle.duration_str_help.specs.Help.{begins_with_letter, first_piece, help_name, is_letter, is_like, near_unit, small_words, syntax_help, with_micro_sign}
-use Rattle.duration_str_help.specs.Mends.{fraction_mend, fraction_with, meant_unit, mend_for, Pieces, pieces_of, suggestion_text, unit_ahead}
+use Rattle.duration_str_help.specs.Mends.{fraction_mend, fraction_with, meant_unit, mend_of, Pieces, pieces_of, unit_ahead}
 use Rattle.duration_str_units.proofs.CharacterLemmas.{all_weaker, digit-not_blank}
 use Rattle.duration_str_units.proofs.NumberLemmas.{decimal_digits}
 use Rattle.duration_str_reading.proofs.Cutting.RunLemmas.{decimal_terminal}
 use Rattle.duration_str_units.proofs.PackedLemmas.{no_name}
 use Rattle.duration_str_units.proofs.UnitLemmas.{all_units, named_passes}
 use Rattle.duration_str_reading.proofs.Cutting.TokenLemmas.{tokens_step}
-use Rattle.duration_str_help.proofs.FractionLemmas.{end_all}
+use Rattle.duration_str_help.proofs.FractionLemmas.{end_all, quotient_some}
 use Rattle.duration_str_help.proofs.MendedBytes.{blank_no_letter, blank_small, digit_small, first_char, is_small, past_small, plain_no_letter, run_cons, run_stops, small_chars, small_len, small_utf8}
-use Rattle.duration_str_help.proofs.MendedHelp.{Reason, reason}
 use Rattle.duration_str.proofs.LawProofs.MendedNames.{IsWritten, name_read, name_scalars, own_more, written}
 use Rattle.duration_str.proofs.LawProofs.MendedNumbers.{digits_token}
 use Rattle.duration_str.proofs.LawProofs.MendedTerms.{IsQuotient, short_meant, value_parts}

@@ -1,11 +1,10 @@
 -- The names of units that a mend writes, and the words that it replaces.
-use Rattle.duration_str.proofs.Common.{[], and_parts, ap, arith, Bool, byte_len, bytes_eq, cases_Bool, chars, chars-append, chars-encodes, chinese_letters, comparison_form, encode_utf8_all, EndsRun, eqb-true, Expected, false, false_from_ne_true, find, Humantime, if◌then◌else◌, inl, inr, is_ascii_alphabetic, is_chinese, is_unit_letter, IsLexeme, IsRefused, IsTrue, IsUtf8, leb, leb-true, length, List, list_all, list_any, map, meaning_of, More, more_names, more_rules, nat_tests, None, off, Options, or_cases, Own, refl, Rules, scalars, Some, Syntax, table_of, terminal_of, TimeUnit, to_ascii_lowercase, true, unit_of_word, UnitRow, units, UnitTable, word, ℕ, ◌&&◌, ◌++◌, ◌+◌, ◌==◌, ◌||◌, ◌∙◌, ◌∷◌, ◌≡◌, ◌≤◌}
+use Rattle.duration_str.proofs.Common.{[], and_parts, ap, arith, Bool, byte_len, bytes_eq, cases_Bool, chars, chars-append, chars-encodes, chinese_letters, comparison_form, encode_utf8_all, EndsRun, eqb-true, false, false_from_ne_true, find, Humantime, if◌then◌else◌, inl, inr, is_ascii_alphabetic, is_chinese, is_unit_letter, IsLexeme, IsUtf8, leb, leb-true, length, List, list_all, list_any, map, meaning_of, More, more_names, more_rules, nat_tests, None, off, Options, or_cases, Own, refl, Rules, scalars, Some, table_of, terminal_of, TimeUnit, to_ascii_lowercase, true, unit_of_word, UnitRow, units, UnitTable, word, ℕ, ◌&&◌, ◌++◌, ◌==◌, ◌||◌, ◌∙◌, ◌∷◌, ◌≡◌, ◌≤◌}
 use Rattle.duration_str_units.proofs.UnitLemmas.{all_units, each_unit, named_passes}
 use Rattle.duration_str_units.specs.declared.rules.Rules.{Rules as CodeRules}
 use Rattle.duration_str_units.proofs.PackedLemmas.{no_long_name}
 use Rattle.duration_str.proofs.LawProofs.NearWords.{advised_small, found_among}
 use Rattle.duration_str_units.proofs.CharacterLemmas.{letter-not_digit, width_some}
-use Rattle.duration_str.proofs.LawProofs.MendedTokens.{unit_written}
 use Rattle.duration_str_help.specs.Help.{begins_with_letter, help_name, is_letter, near_unit, small_words, with_micro_sign}
 
 -- ---- A suggested name

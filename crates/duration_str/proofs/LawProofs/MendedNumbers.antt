@@ -1,13 +1,13 @@
 -- Texts that begin a sentence, with a number, a number and a unit, or nothing after them.
-use Rattle.duration_str.proofs.Common.{[], add-zero, and_from, and_parts, ap, append-nil, append_assoc, are_of_one_run, AreTokens, arith, BeginsSentence, Bool, byte_len, cases_Bool, EndsRun, Expected, expected_after, false, false_from_ne_true, goes_on, inl, inr, is_blank, is_digit, is_unit_letter, IsBlank, IsRefused, IsTrue, last_of, length, length-append, List, list_all, list_all-append, map-append, None, number, number_of, Options, refl, Rules, Some, start_after, Stops, suc, sym, Syntax, take, Terminal, terminal_of, terminals_of, TimeUnit, Token, tokens_from, tokens_of, true, unit_of_word, width, with_first_character, word, zero, ℕ, ⊤, ◌&&◌, ◌++◌, ◌+◌, ◌||◌, ◌∙◌, ◌∷◌, ◌≡◌, ◌≢◌, ◌≤◌}
+use Rattle.duration_str.proofs.Common.{[], add-zero, allows, and_from, and_parts, ap, append-nil, append_assoc, are_of_one_run, AreTokens, arith, BeginsSentence, Bool, byte_len, cases_Bool, EndsRun, Expected, expected_after, false, false_from_ne_true, goes_on, inl, inr, is_blank, is_digit, is_unit_letter, IsBlank, IsLexeme, IsRefused, IsTrue, last_of, length, length-append, List, list_all, list_all-append, map-append, None, number, number_of, operator, Option, Options, other, refl, Rules, Some, Stops, sym, Syntax, take, Terminal, terminal_of, terminals_of, TimeUnit, Token, tokens_from, tokens_of, true, unit_of_word, width, with_first_character, word, ℕ, ⊤, ◌&&◌, ◌++◌, ◌+◌, ◌||◌, ◌∙◌, ◌∷◌, ◌≡◌, ◌≢◌, ◌≤◌}
 use Rattle.duration_str_help.specs.Help.{begins_with_letter}
 use Rattle.duration_str_units.proofs.CharacterLemmas.{byte_len-append, digit-not_blank, digit-not_letter, letter-not_blank, letter-not_digit}
 use Rattle.duration_str_reading.proofs.Cutting.RunLemmas.{run-not_blank}
-use Rattle.duration_str_reading.proofs.Cutting.SortLemmas.{digits_are_lexeme}
-use Rattle.duration_str_reading.proofs.Cutting.TokenLemmas.{tokens_are, tokens_once, tokens_step}
+use Rattle.duration_str_reading.proofs.Cutting.SortLemmas.{digits_are_lexeme, terminal_cases}
+use Rattle.duration_str_reading.proofs.Cutting.TokenLemmas.{same_all, same_end, tokens_are, tokens_step}
 use Rattle.duration_str.proofs.LawProofs.MendedNames.{ends_word, IsWritten, unit_letter_is_letter}
-use Rattle.duration_str.proofs.LawProofs.MendedTokens.{begins_whole, cut_before, follows, IsCutBefore, last_of_pushed, length_stand, placed_past, pushed, refused_at, stand_for, starts_from}
-use Rattle.duration_str_reading.proofs.Sentences.FrontLemmas.{expected_by_table}
+use Rattle.duration_str.proofs.LawProofs.MendedTokens.{Begins, cut_before, IsCutBefore, length_stand, refused_at, stand_for, starts_over}
+use Rattle.duration_str_reading.proofs.Sentences.FrontLemmas.{follows_by_table}
 use Rattle.std.proofs.Math.Seq.{take-append_seam}
 use Rattle.duration_str_help.proofs.MendedBytes.{ends_in}
 

@@ -9,8 +9,8 @@ use Rattle.duration_str_help.specs.Fraction.{end_run}
 use Rattle.duration_str_help.specs.Help.{begins_with_letter, help_name, is_letter}
 use Rattle.duration_str_help.specs.Mends.{ends_unit, name_alone, nothing, removed_if, suggestion_text}
 use Rattle.duration_str_help.proofs.MendedBytes.{blank_small, digit_small, end_cut, EndCut, ends_by_last, ends_chars, first_digit, past_small, run_parts, RunParts, small_chars, some_end, ends_in}
-use Rattle.duration_str.proofs.LawProofs.MendedNames.{joined_chars, mends, name_bytes, name_read, name_scalars, written}
-use Rattle.duration_str.proofs.LawProofs.MendedNumbers.{apart_blank, apart_word, front_begins, IsApart, joined_digits, kept}
+use Rattle.duration_str.proofs.LawProofs.MendedNames.{joined_chars, name_bytes, name_read, name_scalars, written}
+use Rattle.duration_str.proofs.LawProofs.MendedNumbers.{apart_blank, apart_word, front_begins, IsApart, joined_digits, kept, mends}
 use Rattle.duration_str_units.proofs.CharacterLemmas.{all_weaker, byte_count}
 use Rattle.duration_str_reading.proofs.OnePass.PlaceLemmas.{fault_placed}
 use Rattle.duration_str_reading.proofs.Sentences.AnswerLemmas.{answer_refused}

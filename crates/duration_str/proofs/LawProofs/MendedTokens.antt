@@ -1,11 +1,8 @@
 -- Texts that are cut where a syntax fault is.
-use Rattle.duration_str.proofs.Common.{[], add-zero, allows, and_from, and_parts, ap, append-nil, append_assoc, AreTokens, arith, BeginsSentence, byte_len, CanFollow, cases_Bool, Cause, drop-nil, early, EndsRun, Expected, expected_after, front_after, front_of, is_digit, is_unit_letter, IsLexeme, IsRefused, IsRefusedAt, IsTrue, last_of, late, le_of_suc-le-suc, length, length-append, lexemes_of, List, map, map-append, None, number, operator, Option, Options, other, refl, Rules, rules, Some, start_after, suc, suc-le-suc, sym, Syntax, syntax_fault, take, Terminal, terminal_of, terminals_of, TimeUnit, Token, tokens_from, tokens_of, true, width, word, zero, ℕ, ⊤, ◌++◌, ◌+◌, ◌↔◌, ◌∙◌, ◌∷◌, ◌≡◌, ◌≤◌}
-use Rattle.duration_str_units.proofs.CharacterLemmas.{byte_len-append, digit-not_letter, letter-not_digit, width_some}
-use Rattle.duration_str_reading.proofs.Cutting.TokenLemmas.{blanks_no_token, tokens_are, tokens_step}
-use Rattle.duration_str_reading.proofs.Cutting.SortLemmas.{terminal_cases}
+use Rattle.duration_str.proofs.Common.{[], append-nil, append_assoc, AreTokens, arith, ap, BeginsSentence, byte_len, CanFollow, Cause, drop-nil, early, EndsRun, Expected, IsRefused, IsRefusedAt, late, length, lexemes_of, List, map, Options, refl, Rules, rules, Some, start_after, suc, sym, Syntax, syntax_fault, take, Terminal, terminal_of, terminals_of, Token, tokens_of, width, zero, ℕ, ◌++◌, ◌+◌, ◌∙◌, ◌∷◌, ◌≡◌, ◌≤◌}
+use Rattle.duration_str_units.proofs.CharacterLemmas.{byte_len-append, width_some}
+use Rattle.duration_str_reading.proofs.Cutting.TokenLemmas.{tokens_are, tokens_once}
 use Rattle.duration_str_reading.proofs.OnePass.PlaceLemmas.{early_stands, late_stands}
-use Rattle.duration_str_reading.proofs.Sentences.FrontLemmas.{expected_by_table}
-use Rattle.duration_str.proofs.LawProofs.PlaceAndKinds.{place_and_kinds_hold}
 use Rattle.std.proofs.Math.Seq.{take-append_seam}
 use Rattle.std.proofs.lemmas.List.{take-map}
 
