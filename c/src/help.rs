@@ -36,15 +36,15 @@ fn show_help(
     start: &mut usize,
     length: &mut usize,
 ) -> u32 {
-    let Some(mended) = fault.mended(rules) else {
+    let Some(mend) = fault.mend(rules) else {
         return show_no_mend(fault.help(), suggestion, start, length);
     };
     let _ = put(
-        mended.suggestion.write(&mut [0; SUGGESTION_BUFFER_SIZE]),
+        mend.suggestion.write(&mut [0; SUGGESTION_BUFFER_SIZE]),
         suggestion,
     );
-    *start = mended.front.len();
-    *length = mended.replaced.len();
+    *start = mend.front.len();
+    *length = mend.replaced.len();
     number_of(fault.help())
 }
 

@@ -45,13 +45,13 @@ impl<'a> Fault<'a> {
     /// ```
     #[must_use]
     pub fn mend(&self) -> Option<Mend<'a>> {
-        let proved::Mended {
+        let proved::Mend {
             front,
             replaced,
             suggestion,
             rest,
             ..
-        } = self.proved().mended(self.rules())?;
+        } = self.proved().mend(self.rules())?;
         Some(Mend {
             front,
             replaced,
@@ -91,5 +91,5 @@ impl<'a> Fault<'a> {
 }
 
 fn with_suggestion(fault: proved::Fault<'_>, rules: Rules) -> Option<String> {
-    fault.mended(rules).map(|mended| mended.to_string())
+    fault.mend(rules).map(|mend| mend.to_string())
 }

@@ -10,7 +10,7 @@ use Rattle.duration_str.specs.Older.{older_rules}
 use Rattle.duration_str_units.specs.Rules.{rules_of}
 use Rattle.std.proofs.Common.{arith, refl}
 use Rattle.duration_str_units.specs.Meaning.{meaning_of}
-use Rattle.duration_str_help.specs.Mends.{mended_of, Pieces}
+use Rattle.duration_str_help.specs.Mends.{mend_of, Pieces}
 use Rattle.duration_str_units.specs.declared.cause.Cause.{Cause}
 use Rattle.duration_str_units.specs.declared.cause.Cause.TheVariants.{Syntax}
 use Rattle.duration_str_units.specs.declared.cause.Expected.{Expected}
@@ -34,7 +34,7 @@ own_rules = record { table = Own; default_unit = Some Second; options = off }
 
 pub mended_text_fails_past_what_is_written : (new : Pieces) (later : ℕ) (cause : Cause) (others : Expected) → MendedTexts
     → IsRefused (meaning_of own_rules) (chars (codes "1.5h 3 hrs")) cause
-    → mended_of (meaning_of own_rules) (codes "1.5h 3 hrs") cause ≡ Some new
+    → mend_of (meaning_of own_rules) (codes "1.5h 3 hrs") cause ≡ Some new
     → IsRefused (meaning_of own_rules) (chars (new.front ++ (new.written ++ new.rest))) (Syntax later others)
     → length new.front + length new.written ≤ later
 unfolding encode
@@ -84,7 +84,7 @@ fraction_without_digits_before_its_point = record {
 
 pub mended_fraction_is_read_as_its_value : (new : Pieces) (cause : Cause) → MendedFractions
     → IsRefused (meaning_of own_rules) (chars (codes "1.50 h")) cause
-    → mended_of (meaning_of own_rules) (codes "1.50 h") cause ≡ Some new
+    → mend_of (meaning_of own_rules) (codes "1.50 h") cause ≡ Some new
     → (nanos : ℕ) × IsRead (meaning_of own_rules) (chars (new.front ++ (new.written ++ new.rest))) nanos
     × (nanos * 100 ≡ 150 * 3_600_000_000_000)
 unfolding encode
@@ -93,7 +93,7 @@ mended_fraction_is_read_as_its_value new cause law refused is =
 
 pub exact_fraction_has_a_mend : (place : ℕ) (expected : Expected) → FractionsAreMended
     → IsRefused (meaning_of own_rules) (chars (codes "1.50 h")) (Syntax place expected)
-    → (new : Pieces) × (mended_of (meaning_of own_rules) (codes "1.50 h") (Syntax place expected) ≡ Some new)
+    → (new : Pieces) × (mend_of (meaning_of own_rules) (codes "1.50 h") (Syntax place expected) ≡ Some new)
     × (new.front ≡ []) × (new.rest ≡ [])
 unfolding encode
 exact_fraction_has_a_mend place expected law refused =

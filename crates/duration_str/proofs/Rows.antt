@@ -10,7 +10,7 @@ use Rattle.duration_str_printing.specs.Format.{chosen, intersection, counts_with
 use Rattle.duration_str_units.specs.Humantime.{humantime_row_of, humantime_rules}
 use Rattle.duration_str_help.specs.Help.{help_number, is_letter}
 use Rattle.duration_str_help.specs.Quotes.{is_plain}
-use Rattle.duration_str_help.specs.Mends.{mended_of, Pieces}
+use Rattle.duration_str_help.specs.Mends.{mend_of, Pieces}
 use Rattle.duration_str_refusals.specs.OneLine.{one_line_of}
 use Rattle.duration_str_help.specs.declared.help.Help.{Help}
 use Rattle.duration_str_help.specs.declared.help.Help.TheVariants.{Brackets, ClockTime, DidYouMean, DigitsOnly, Division, Fraction, Iso8601, LargeNumber, LeadingPlus, MissingUnit, Negative, NoPoint, OneDuration, QuotationMarks, Units as UnitsHelp, Zero}
@@ -674,11 +674,11 @@ pieces front old new rest = Some (record { front = front; replaced = old; writte
 
 -- the pieces of a text that is refused with all options off
 abbrev mended : List ℕ → Cause → Option Pieces
-mended text cause = mended_of (rules_of off) text cause
+mended text cause = mend_of (rules_of off) text cause
 
 -- the same if the default unit is this one, or if units are required
 abbrev mended_with : Option TimeUnit → List ℕ → Cause → Option Pieces
-mended_with default_unit text cause = mended_of (rules_with off default_unit) text cause
+mended_with default_unit text cause = mend_of (rules_with off default_unit) text cause
 
 -- the pieces if the number that the text begins with is replaced
 abbrev term : List ℕ → List ℕ → List ℕ → Option Pieces
@@ -741,16 +741,16 @@ pub record MendedRows : Type 0 where
   pub mended-of_hours : mended_with (Some Hour) (codes "1.5") (Syntax 1 after_number) ≡ term (codes "1.5") (codes "90min") []
   pub mended-unit_required : mended_with None (codes "1.5") (Syntax 1 unit_alone) ≡ None
   pub mended-unit_required_and_there : mended_with None (codes "1.5h") (Syntax 1 unit_alone) ≡ term (codes "1.5h") (codes "90min") []
-  pub mended-no_calc : mended_of (rules_of with_no_calc) (codes "1.5+2") (Syntax 1 after_number-no_calc) ≡ None
-  pub mended-no_calc_at_the_end : mended_of (rules_of with_no_calc) (codes "1.5") (Syntax 1 after_number-no_calc)
+  pub mended-no_calc : mend_of (rules_of with_no_calc) (codes "1.5+2") (Syntax 1 after_number-no_calc) ≡ None
+  pub mended-no_calc_at_the_end : mend_of (rules_of with_no_calc) (codes "1.5") (Syntax 1 after_number-no_calc)
       ≡ term (codes "1.5") (codes "1500ms") []
   -- ---- A fraction by other rules
-  pub mended-chinese_letter : mended_of (rules_of with_cn_unit) (encode_utf8_all (codes "1.5时")) (Syntax 1 after_number)
+  pub mended-chinese_letter : mend_of (rules_of with_cn_unit) (encode_utf8_all (codes "1.5时")) (Syntax 1 after_number)
       ≡ term (encode_utf8_all (codes "1.5时")) (codes "90min") []
   pub mended-chinese_letter_unread : mended (encode_utf8_all (codes "1.5时")) (Syntax 1 after_number) ≡ None
   pub mended-capital : mended (codes "1.5H") (Syntax 1 after_number) ≡ term (codes "1.5H") (codes "90min") []
-  pub mended-capital_unread : mended_of (rules_of with_lowercase) (codes "1.5H") (Syntax 1 after_number) ≡ None
-  pub mended-humantime : mended_of (humantime_rules with_lowercase) (codes "0.5M") (Syntax 1 unit_alone)
+  pub mended-capital_unread : mend_of (rules_of with_lowercase) (codes "1.5H") (Syntax 1 after_number) ≡ None
+  pub mended-humantime : mend_of (humantime_rules with_lowercase) (codes "0.5M") (Syntax 1 unit_alone)
       ≡ term (codes "0.5M") (codes "1315008s") []
   -- ---- What is removed or inserted
   pub mended-plus : mended (codes "+5m") (Syntax 0 number_alone) ≡ term (codes "+") [] (codes "5m")
@@ -765,7 +765,7 @@ pub record MendedRows : Type 0 where
   pub mended-exponent : mended (codes "1e3s") (Syntax 1 after_number) ≡ None
   pub mended-time : mended (codes "PT5M") (Syntax 0 number_alone) ≡ term (codes "PT") [] (codes "5M")
   pub mended-time_in_small_letters : mended (codes "pt5m") (Syntax 0 number_alone) ≡ term (codes "pt") [] (codes "5m")
-  pub mended-time_without_capitals : mended_of (rules_of with_lowercase) (codes "pt5m") (Syntax 0 number_alone) ≡ None
+  pub mended-time_without_capitals : mend_of (rules_of with_lowercase) (codes "pt5m") (Syntax 0 number_alone) ≡ None
   pub mended-period : mended (codes "P1M") (Syntax 0 number_alone) ≡ None
   pub mended-zero_alone : mended_with None (codes "0") (Syntax 1 unit_alone) ≡ pieces (codes "0") [] (codes "s") []
   pub mended-zero_before_a_blank : mended_with None (codes "0 ") (Syntax 2 unit_alone) ≡ pieces (codes "0 ") [] (codes "s") []

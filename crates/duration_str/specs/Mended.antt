@@ -7,7 +7,7 @@ use Rattle.duration_str_units.specs.declared.cause.Expected.{Expected}
 use Rattle.duration_str_units.specs.declared.rules.Rules.{Rules as CodeRules}
 use Rattle.duration_str_units.specs.declared.unit.TimeUnit.{TimeUnit}
 use Rattle.duration_str_units.specs.Meaning.{meaning_of}
-use Rattle.duration_str_help.specs.Mends.{meant_unit, mended_of, Pieces}
+use Rattle.duration_str_help.specs.Mends.{meant_unit, mend_of, Pieces}
 use Rattle.duration_str_reading.specs.Reading.{IsRead, IsRefused}
 use Rattle.duration_str_units.specs.Text.{Bytes, IsBlank, is_digit, number_of}
 
@@ -20,7 +20,7 @@ mended_text new = new.front ++ (new.written ++ new.rest)
 abbrev pub MendedTexts : Type 0
 MendedTexts =
     (s : CodeRules) (text : Bytes) (cause : Cause) (new : Pieces) → IsUtf8 text
-    → IsRefused (meaning_of s) (chars text) cause → mended_of (meaning_of s) text cause ≡ Some new
+    → IsRefused (meaning_of s) (chars text) cause → mend_of (meaning_of s) text cause ≡ Some new
     → (later : ℕ) (others : Expected)
     → IsRefused (meaning_of s) (chars (mended_text new)) (Syntax later others)
     → length new.front + length new.written ≤ later
@@ -43,7 +43,7 @@ abbrev pub MendedFractions : Type 0
 MendedFractions =
     (s : CodeRules) (text whole decimals : Bytes) (unit : TimeUnit) (cause : Cause) (new : Pieces) → IsUtf8 text
     → IsFraction s text whole decimals unit
-    → IsRefused (meaning_of s) (chars text) cause → mended_of (meaning_of s) text cause ≡ Some new
+    → IsRefused (meaning_of s) (chars text) cause → mend_of (meaning_of s) text cause ≡ Some new
     → (nanos : ℕ) × IsRead (meaning_of s) (chars (mended_text new)) nanos
     × (nanos * 10 ^ length decimals ≡ number_of (whole ++ decimals) * ((meaning_of s).table unit).nanos)
 
@@ -54,4 +54,4 @@ FractionsAreMended =
     (s : CodeRules) (text whole decimals : Bytes) (unit : TimeUnit) (place : ℕ) (expected : Expected) (nanos : ℕ)
     → IsUtf8 text → IsFraction s text whole decimals unit → IsRefused (meaning_of s) (chars text) (Syntax place expected)
     → nanos * 10 ^ length decimals ≡ number_of (whole ++ decimals) * ((meaning_of s).table unit).nanos → nanos < 2 ^ 64
-    → (new : Pieces) × (mended_of (meaning_of s) text (Syntax place expected) ≡ Some new) × (new.front ≡ []) × (new.rest ≡ [])
+    → (new : Pieces) × (mend_of (meaning_of s) text (Syntax place expected) ≡ Some new) × (new.front ≡ []) × (new.rest ≡ [])

@@ -4,7 +4,8 @@ ghost use Rattle.std.specs.Duration.{as_nanos};
 ghost use Rattle.duration_str_printing.specs.Printing.{IsPrinted};
 ghost use Rattle.duration_str_printing.specs.declared.printing.TheConstants.{MAX_PRINTED_LEN};
 
-use duration_str_printing::printing::{HUMAN_BUFFER_SIZE, write_human};
+use duration_str_printing::printing::HUMAN_BUFFER_SIZE;
+pub use duration_str_printing::printing::write_human;
 use std::alloc::{AllocError, Allocator};
 use std::time::Duration;
 

@@ -14,7 +14,7 @@ pub mod top;
 pub mod unit;
 
 pub use duration_str_help::help::Help;
-pub use duration_str_help::mended::Mended;
+pub use duration_str_help::mend::Mend;
 pub use duration_str_help::suggestion::{MAX_SUGGESTION_LEN, SUGGESTION_BUFFER_SIZE, Suggestion};
 pub use duration_str_printing::breakdown::Breakdown;
 pub use duration_str_printing::format::{Format, Style, Units};

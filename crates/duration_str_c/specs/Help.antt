@@ -3,7 +3,7 @@
 use Rattle.std.specs.Prelude.{◌≡◌, ℕ, ◌+◌, List, [], ◌∷◌, ◌++◌, length, drop, Option, Some, None}
 use Rattle.duration_str_help.specs.declared.help.Help.{Help}
 use Rattle.duration_str_help.specs.Help.{help_number, help_of}
-use Rattle.duration_str_help.specs.Mends.{mended_of, Pieces}
+use Rattle.duration_str_help.specs.Mends.{mend_of, Pieces}
 use Rattle.duration_str_c.specs.Answers.{rules_of_bits, IsTold}
 
 -- the number of a help, or 0 if there is none
@@ -40,5 +40,5 @@ abbrev pub ShowsHelp : ℕ → List ℕ → List ℕ → ℕ → List ℕ → �
 ShowsHelp bits bytes old number new start len =
     IsTold (IsHelpShown None None old number new start len) (IsHelpShown None None old number new start len)
     (λ nanos. IsHelpShown None None old number new start len)
-    (λ cause. IsHelpShown (help_of bytes cause) (mended_of (rules_of_bits bits) bytes cause) old number new start len)
+    (λ cause. IsHelpShown (help_of bytes cause) (mend_of (rules_of_bits bits) bytes cause) old number new start len)
     bits bytes

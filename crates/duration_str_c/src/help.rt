@@ -2,7 +2,7 @@
 ghost use Rattle.std.specs.Prelude.{◌≡◌, None};
 ghost use Rattle.duration_str_units.specs.Meaning.{meaning_of};
 ghost use Rattle.duration_str_help.specs.Help.{help_of};
-ghost use Rattle.duration_str_help.specs.Mends.{mended_of};
+ghost use Rattle.duration_str_help.specs.Mends.{mend_of};
 ghost use Rattle.duration_str_c.specs.Help.{number_of, IsHelpShown, ShowsHelp};
 
 use crate::answer::Answer;
@@ -44,18 +44,18 @@ fn show_help(
     length: &mut usize,
 ) -> u32
     ensures { IsHelpShown (help_of fault.now.text.now fault.now.cause)
-        (mended_of (meaning_of rules) fault.now.text.now fault.now.cause)
+        (mend_of (meaning_of rules) fault.now.text.now fault.now.cause)
         suggestion.old result suggestion.new start.new length.new }
 {
-    let Some(mended) = fault.mended(rules) else {
+    let Some(mend) = fault.mend(rules) else {
         return show_no_mend(fault.help(), suggestion, start, length);
     };
     let _ = put(
-        mended.suggestion.write(&mut [0; SUGGESTION_BUFFER_SIZE]),
+        mend.suggestion.write(&mut [0; SUGGESTION_BUFFER_SIZE]),
         suggestion,
     );
-    *start = mended.front.len();
-    *length = mended.replaced.len();
+    *start = mend.front.len();
+    *length = mend.replaced.len();
     number_of(fault.help())
 }
 

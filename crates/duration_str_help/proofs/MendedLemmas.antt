@@ -1,7 +1,7 @@
 -- Lemmas about a text that is split after its first piece.
 use Rattle.duration_str_help.proofs.Common.{ahead, drop-drop, IfSome, IsUtf8-drop, Option, take-append-drop, ◌+◌, ◌-◌, ◌≤◌, [], ap, arith, Bool, cases_Bool, chars, drop, encode_utf8_all, encodes-append, encodes-chars, false, false_from_ne_true, inl, inr, IsCharBoundary, IsCharBoundary-at_seam, IsUtf8, length, List, refl, scalars, scalars-chars, suc, sym, take, take_while, take_while-cons, true, zero, ℕ, ◌++◌, ◌<◌, ◌∙◌, ◌∷◌, ◌≡◌}
 use Rattle.std.proofs.lemmas.Str.{IsCharBoundary-from_rest}
-use Rattle.duration_str_help.specs.declared.suggestion.Mend.{Mend}
+use Rattle.duration_str_help.specs.declared.suggestion.Replacement.{Replacement}
 use Rattle.duration_str_help.specs.Internal.Mends.{IsCutOut}
 use Rattle.std.proofs.Math.Seq.{drop-append_seam}
 use Rattle.duration_str_help.specs.Help.{begins_with_letter, first_piece, is_letter, is_like}
@@ -89,15 +89,15 @@ piece_end text piece place utf8 boundary is =
     IsCharBoundary-from_rest text place (length piece) boundary.0
     (piece_boundary (drop place text) piece (IsUtf8-drop text place utf8 boundary) is)
 
-pub cut_removed : (text : List ℕ) (condition : Bool) (start end : ℕ) (mend : Option Mend) → mend ≡ removed_if condition start end
-    → IsCharBoundary text start → IsCharBoundary text end → start ≤ end → IfSome mend (IsCutOut text)
-cut_removed text true start end mend is starts ends ordered =
+pub cut_removed : (text : List ℕ) (condition : Bool) (start end : ℕ) (replacement : Option Replacement) → replacement ≡ removed_if condition start end
+    → IsCharBoundary text start → IsCharBoundary text end → start ≤ end → IfSome replacement (IsCutOut text)
+cut_removed text true start end replacement is starts ends ordered =
     rw is (record { starts = starts; ends = ends; ordered = ordered })
-cut_removed text false start end mend is starts ends ordered = rw is tt
+cut_removed text false start end replacement is starts ends ordered = rw is tt
 
-pub cut_named : (text : List ℕ) (start end : ℕ) (mend : Mend) → mend.start ≡ start → mend.end ≡ end
-    → IsCharBoundary text start → IsCharBoundary text end → start ≤ end → IsCutOut text mend
-cut_named text start end mend first last starts ends ordered =
+pub cut_named : (text : List ℕ) (start end : ℕ) (replacement : Replacement) → replacement.start ≡ start → replacement.end ≡ end
+    → IsCharBoundary text start → IsCharBoundary text end → start ≤ end → IsCutOut text replacement
+cut_named text start end replacement first last starts ends ordered =
     record { starts = rw first starts; ends = rw last ends; ordered = omega (arith, first, last, ordered) }
 
 pub cut_whole : (text : List ℕ) (start end : ℕ) → start ≤ end

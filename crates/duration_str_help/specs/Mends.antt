@@ -7,8 +7,8 @@ use Rattle.duration_str_units.specs.declared.cause.Cause.{Cause}
 use Rattle.duration_str_units.specs.declared.cause.Cause.TheVariants.{Syntax}
 use Rattle.duration_str_help.specs.declared.help.Help.{Help}
 use Rattle.duration_str_help.specs.declared.help.Help.TheVariants.{DidYouMean, Fraction, DigitsOnly, LeadingPlus, Iso8601, NoPoint, Zero}
-use Rattle.duration_str_help.specs.declared.suggestion.Mend.{Mend}
-use Rattle.duration_str_help.specs.declared.mended.Mended.{Mended}
+use Rattle.duration_str_help.specs.declared.suggestion.Replacement.{Replacement}
+use Rattle.duration_str_help.specs.declared.mend.Mend.{Mend}
 use Rattle.duration_str_help.specs.declared.suggestion.Suggestion.{Suggestion}
 use Rattle.duration_str_units.specs.declared.unit.TimeUnit.{TimeUnit}
 use Rattle.duration_str_units.specs.declared.unit.TimeUnit.TheVariants.{Second}
@@ -37,8 +37,8 @@ name_alone unit = record { count = None; unit = Some unit }
 abbrev pub nothing : Suggestion
 nothing = record { count = None; unit = None }
 
--- the mend that removes the bytes from `start` to `end`, if the condition is true
-abbrev pub removed_if : Bool → ℕ → ℕ → Option Mend
+-- the replacement that removes the bytes from `start` to `end`, if the condition is true
+abbrev pub removed_if : Bool → ℕ → ℕ → Option Replacement
 removed_if condition start end =
     if condition then Some (record { start = start; end = end; suggestion = nothing }) else None
 
@@ -63,19 +63,19 @@ unit_ahead r bytes =
     else if can_end_number r (drop blanks bytes) then option_map (λ u. (u, 0)) r.default_unit
     else None
 
--- The mend of a number with these digits before and after its point. It starts at byte `start`, its
--- digits end at byte `end`, and this is its unit, with the length of the blanks and the word that
--- name it
-abbrev pub fraction_with : Rules → Bytes → Bytes → ℕ → ℕ → Option (TimeUnit × ℕ) → Option Mend
+-- what to replace in a text that has a number with these digits before and after its point: it
+-- starts at byte `start`, its digits end at byte `end`, and this is its unit, with the length of the
+-- blanks and the word that name it
+abbrev pub fraction_with : Rules → Bytes → Bytes → ℕ → ℕ → Option (TimeUnit × ℕ) → Option Replacement
 fraction_with r whole decimals start end (Some (u, more)) =
     option_map (λ nanos. record { start = start; end = end + more; suggestion = as_term r.table u nanos })
     (nanos_of_fraction whole decimals (r.table u).nanos)
 fraction_with r whole decimals start end None = None
 
--- the mend of a number whose point is at byte `place`: one term in place of the number and its
--- unit. The digits directly before the point can be missing where a number can stand
-abbrev pub fraction_mend : Rules → Bytes → ℕ → Expected → Option Mend
-fraction_mend r text place expected =
+-- what to replace in a text with a point at byte `place`: one term goes in place of the number
+-- and its unit. The digits directly before the point can be missing where a number can stand
+abbrev pub fraction_replacement : Rules → Bytes → ℕ → Expected → Option Replacement
+fraction_replacement r text place expected =
     let whole = end_run is_digit (take place text) in
     let after = drop (place + 1) text in
     let decimals = take (prefix_len is_digit after) after in
@@ -89,33 +89,33 @@ abbrev pub ends_unit : Characters → Bool
 ends_unit [] = true
 ends_unit (c ∷ text) = not (is_letter c || is_digit c)
 
--- The mend for a help, if it has one that is certain, given the bytes of the piece at byte `place`.
-abbrev pub mend_for : Rules → Bytes → ℕ → Expected → Bytes → Option Help → Option Mend
-mend_for r text place expected piece (Some (DidYouMean unit)) =
+-- what to replace for a help, if that is certain, given the bytes of the piece at byte `place`
+abbrev pub replacement_for : Rules → Bytes → ℕ → Expected → Bytes → Option Help → Option Replacement
+replacement_for r text place expected piece (Some (DidYouMean unit)) =
     Some (record { start = place; end = place + length piece; suggestion = name_alone unit })
-mend_for r text place expected piece (Some Fraction) = fraction_mend r text place expected
-mend_for r text place expected piece (Some LeadingPlus) = removed_if true place (place + length piece)
-mend_for r text place expected piece (Some NoPoint) =
+replacement_for r text place expected piece (Some Fraction) = fraction_replacement r text place expected
+replacement_for r text place expected piece (Some LeadingPlus) = removed_if true place (place + length piece)
+replacement_for r text place expected piece (Some NoPoint) =
     removed_if (ends_unit (chars (drop (place + length piece) text))) place (place + length piece)
-mend_for r text place expected piece (Some DigitsOnly) =
+replacement_for r text place expected piece (Some DigitsOnly) =
     removed_if (bytes_eq piece (codes "_") || bytes_eq piece (codes "'")) place (place + length piece)
-mend_for r text place expected piece (Some Iso8601) =
+replacement_for r text place expected piece (Some Iso8601) =
     removed_if (length piece == 2 && not r.options.lowercase) place (place + length piece)
-mend_for r text place expected piece (Some Zero) =
+replacement_for r text place expected piece (Some Zero) =
     Some (record { start = place; end = place; suggestion = name_alone Second })
-mend_for r text place expected piece help = None
+replacement_for r text place expected piece help = None
 
--- the mend of the bytes of a text that is refused by these rules for this cause, if there is one
--- that is certain
-abbrev pub mend_of : Rules → Bytes → Cause → Option Mend
-mend_of r text (Syntax place expected) =
+-- what to replace in the bytes of a text that is refused by these rules for this cause,
+-- if that is certain
+abbrev pub replacement_of : Rules → Bytes → Cause → Option Replacement
+replacement_of r text (Syntax place expected) =
     let piece = first_piece (chars (drop place text)) in
-    mend_for r text place expected (encode_utf8_all piece) (syntax_help text place expected piece)
-mend_of r text cause = None
+    replacement_for r text place expected (encode_utf8_all piece) (syntax_help text place expected piece)
+replacement_of r text cause = None
 
--- what to write for that mend, if there is one
+-- what to write there, if anything is replaced
 abbrev pub suggestion_of : Rules → Bytes → Cause → Option Suggestion
-suggestion_of r text cause = option_map (λ mend. mend.suggestion) (mend_of r text cause)
+suggestion_of r text cause = option_map (λ replacement. replacement.suggestion) (replacement_of r text cause)
 
 -- The refused text is the front, the part that is replaced, and the rest. The mended text is the
 -- front, what is written instead, and the rest.
@@ -125,21 +125,21 @@ pub record Pieces : Type 0 where
   pub written : Bytes
   pub rest : Bytes
 
--- the pieces of a text with this mend
-abbrev pub pieces_of : Bytes → Mend → Pieces
-pieces_of text mend = record {
-  front = take mend.start text;
-  replaced = take (mend.end - mend.start) (drop mend.start text);
-  written = suggestion_text mend.suggestion;
-  rest = drop mend.end text;
+-- the pieces of a text in which this is replaced
+abbrev pub pieces_of : Bytes → Replacement → Pieces
+pieces_of text replacement = record {
+  front = take replacement.start text;
+  replaced = take (replacement.end - replacement.start) (drop replacement.start text);
+  written = suggestion_text replacement.suggestion;
+  rest = drop replacement.end text;
 }
 
 -- the pieces of a refused text and its mended text, if there is a mend that is certain
-abbrev pub mended_of : Rules → Bytes → Cause → Option Pieces
-mended_of r text cause = option_map (pieces_of text) (mend_of r text cause)
+abbrev pub mend_of : Rules → Bytes → Cause → Option Pieces
+mend_of r text cause = option_map (pieces_of text) (replacement_of r text cause)
 
 -- The result has these pieces, or is `None` if there are none.
-abbrev pub HasPieces : Option Pieces → Option Mended → Type 0
+abbrev pub HasPieces : Option Pieces → Option Mend → Type 0
 HasPieces pieces None = pieces ≡ None
 HasPieces pieces (Some new) =
     pieces ≡ Some (record {

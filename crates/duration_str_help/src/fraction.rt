@@ -6,13 +6,13 @@ ghost use Rattle.duration_str_help.specs.Fraction.{as_term, end_run, longest_who
 ghost use Rattle.duration_str_help.specs.Internal.Mends.{IsCutOut, offered_unit};
 ghost use Rattle.duration_str_units.specs.Internal.Numbers.{u64_from};
 ghost use Rattle.duration_str_units.specs.Meaning.{meaning_of, table_of};
-ghost use Rattle.duration_str_help.specs.Mends.{can_end_number, fraction_mend, meant_unit, unit_ahead};
+ghost use Rattle.duration_str_help.specs.Mends.{can_end_number, fraction_replacement, meant_unit, unit_ahead};
 ghost use Rattle.duration_str_help.specs.Help.{near_unit};
 ghost use Rattle.duration_str_units.specs.Rules.{unit_of_word};
 ghost use Rattle.duration_str_units.specs.Text.{is_blank, is_digit, number_of};
 
 use crate::help::{Help, found_at};
-use crate::suggestion::{Mend, Suggestion};
+use crate::suggestion::{Replacement, Suggestion};
 use duration_str_units::blank::is_blank;
 use duration_str_units::cause::Expected;
 use duration_str_units::operator::CondUnit;
@@ -22,10 +22,15 @@ use duration_str_units::slice::range_from;
 use duration_str_units::table::UnitTable;
 use duration_str_units::unit::{TimeUnit, UNITS};
 
-/// Returns the mend of the number whose point is at the place.
-pub fn fraction_mend(text: &str, place: usize, expected: Expected, rules: Rules) -> Option<Mend>
+/// Returns what to replace for the number whose point is at the place.
+pub fn fraction_replacement(
+    text: &str,
+    place: usize,
+    expected: Expected,
+    rules: Rules,
+) -> Option<Replacement>
     requires { IsCharBoundary text.now place }
-    ensures mend { result ≡ fraction_mend (meaning_of rules) text.now place expected }
+    ensures replacement { result ≡ fraction_replacement (meaning_of rules) text.now place expected }
     ensures cut { IfSome result (IsCutOut text.now) }
 {
     let bytes = text.as_bytes();
@@ -43,7 +48,7 @@ pub fn fraction_mend(text: &str, place: usize, expected: Expected, rules: Rules)
     let end = place + 1 + decimals.len();
     let (unit, more) = unit_ahead(range_from(text, end), rules)?;
     let nanos = nanos_of_fraction(whole, decimals, rules.table.nanos(unit))?;
-    Some(Mend {
+    Some(Replacement {
         start: place - whole.len(),
         end: end + more,
         suggestion: as_term(rules.table, unit, nanos),

@@ -113,7 +113,7 @@ pub struct Found<'a> {
 }
 
 /// Returns what stands at the place. It is not inline, so that the line, `Fault::help` and
-/// `Fault::mended` share one copy.
+/// `Fault::mend` share one copy.
 pub fn found_at(text: &str, place: usize, expected: Expected) -> Found<'_>
     requires { IsCharBoundary text.now place }
     ensures piece { chars result.piece.now ≡ first_piece (ahead text.now place) }

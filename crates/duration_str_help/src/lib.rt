@@ -5,5 +5,5 @@ pub mod buffer;
 pub mod characters;
 pub mod fraction;
 pub mod help;
-pub mod mended;
+pub mod mend;
 pub mod suggestion;

@@ -14,7 +14,7 @@ use Rattle.duration_str_refusals.specs.Faults.{found_token}
 use Rattle.duration_str_units.specs.Causes.{place_of}
 use Rattle.duration_str_units.specs.MoreNames.{more_rules}
 use Rattle.duration_str_help.specs.Help.{help_number, help_of}
-use Rattle.duration_str_help.specs.Mends.{mended_of, Pieces, suggestion_of}
+use Rattle.duration_str_help.specs.Mends.{mend_of, Pieces, suggestion_of}
 use Rattle.duration_str_reading.specs.Reading.{IsRefused}
 use Rattle.duration_str_refusals.specs.Report.{report_of}
 use Rattle.duration_str_units.specs.Rules.{Rules, rules_with}
@@ -117,8 +117,8 @@ refusal_of r o bytes cause = record {
   cause = cause_number cause;
   expected = expected_bits cause;
   help = number_of (help_of bytes cause);
-  start = start_number (mended_of r bytes cause);
-  length = length_of (mended_of r bytes cause);
+  start = start_number (mend_of r bytes cause);
+  length = length_of (mend_of r bytes cause);
   has_count = has_count (suggestion_of r bytes cause);
   unit = unit_number (suggestion_of r bytes cause);
 }

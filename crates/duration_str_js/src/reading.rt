@@ -5,7 +5,7 @@ ghost use Rattle.duration_str_refusals.specs.Faults.{found_token};
 ghost use Rattle.duration_str_units.specs.Causes.{place_of};
 ghost use Rattle.duration_str_units.specs.Meaning.{meaning_of};
 ghost use Rattle.duration_str_reading.specs.Reading.{IsRead};
-ghost use Rattle.duration_str_help.specs.Mends.{mended_of, suggestion_of};
+ghost use Rattle.duration_str_help.specs.Mends.{mend_of, suggestion_of};
 ghost use Rattle.duration_str_js.specs.Reading.{IsReported, bits_of, cause_number, count_of, default_unit_of_bits, expected_bits, has_count, length_of, number_of, options_of_bits, place_number, refusal_of, rules_of_bits, start_number, token_length, unit_number};
 
 use duration_str::{
@@ -134,18 +134,18 @@ fn refusal_of(fault: &Fault<'_>, rules: Rules, options: Options) -> Refusal
         ≡ refusal_of (meaning_of rules) options fault.now.text.now fault.now.cause }
 {
     let cause = fault.cause();
-    let mend = mend_of(fault, rules);
+    let replacement = replacement_of(fault, rules);
     Refusal {
-        count: count_of(mend.suggestion),
+        count: count_of(replacement.suggestion),
         place: place_number(fault),
         found_length: found_length(fault, options),
         cause: cause_number(cause),
         expected: expected_bits(cause),
         help: number_of(fault.help()),
-        start: mend.start,
-        length: mend.length,
-        has_count: has_count(mend.suggestion),
-        unit: unit_number(mend.suggestion),
+        start: replacement.start,
+        length: replacement.length,
+        has_count: has_count(replacement.suggestion),
+        unit: unit_number(replacement.suggestion),
     }
 }
 
@@ -172,28 +172,28 @@ fn found_length(fault: &Fault<'_>, options: Options) -> usize
 
 /// The part of a refused text to replace, and what to write instead.
 #[derive(Clone, Copy)]
-struct Mend {
+struct Replacement {
     start: isize,
     length: usize,
     suggestion: Option<Suggestion>,
 }
 
-fn mend_of(fault: &Fault<'_>, rules: Rules) -> Mend
+fn replacement_of(fault: &Fault<'_>, rules: Rules) -> Replacement
     ensures start { result.start
-        ≡ start_number (mended_of (meaning_of rules) fault.now.text.now fault.now.cause) }
+        ≡ start_number (mend_of (meaning_of rules) fault.now.text.now fault.now.cause) }
     ensures length { result.length
-        ≡ length_of (mended_of (meaning_of rules) fault.now.text.now fault.now.cause) }
+        ≡ length_of (mend_of (meaning_of rules) fault.now.text.now fault.now.cause) }
     ensures suggestion { result.suggestion
         ≡ suggestion_of (meaning_of rules) fault.now.text.now fault.now.cause }
 {
-    match fault.mended(rules) {
-        Some(mended) => Mend {
+    match fault.mend(rules) {
+        Some(mend) => Replacement {
             // No length exceeds `isize::MAX`.
-            start: mended.front.len() as isize,
-            length: mended.replaced.len(),
-            suggestion: Some(mended.suggestion),
+            start: mend.front.len() as isize,
+            length: mend.replaced.len(),
+            suggestion: Some(mend.suggestion),
         },
-        None => Mend {
+        None => Replacement {
             start: -1,
             length: 0,
             suggestion: None,

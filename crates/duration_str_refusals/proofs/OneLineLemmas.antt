@@ -4,11 +4,11 @@ use Rattle.std.proofs.lemmas.Bool.{le-leb, lt-leb}
 use Rattle.duration_str_refusals.specs.Messages.{chars_before}
 use Rattle.duration_str_help.specs.declared.help.Help.{Help}
 use Rattle.duration_str_help.specs.declared.help.Help.TheVariants.{DidYouMean, Fraction, MissingUnit, Zero}
-use Rattle.duration_str_help.specs.declared.suggestion.Mend.{Mend}
+use Rattle.duration_str_help.specs.declared.suggestion.Replacement.{Replacement}
 use Rattle.duration_str_help.specs.declared.suggestion.Suggestion.{Suggestion}
 use Rattle.duration_str_help.specs.Fraction.{as_term, longest_whole, Table, whole_quotient}
 use Rattle.duration_str_refusals.specs.OneLine.{at_column, expected_words, found_words, fraction_words, help_end, one_line_of, overflow_words, problem_at, text_problem}
-use Rattle.duration_str_help.specs.Mends.{fraction_mend, fraction_with, mend_for, suggestion_text}
+use Rattle.duration_str_help.specs.Mends.{fraction_replacement, fraction_with, replacement_for, suggestion_text}
 use Rattle.duration_str_help.specs.Help.{first_piece, help_at, is_like, is_unknown_unit, missing_unit_help, near_unit, overflow_help, syntax_help, unit_help}
 use Rattle.duration_str_help.specs.Quotes.{is_clear, is_plain, quoted, quoted_end, shown}
 use Rattle.std.specs.Char.Escape.{escape_default, escape_unicode, hex_digit_at, short_escape}
@@ -122,7 +122,7 @@ expected_short expected = search (chosen, literal) depth 20
 -- The words of a help have at most 52 bytes, whatever mend the line says. Only those of
 -- `MissingUnit` and of a fraction that has a mend have more.
 abbrev Fits : Option Help → Type 0
-Fits help = (mend : Option Mend) → IsShort 52 (help_end help mend)
+Fits help = (replacement : Option Replacement) → IsShort 52 (help_end help replacement)
 
 fits_chosen : (b : Bool) (first second : Option Help) → Fits first → Fits second → Fits (if b then first else second)
 fits_chosen b first second one other = search rules
@@ -133,13 +133,13 @@ at_fits : (expected : Expected) (text : List ℕ) (place : ℕ) (piece : List �
 at_fits expected text place piece other = rw other (search (fits_chosen, literal) depth 40)
 
 near_fits : (u : TimeUnit) → Fits (Some (DidYouMean u))
-near_fits u mend =
+near_fits u replacement =
     less (lit≤ tt) (joined (literal 16 (codes " (did you mean \"") refl) (joined (name_short u) (literal 3 (codes "\"?)") refl)))
 
 unit_help_fits : (near : Option TimeUnit) (help : Option Help) → Fits help → Fits (Some (unit_help near help))
 unit_help_fits (Some u) help fits = near_fits u
 unit_help_fits None (Some help) fits = fits
-unit_help_fits None None fits = λ mend. literal 52 _ refl
+unit_help_fits None None fits = λ replacement. literal 52 _ refl
 
 -- ---- What to write instead
 
@@ -155,17 +155,17 @@ term_short table u nanos small =
     words_short_with term (suggestion_short term (omega (arith, div-le_self nanos unit_nanos, below)))
 
 -- the words for a fraction have at most 56 bytes
-record Ends (mend : Option Mend) : Type 0 where
-  words : IsShort 56 (help_end (Some Fraction) mend)
+record Ends (replacement : Option Replacement) : Type 0 where
+  words : IsShort 56 (help_end (Some Fraction) replacement)
 
 ends_none : Ends None
 ends_none = record { words = literal 56 _ refl }
 
 module _ (r : Rules) (u : TimeUnit) (start end : ℕ) where
-  abbrev mend_at : ℕ → Mend
-  mend_at nanos = record { start = start; end = end; suggestion = as_term r.table u nanos }
+  abbrev replacement_at : ℕ → Replacement
+  replacement_at nanos = record { start = start; end = end; suggestion = as_term r.table u nanos }
 
-  quotient_ends : (m n : ℕ) → Ends (option_map mend_at (whole_quotient m n))
+  quotient_ends : (m n : ℕ) → Ends (option_map replacement_at (whole_quotient m n))
   quotient_ends m n = elim (cases_Bool (m % n == 0 && fits (m / n))) [
     | inl whole ↦
         let both = and_parts (m % n == 0) (fits (m / n)) whole in
@@ -173,9 +173,9 @@ module _ (r : Rules) (u : TimeUnit) (start end : ℕ) where
     | inr other ↦ rw other ends_none
   ]
 
-ends_unless : (b : Bool) (mend : Option Mend) → Ends mend → Ends (if b then None else mend)
-ends_unless true mend ends = ends_none
-ends_unless false mend ends = ends
+ends_unless : (b : Bool) (replacement : Option Replacement) → Ends replacement → Ends (if b then None else replacement)
+ends_unless true replacement ends = ends_none
+ends_unless false replacement ends = ends
 
 with_ends : (r : Rules) (whole decimals : List ℕ) (start end : ℕ) (unit : Option (TimeUnit × ℕ))
     → Ends (fraction_with r whole decimals start end unit)
@@ -183,7 +183,7 @@ with_ends r whole decimals start end (Some (u, more)) =
     quotient_ends r u start (end + more) (number_of (whole ++ decimals) * (r.table u).nanos) (10 ^ length decimals)
 with_ends r whole decimals start end None = ends_none
 
-fraction_ends : (r : Rules) (text : List ℕ) (place : ℕ) (expected : Expected) → Ends (fraction_mend r text place expected)
+fraction_ends : (r : Rules) (text : List ℕ) (place : ℕ) (expected : Expected) → Ends (fraction_replacement r text place expected)
 fraction_ends r text place expected = search (ends_unless, with_ends)
 
 -- ---- The line
@@ -202,31 +202,31 @@ unit_alone : (expected : Expected) → (expected.unit_word && not (expected.oper
     → expected_words expected ≡ codes "expected a unit"
 unit_alone expected only = grind (arith, common_steps)
 
-missing_short : (text : List ℕ) (mend : Option Mend)
-    → IsShort 68 (help_end (if list_all (λ b. b == 48 || is_blank b) text then Some Zero else Some MissingUnit) mend)
-missing_short text mend = elim (cases_Bool (list_all (λ b. b == 48 || is_blank b) text)) [
+missing_short : (text : List ℕ) (replacement : Option Replacement)
+    → IsShort 68 (help_end (if list_all (λ b. b == 48 || is_blank b) text then Some Zero else Some MissingUnit) replacement)
+missing_short text replacement = elim (cases_Bool (list_all (λ b. b == 48 || is_blank b) text)) [
   | inl zeros ↦ rw zeros (literal 68 _ refl)
   | inr some ↦ rw some (literal 68 _ refl)
 ]
 
 -- The words of `MissingUnit` stand only after the shortest of the words that say what was expected,
 -- so the line is no longer than with the longest of those words and another help.
-words_short : (expected : Expected) (text : List ℕ) (help : Option Help) (mend : Option Mend) {column found : List ℕ}
+words_short : (expected : Expected) (text : List ℕ) (help : Option Help) (replacement : Option Replacement) {column found : List ℕ}
     → IsShort 31 column → IsShort 173 found → Fits help
-    → IsShort 294 ((expected_words expected ++ (column ++ found)) ++ help_end (missing_unit_help expected text help) mend)
-words_short expected text (Some help) mend column found fits =
-    found_line_short (expected_short expected) column found (fits mend) (lit≤ tt)
-words_short expected text None mend column found fits =
+    → IsShort 294 ((expected_words expected ++ (column ++ found)) ++ help_end (missing_unit_help expected text help) replacement)
+words_short expected text (Some help) replacement column found fits =
+    found_line_short (expected_short expected) column found (fits replacement) (lit≤ tt)
+words_short expected text None replacement column found fits =
     elim (cases_Bool (expected.unit_word && not (expected.operator || expected.text_end))) [
       | inl missing ↦
           rw (missing, unit_alone expected missing)
-          (found_line_short (literal 15 (codes "expected a unit") refl) column found (missing_short text mend) (lit≤ tt))
-      | inr other ↦ rw other (found_line_short (expected_short expected) column found (fits mend) (lit≤ tt))
+          (found_line_short (literal 15 (codes "expected a unit") refl) column found (missing_short text replacement) (lit≤ tt))
+      | inr other ↦ rw other (found_line_short (expected_short expected) column found (fits replacement) (lit≤ tt))
     ]
 
 -- Whatever the help, its words have at most 68 bytes.
 end_short : (r : Rules) (text : List ℕ) (place : ℕ) (expected : Expected) (piece : List ℕ) (help : Option Help)
-    → IsShort 68 (help_end help (mend_for r text place expected piece help))
+    → IsShort 68 (help_end help (replacement_for r text place expected piece help))
 end_short r text place expected piece None = literal 68 _ refl
 end_short r text place expected piece (Some (DidYouMean unit)) = less (lit≤ tt) (near_fits unit None)
 end_short r text place expected piece (Some Fraction) = less (lit≤ tt) (fraction_ends r text place expected).words
@@ -250,7 +250,7 @@ found_point = literal 11 _ refl
 point_short : (r : Rules) (text : List ℕ) (place : ℕ) (expected : Expected) (column : ℕ) (piece : List ℕ)
     → IsShort 31 (at_column column) → piece ≡ codes "."
     → IsShort 294 (problem_at column expected piece ++ help_end (syntax_help text place expected piece)
-    (mend_for r text place expected (encode_utf8_all piece) (syntax_help text place expected piece)))
+    (replacement_for r text place expected (encode_utf8_all piece) (syntax_help text place expected piece)))
 point_short r text place expected column piece at is =
     let known : is_unknown_unit expected (codes ".") ≡ false = search rules in
     let point = encode_utf8_all (codes ".") in

@@ -4,7 +4,7 @@ use Rattle.std.specs.Prelude.{◌≡◌, Option, None, Some}
 use Rattle.std.proofs.Common.{refl}
 use Rattle.duration_str_refusals.specs.Errors.{IsErrorOf}
 use Rattle.duration_str_help.specs.Mends.{HasPieces, Pieces, suggestion_text}
-use Rattle.duration_str_help.specs.declared.mended.Mended.{Mended}
+use Rattle.duration_str_help.specs.declared.mend.Mend.{Mend}
 use Rattle.duration_str_units.specs.declared.cause.Cause.TheVariants.{Overflow}
 use Rattle.duration_str_refusals.specs.declared.error.DError.TheVariants.{OverflowError}
 
@@ -14,7 +14,7 @@ overflow_has_no_line = refl
 pub no_pieces : (pieces : Option Pieces) → HasPieces pieces None → pieces ≡ None
 no_pieces pieces is = is
 
-pub has_these_pieces : (pieces : Option Pieces) (new : Mended) → HasPieces pieces (Some new)
+pub has_these_pieces : (pieces : Option Pieces) (new : Mend) → HasPieces pieces (Some new)
     → pieces ≡ Some (record {
       front = new.front.now;
       replaced = new.replaced.now;

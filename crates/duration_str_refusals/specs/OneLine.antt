@@ -7,7 +7,7 @@ use Rattle.duration_str_units.specs.declared.cause.Cause.{Cause}
 use Rattle.duration_str_units.specs.declared.cause.Cause.TheVariants.{Empty, Syntax, NumberTooLarge, Overflow, Mixed}
 use Rattle.duration_str_help.specs.declared.help.Help.{Help}
 use Rattle.duration_str_help.specs.declared.help.Help.TheVariants.{Fraction}
-use Rattle.duration_str_help.specs.declared.suggestion.Mend.{Mend}
+use Rattle.duration_str_help.specs.declared.suggestion.Replacement.{Replacement}
 use Rattle.duration_str_help.specs.declared.suggestion.Suggestion.{Suggestion}
 use Rattle.duration_str_units.specs.Text.{Bytes, Characters}
 use Rattle.duration_str_units.specs.Rules.{Rules}
@@ -15,7 +15,7 @@ use Rattle.duration_str_units.specs.Causes.{line_of}
 use Rattle.duration_str_refusals.specs.Messages.{chars_before}
 use Rattle.duration_str_help.specs.Quotes.{quoted}
 use Rattle.duration_str_help.specs.Help.{first_piece, help_words, is_unknown_unit, help_of}
-use Rattle.duration_str_help.specs.Mends.{suggestion_text, mend_of}
+use Rattle.duration_str_help.specs.Mends.{suggestion_text, replacement_of}
 
 -- ---- The words of a help
 
@@ -24,10 +24,10 @@ abbrev pub fraction_words : Suggestion → Bytes
 fraction_words suggestion = codes " (fractions are not read: write " ++ (suggestion_text suggestion ++ codes ")")
 
 -- the end of a line: the words of its help, if any. Those of a fraction say its mend, if it has one
-abbrev pub help_end : Option Help → Option Mend → Bytes
-help_end (Some Fraction) (Some mend) = fraction_words mend.suggestion
-help_end (Some help) mend = help_words help
-help_end None mend = []
+abbrev pub help_end : Option Help → Option Replacement → Bytes
+help_end (Some Fraction) (Some replacement) = fraction_words replacement.suggestion
+help_end (Some help) replacement = help_words help
+help_end None replacement = []
 
 -- ---- The line
 
@@ -82,4 +82,4 @@ problem_of text cause = encode_utf8_all (line_of cause)
 -- the bytes of the line of a text that is refused by these rules: what is wrong, and the help, if
 -- any
 abbrev pub one_line_of : Rules → Bytes → Cause → Bytes
-one_line_of r text cause = problem_of text cause ++ help_end (help_of text cause) (mend_of r text cause)
+one_line_of r text cause = problem_of text cause ++ help_end (help_of text cause) (replacement_of r text cause)

@@ -5,14 +5,14 @@ ghost use Rattle.std.specs.Str.{IsCharBoundary, chars};
 ghost use Rattle.duration_str_refusals.specs.Faults.{IsSliceOf, found_token, token_at};
 ghost use Rattle.duration_str_help.specs.Help.{help_of};
 ghost use Rattle.duration_str_help.specs.Internal.Mends.{IsCutOut};
-ghost use Rattle.duration_str_help.specs.Mends.{HasPieces, mend_of, mended_of, suggestion_of};
+ghost use Rattle.duration_str_help.specs.Mends.{HasPieces, replacement_of, mend_of, suggestion_of};
 ghost use Rattle.duration_str_units.specs.Causes.{place_of};
 ghost use Rattle.duration_str_units.specs.Meaning.{meaning_of};
 ghost use Rattle.duration_str_reading.specs.Iteration.{tokens_left, source};
 
 use duration_str_help::help::{Help, found_at, overflow_help};
-use duration_str_help::mended::{Mended, cut_out, mend_for};
-use duration_str_help::suggestion::Mend;
+use duration_str_help::mend::{Mend, cut_out, replacement_for};
+use duration_str_help::suggestion::Replacement;
 use duration_str_reading::token::Tokens;
 use duration_str_units::cause::Cause;
 use duration_str_units::options::Options;
@@ -133,35 +133,35 @@ impl<'a> Fault<'a> {
     ///
     /// ```text
     /// let rules = Rules::of(Options::off());
-    /// let mended = parse_by("1.5h 5x", rules).unwrap_err().mended(rules).unwrap();
-    /// mended.front      // ""
-    /// mended.replaced   // "1.5h"
-    /// mended.suggestion // 90 and the minute
-    /// mended.rest       // " 5x"
+    /// let mend = parse_by("1.5h 5x", rules).unwrap_err().mend(rules).unwrap();
+    /// mend.front      // ""
+    /// mend.replaced   // "1.5h"
+    /// mend.suggestion // 90 and the minute
+    /// mend.rest       // " 5x"
     /// ```
     #[must_use]
-    pub fn mended(&self, rules: Rules) -> Option<Mended<'a>>
+    pub fn mend(&self, rules: Rules) -> Option<Mend<'a>>
         ensures pieces { HasPieces
-            (mended_of (meaning_of rules) self.now.text.now self.now.cause) result }
+            (mend_of (meaning_of rules) self.now.text.now self.now.cause) result }
         ensures suggestion { option_map (λ new. new.suggestion) result
             ≡ suggestion_of (meaning_of rules) self.now.text.now self.now.cause }
         ensures whole { IfSome result (λ new.
             self.now.text.now ≡ new.front.now ++ (new.replaced.now ++ new.rest.now)) }
     {
-        let mend = mend_of(self, rules)?;
-        Some(cut_out(self.text, mend))
+        let replacement = replacement_of(self, rules)?;
+        Some(cut_out(self.text, replacement))
     }
 }
 
-fn mend_of(fault: &Fault<'_>, rules: Rules) -> Option<Mend>
-    ensures mend { result ≡ mend_of (meaning_of rules) fault.now.text.now fault.now.cause }
+fn replacement_of(fault: &Fault<'_>, rules: Rules) -> Option<Replacement>
+    ensures replacement { result ≡ replacement_of (meaning_of rules) fault.now.text.now fault.now.cause }
     ensures cut { IfSome result (IsCutOut fault.now.text.now) }
 {
     let Cause::Syntax { place, expected } = fault.cause else {
         return None;
     };
     let found = found_at(fault.text, place, expected);
-    mend_for(fault.text, place, expected, &found, rules)
+    replacement_for(fault.text, place, expected, &found, rules)
 }
 
 fn last_boundary(text: &str, mut place: usize) -> usize

@@ -21,7 +21,7 @@ ghost use Rattle.duration_str_refusals.specs.OneLine.{one_line_of, at_column, fo
 ghost use Rattle.duration_str_help.specs.Help.{help_words};
 ghost use Rattle.duration_str_help.specs.Quotes.{is_plain, is_clear, shown, quoted};
 ghost use Rattle.duration_str_help.specs.Help.{first_piece, is_unknown_unit, overflow_help, syntax_help};
-ghost use Rattle.duration_str_help.specs.Mends.{mend_of};
+ghost use Rattle.duration_str_help.specs.Mends.{replacement_of};
 ghost use Rattle.duration_str_units.specs.Meaning.{meaning_of};
 ghost use Rattle.duration_str_units.specs.declared.cause.Cause.TheVariants.{Syntax};
 ghost use Rattle.duration_str_refusals.specs.declared.one_line.TheConstants.{MAX_ONE_LINE_LEN};
@@ -30,7 +30,7 @@ use crate::fault::Fault;
 use crate::message::chars_before;
 use duration_str_help::buffer::{put, put_decimal};
 use duration_str_help::characters::is_clear;
-use duration_str_help::fraction::fraction_mend;
+use duration_str_help::fraction::fraction_replacement;
 use duration_str_help::help::{Found, Help, MOST_SHOWN, found_at, help_words, overflow_help};
 use duration_str_help::suggestion::{Suggestion, put_suggestion};
 use duration_str_units::cause::{Cause, Expected};
@@ -111,7 +111,7 @@ fn put_syntax(
     ensures { IsInFront (problem_at (chars_before text.now place + 1) expected
         (first_piece (ahead text.now place))
         ++ help_end (syntax_help text.now place expected (first_piece (ahead text.now place)))
-        (mend_of (meaning_of rules) text.now (Syntax place expected)))
+        (replacement_of (meaning_of rules) text.now (Syntax place expected)))
         result buffer.new }
 {
     let found = found_at(text, place, expected);
@@ -119,8 +119,8 @@ fn put_syntax(
     if found.help != Some(Help::Fraction) {
         return put_help(buffer, end, found.help);
     }
-    match fraction_mend(text, place, expected, rules) {
-        Some(mend) => put_fraction_words(buffer, end, mend.suggestion),
+    match fraction_replacement(text, place, expected, rules) {
+        Some(replacement) => put_fraction_words(buffer, end, replacement.suggestion),
         None => put_help(buffer, end, found.help),
     }
 }

@@ -6,12 +6,12 @@ use Rattle.std.specs.Result.{result_ok}
 use Rattle.duration_str.specs.Results.{Parses}
 use Rattle.uses.specs.Common.{as_nanos, Duration, Fault}
 use Rattle.uses.proofs.Common.{Cause, Expected, Syntax}
-use Rattle.duration_str_help.specs.declared.mended.Mended.{Mended}
+use Rattle.duration_str_help.specs.declared.mend.Mend.{Mend}
 use Rattle.duration_str_units.specs.declared.rules.Rules.{Rules as CodeRules}
 use Rattle.duration_str_units.specs.Meaning.{meaning_of}
 use Rattle.duration_str_units.specs.declared.unit.TimeUnit.{TimeUnit}
 use Rattle.duration_str.specs.Mended.{IsFraction, MendedFractions, MendedTexts}
-use Rattle.duration_str_help.specs.Mends.{HasPieces, mended_of, suggestion_text}
+use Rattle.duration_str_help.specs.Mends.{HasPieces, mend_of, suggestion_text}
 
 refused_at : (r : Rules) (at : ℕ) (front rest : List Terminal) (cause : Cause) (place : ℕ) (expected : Expected)
     → IsRefusedAt r at front rest cause → cause ≡ Syntax place expected → CanFollow r front expected
@@ -36,8 +36,8 @@ one_kind law r (c ∷ cs) place expected (front, rest, is_front, refused) =
     let can = refused_at r _ front rest _ place expected refused refl in
     rw ((law.kinds r front expected is_front.begins).0 can) (one_after r (last_of None front))
 
-pub offered_past : MendedTexts → (s : CodeRules) (text : List ℕ) (cause : Cause) (offer : Option Mended) → IsUtf8 text
-    → IsRefused (meaning_of s) (chars text) cause → HasPieces (mended_of (meaning_of s) text cause) offer
+pub offered_past : MendedTexts → (s : CodeRules) (text : List ℕ) (cause : Cause) (offer : Option Mend) → IsUtf8 text
+    → IsRefused (meaning_of s) (chars text) cause → HasPieces (mend_of (meaning_of s) text cause) offer
     → IfSome offer (λ new. (place : ℕ) (expected : Expected)
     → IsRefused (meaning_of s) (chars (new.front.now ++ (suggestion_text new.suggestion ++ new.rest.now))) (Syntax place expected)
     → length new.front.now + length (suggestion_text new.suggestion) ≤ place)
@@ -51,8 +51,8 @@ alone (c ∷ front) written rest no_front no_rest = absurd (omega (arith, no_fro
 
 -- The value of what is written in place of the whole text, times 10 for each digit after the point.
 pub fraction_exact : MendedFractions → OneReading → (s : CodeRules) (text whole decimals : List ℕ) (unit : TimeUnit)
-    (cause : Cause) (new : Mended) (nanos : ℕ) → IsUtf8 text → IsFraction s text whole decimals unit
-    → IsRefused (meaning_of s) (chars text) cause → HasPieces (mended_of (meaning_of s) text cause) (Some new)
+    (cause : Cause) (new : Mend) (nanos : ℕ) → IsUtf8 text → IsFraction s text whole decimals unit
+    → IsRefused (meaning_of s) (chars text) cause → HasPieces (mend_of (meaning_of s) text cause) (Some new)
     → length new.front.now ≡ 0 → length new.rest.now ≡ 0
     → IsRead (meaning_of s) (chars (suggestion_text new.suggestion)) nanos
     → nanos * 10 ^ length decimals ≡ number_of (whole ++ decimals) * ((meaning_of s).table unit).nanos
@@ -62,9 +62,9 @@ fraction_exact law reading s text whole decimals unit cause new nanos utf8 fract
     let same : nanos ≡ value = reading.one_value (meaning_of s) _ nanos value read (rw text at own) in
     rw same exact
 
-pub taken_exact : MendedFractions → OneReading → (s : CodeRules) (text written : List ℕ) (cause : Cause) (new : Mended)
+pub taken_exact : MendedFractions → OneReading → (s : CodeRules) (text written : List ℕ) (cause : Cause) (new : Mend)
     (result : Result Duration Fault) (taken : Option Duration) → IsUtf8 text → IsRefused (meaning_of s) (chars text) cause
-    → HasPieces (mended_of (meaning_of s) text cause) (Some new) → (length new.front.now == 0) ≡ true
+    → HasPieces (mend_of (meaning_of s) text cause) (Some new) → (length new.front.now == 0) ≡ true
     → (length new.rest.now == 0) ≡ true → written ≡ suggestion_text new.suggestion → Parses (meaning_of s) written result
     → taken ≡ result_ok result
     → IfSome taken (λ d. (whole : List ℕ) (decimals : List ℕ) (unit : TimeUnit) → IsFraction s text whole decimals unit

@@ -9,7 +9,7 @@ ghost use Rattle.duration_str_help.specs.Mends.{suggestion_text};
 ghost use Rattle.duration_str_units.specs.Text.{number_of};
 
 use duration_str::laws::{mended_fractions, mended_texts, one_sentence, place_and_kinds};
-use duration_str::{Cause, Mended, Rules, SUGGESTION_BUFFER_SIZE, parse_by};
+use duration_str::{Cause, Mend, Rules, SUGGESTION_BUFFER_SIZE, parse_by};
 use std::time::Duration;
 
 /// Returns whether a text has a syntax fault at its end, so that a prompt should wait for more.
@@ -66,7 +66,7 @@ pub fn needs_letters(text: &str, rules: Rules) -> Option<bool>
 /// offered("5 mins 3x", Rules::of(Options::off())) // `5 `, `min` and ` 3x`
 /// offered("1.5h 3x", Rules::of(Options::off()))   // ``, `90min` and ` 3x`
 /// ```
-pub fn offered(text: &str, rules: Rules) -> Option<Mended<'_>>
+pub fn offered(text: &str, rules: Rules) -> Option<Mend<'_>>
     ensures { IfSome result (λ new. (place : ℕ) (expected : Kinds)
         → IsRefused (meaning_of rules)
         (chars (new.front.now ++ (suggestion_text new.suggestion ++ new.rest.now)))
@@ -76,7 +76,7 @@ pub fn offered(text: &str, rules: Rules) -> Option<Mended<'_>>
     mended_texts();
     match parse_by(text, rules) {
         Ok(_) => None,
-        Err(fault) => fault.mended(rules),
+        Err(fault) => fault.mend(rules),
     }
 }
 
@@ -101,7 +101,7 @@ pub fn taken_for(text: &str, rules: Rules) -> Option<Duration>
     match parse_by(text, rules) {
         Ok(_) => None,
         Err(fault) => {
-            let new = fault.mended(rules)?;
+            let new = fault.mend(rules)?;
             if !new.front.is_empty() || !new.rest.is_empty() {
                 return None;
             }

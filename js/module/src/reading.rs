@@ -113,18 +113,18 @@ fn default_unit_of_bits(bits: u32) -> Option<TimeUnit> {
 
 fn refusal_of(fault: &Fault<'_>, rules: Rules, options: Options) -> Refusal {
     let cause = fault.cause();
-    let mend = mend_of(fault, rules);
+    let replacement = replacement_of(fault, rules);
     Refusal {
-        count: count_of(mend.suggestion),
+        count: count_of(replacement.suggestion),
         place: place_number(fault),
         found_length: found_length(fault, options),
         cause: cause_number(cause),
         expected: expected_bits(cause),
         help: number_of(fault.help()),
-        start: mend.start,
-        length: mend.length,
-        has_count: has_count(mend.suggestion),
-        unit: unit_number(mend.suggestion),
+        start: replacement.start,
+        length: replacement.length,
+        has_count: has_count(replacement.suggestion),
+        unit: unit_number(replacement.suggestion),
     }
 }
 
@@ -146,21 +146,21 @@ fn found_length(fault: &Fault<'_>, options: Options) -> usize {
 
 /// The part of a refused text to replace, and what to write instead.
 #[derive(Clone, Copy)]
-struct Mend {
+struct Replacement {
     start: isize,
     length: usize,
     suggestion: Option<Suggestion>,
 }
 
-fn mend_of(fault: &Fault<'_>, rules: Rules) -> Mend {
-    match fault.mended(rules) {
-        Some(mended) => Mend {
+fn replacement_of(fault: &Fault<'_>, rules: Rules) -> Replacement {
+    match fault.mend(rules) {
+        Some(mend) => Replacement {
             // No length exceeds `isize::MAX`.
-            start: mended.front.len() as isize,
-            length: mended.replaced.len(),
-            suggestion: Some(mended.suggestion),
+            start: mend.front.len() as isize,
+            length: mend.replaced.len(),
+            suggestion: Some(mend.suggestion),
         },
-        None => Mend {
+        None => Replacement {
             start: -1,
             length: 0,
             suggestion: None,

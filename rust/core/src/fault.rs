@@ -2,8 +2,8 @@
 //! A refused text with its cause, and the token at the place of a syntax fault.
 
 use crate::help::{Help, found_at, overflow_help};
-use crate::mended::{Mended, cut_out, mend_for};
-use crate::suggestion::Mend;
+use crate::mend::{Mend, cut_out, replacement_for};
+use crate::suggestion::Replacement;
 use crate::token::Tokens;
 use crate::cause::Cause;
 use crate::options::Options;
@@ -111,25 +111,25 @@ impl<'a> Fault<'a> {
     ///
     /// ```text
     /// let rules = Rules::of(Options::off());
-    /// let mended = parse_by("1.5h 5x", rules).unwrap_err().mended(rules).unwrap();
-    /// mended.front      // ""
-    /// mended.replaced   // "1.5h"
-    /// mended.suggestion // 90 and the minute
-    /// mended.rest       // " 5x"
+    /// let mend = parse_by("1.5h 5x", rules).unwrap_err().mend(rules).unwrap();
+    /// mend.front      // ""
+    /// mend.replaced   // "1.5h"
+    /// mend.suggestion // 90 and the minute
+    /// mend.rest       // " 5x"
     /// ```
     #[must_use]
-    pub fn mended(&self, rules: Rules) -> Option<Mended<'a>> {
-        let mend = mend_of(self, rules)?;
-        Some(cut_out(self.text, mend))
+    pub fn mend(&self, rules: Rules) -> Option<Mend<'a>> {
+        let replacement = replacement_of(self, rules)?;
+        Some(cut_out(self.text, replacement))
     }
 }
 
-fn mend_of(fault: &Fault<'_>, rules: Rules) -> Option<Mend> {
+fn replacement_of(fault: &Fault<'_>, rules: Rules) -> Option<Replacement> {
     let Cause::Syntax { place, expected } = fault.cause else {
         return None;
     };
     let found = found_at(fault.text, place, expected);
-    mend_for(fault.text, place, expected, &found, rules)
+    replacement_for(fault.text, place, expected, &found, rules)
 }
 
 fn last_boundary(text: &str, mut place: usize) -> usize {

@@ -2,7 +2,7 @@
 //! The term to write instead of a number with a fraction, such as `90min` for `1.5h`.
 
 use crate::help::{Help, found_at};
-use crate::suggestion::{Mend, Suggestion};
+use crate::suggestion::{Replacement, Suggestion};
 use crate::blank::is_blank;
 use crate::cause::Expected;
 use crate::operator::CondUnit;
@@ -12,8 +12,13 @@ use crate::slice::range_from;
 use crate::table::UnitTable;
 use crate::unit::{TimeUnit, UNITS};
 
-/// Returns the mend of the number whose point is at the place.
-pub(crate) fn fraction_mend(text: &str, place: usize, expected: Expected, rules: Rules) -> Option<Mend> {
+/// Returns what to replace for the number whose point is at the place.
+pub(crate) fn fraction_replacement(
+    text: &str,
+    place: usize,
+    expected: Expected,
+    rules: Rules,
+) -> Option<Replacement> {
     let bytes = text.as_bytes();
     let whole = last_digits(&bytes[..place]);
     if whole.is_empty() && !expected.number {
@@ -29,7 +34,7 @@ pub(crate) fn fraction_mend(text: &str, place: usize, expected: Expected, rules:
     let end = place + 1 + decimals.len();
     let (unit, more) = unit_ahead(range_from(text, end), rules)?;
     let nanos = nanos_of_fraction(whole, decimals, rules.table.nanos(unit))?;
-    Some(Mend {
+    Some(Replacement {
         start: place - whole.len(),
         end: end + more,
         suggestion: as_term(rules.table, unit, nanos),

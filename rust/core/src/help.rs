@@ -104,7 +104,7 @@ pub(crate) struct Found<'a> {
 }
 
 /// Returns what stands at the place. It is not inline, so that the line, `Fault::help` and
-/// `Fault::mended` share one copy.
+/// `Fault::mend` share one copy.
 pub(crate) fn found_at(text: &str, place: usize, expected: Expected) -> Found<'_> {
     let piece = first_piece(range_from(text, place));
     let is_unknown_unit = is_unknown_unit(expected, piece);

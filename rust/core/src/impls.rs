@@ -4,7 +4,7 @@ use super::breakdown::Breakdown;
 use super::cause::Cause;
 use super::fault::Fault;
 use super::format::{Format, Style};
-use super::mended::Mended;
+use super::mend::Mend;
 use super::options::Options;
 use super::rules::Rules;
 use super::suggestion::{SUGGESTION_BUFFER_SIZE, Suggestion};
@@ -156,7 +156,7 @@ impl fmt::Display for Suggestion {
 }
 
 /// Prints the mended text.
-impl fmt::Display for Mended<'_> {
+impl fmt::Display for Mend<'_> {
     fn fmt(&self, f: &mut fmt::Formatter<'_>) -> fmt::Result {
         let mut buffer = [0; SUGGESTION_BUFFER_SIZE];
         [self.front, self.suggestion.write(&mut buffer), self.rest]

@@ -30,7 +30,7 @@ mod help;
 #[forbid(unsafe_code)]
 mod humantime;
 #[forbid(unsafe_code)]
-mod mended;
+mod mend;
 #[allow(unsafe_code)] // Blocks: 1.
 mod message;
 #[forbid(unsafe_code)]
@@ -67,7 +67,7 @@ mod token;
 mod unit;
 
 pub use self::help::Help;
-pub use self::mended::Mended;
+pub use self::mend::Mend;
 pub use self::suggestion::{MAX_SUGGESTION_LEN, SUGGESTION_BUFFER_SIZE, Suggestion};
 pub use self::breakdown::Breakdown;
 pub use self::format::{Format, Style, Units};

@@ -10,7 +10,7 @@ use crate::fault::Fault;
 use crate::message::chars_before;
 use crate::buffer::{put, put_decimal};
 use crate::characters::is_clear;
-use crate::fraction::fraction_mend;
+use crate::fraction::fraction_replacement;
 use crate::help::{Found, Help, MOST_SHOWN, found_at, help_words, overflow_help};
 use crate::suggestion::{Suggestion, put_suggestion};
 use crate::cause::{Cause, Expected};
@@ -84,8 +84,8 @@ fn put_syntax(
     if found.help != Some(Help::Fraction) {
         return put_help(buffer, end, found.help);
     }
-    match fraction_mend(text, place, expected, rules) {
-        Some(mend) => put_fraction_words(buffer, end, mend.suggestion),
+    match fraction_replacement(text, place, expected, rules) {
+        Some(replacement) => put_fraction_words(buffer, end, replacement.suggestion),
         None => put_help(buffer, end, found.help),
     }
 }

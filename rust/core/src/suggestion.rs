@@ -17,9 +17,9 @@ pub const SUGGESTION_BUFFER_SIZE: usize = 24;
 /// ```
 /// use duration_str::{Options, Suggestion, TimeUnit, parse_with};
 ///
-/// let mended = parse_with("1.5h", Options::off()).unwrap_err().mended().unwrap();
+/// let mend = parse_with("1.5h", Options::off()).unwrap_err().mend().unwrap();
 /// let ninety_minutes = Suggestion { count: Some(90), unit: Some(TimeUnit::Minute) };
-/// assert_eq!(mended.suggestion, ninety_minutes);
+/// assert_eq!(mend.suggestion, ninety_minutes);
 /// ```
 #[derive(Clone, Copy, Debug, PartialEq, Eq, Hash)]
 pub struct Suggestion {
@@ -79,7 +79,7 @@ pub(crate) fn put_suggestion(buffer: &mut [u8], at: usize, suggestion: Suggestio
 
 /// What is replaced, from byte `start` to byte `end` of a text, and what is written instead.
 #[derive(Clone, Copy)]
-pub(crate) struct Mend {
+pub(crate) struct Replacement {
     pub(crate) start: usize,
     pub(crate) end: usize,
     pub(crate) suggestion: Suggestion,

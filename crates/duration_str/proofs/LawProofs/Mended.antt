@@ -2,11 +2,11 @@
 use Rattle.duration_str.proofs.Common.{[], add-zero, ahead, and_parts, arith, chars, chars-nil, drop, Empty, encode_utf8_all, encodes-chars, Expected, false, is_ascii_alphabetic, is_blank, IsRefused, IsUtf8, length, List, list_all, list_all-append, meaning_of, Mixed, nat_tests, None, NotText, NumberTooLarge, Option, option_map, OutOfRange, Overflow, refl, scalars-chars, Second, Some, sym, Syntax, take, take-append-drop, true, ℕ, ◌+◌, ◌==◌, ◌||◌, ◌∙◌, ◌∷◌, ◌≡◌, ◌≤◌}
 use Rattle.duration_str_help.specs.declared.help.Help.{Help}
 use Rattle.duration_str_help.specs.declared.help.Help.TheVariants.{DidYouMean, DigitsOnly, Fraction, Iso8601, LeadingPlus, NoPoint, Zero}
-use Rattle.duration_str_help.specs.declared.suggestion.Mend.{Mend}
+use Rattle.duration_str_help.specs.declared.suggestion.Replacement.{Replacement}
 use Rattle.duration_str_units.specs.declared.rules.Rules.{Rules as CodeRules}
 use Rattle.duration_str.specs.Mended.{mended_text, MendedTexts}
 use Rattle.duration_str_help.specs.Help.{begins_with_letter, first_piece, syntax_help}
-use Rattle.duration_str_help.specs.Mends.{mend_for, name_alone, Pieces, pieces_of}
+use Rattle.duration_str_help.specs.Mends.{replacement_for, name_alone, Pieces, pieces_of}
 use Rattle.duration_str_help.proofs.MendedHelp.{Reason, reason}
 use Rattle.duration_str.proofs.LawProofs.MendedPlaces.{after_place, apart_at_point, apart_at_start, IsPlaced, joined_by, Keeps, name_written, placed, removed_by}
 use Rattle.duration_str_help.proofs.MendedBytes.{first_char, is_small, plain_no_letter}
@@ -35,10 +35,10 @@ zeros_end text place utf8 zeros = by (drop place text) utf8 rest
         let plain : is_ascii_alphabetic b ≡ false = grind (arith, nat_tests) in
         rw ((first_char b bytes small utf8).0, plain_no_letter b small plain) refl
 
-keeps : (s : CodeRules) (text : List ℕ) (place : ℕ) (expected : Expected) (mend : Mend) (help : Option Help)
+keeps : (s : CodeRules) (text : List ℕ) (place : ℕ) (expected : Expected) (replacement : Replacement) (help : Option Help)
     → IsPlaced s text place expected → Reason text place expected (first_piece (ahead text place)) help
-    → mend_for (meaning_of s) text place expected (bytes_at text place) help ≡ Some mend → Keeps s text mend
-keeps s text place expected mend (Some (DidYouMean u)) p why is =
+    → replacement_for (meaning_of s) text place expected (bytes_at text place) help ≡ Some replacement → Keeps s text replacement
+keeps s text place expected replacement (Some (DidYouMean u)) p why is =
     let piece = first_piece (ahead text place) in
     let cut : IsCut (drop place text) = cut_piece (drop place text) p.back_utf8 in
     let both = and_parts expected.unit_word (begins_with_letter piece) why.0 in
@@ -47,40 +47,40 @@ keeps s text place expected mend (Some (DidYouMean u)) p why is =
     rw cut.same (piece_stops (ahead text place) both.1 (omega (arith, short))) in
     let after = after_place text place (length (bytes_at text place)) ∙ after_piece (drop place text) p.back_utf8 in
     let written = name_written s text place (length (bytes_at text place)) u expected cut.rest p both.0 after cut.are stops in
-    let same : record { start = place; end = place + length (bytes_at text place); suggestion = name_alone u } ≡ mend = cc in
+    let same : record { start = place; end = place + length (bytes_at text place); suggestion = name_alone u } ≡ replacement = cc in
     rw (← same) written
-keeps s text place expected mend (Some Fraction) p why is = fraction_kept s text place expected mend p why is
-keeps s text place expected mend (Some LeadingPlus) p why is =
-    removed_by s text place (length (bytes_at text place)) expected mend true p (λ e. apart_at_start s text _ place why.0) is
-keeps s text place expected mend (Some NoPoint) p why is =
-    removed_by s text place (length (bytes_at text place)) expected mend _ p
+keeps s text place expected replacement (Some Fraction) p why is = fraction_kept s text place expected replacement p why is
+keeps s text place expected replacement (Some LeadingPlus) p why is =
+    removed_by s text place (length (bytes_at text place)) expected replacement true p (λ e. apart_at_start s text _ place why.0) is
+keeps s text place expected replacement (Some NoPoint) p why is =
+    removed_by s text place (length (bytes_at text place)) expected replacement _ p
     (λ e. apart_at_point s text _ place p.front_utf8 why e) is
-keeps s text place expected mend (Some DigitsOnly) p why is =
-    joined_by s text place (length (bytes_at text place)) expected mend _ p
+keeps s text place expected replacement (Some DigitsOnly) p why is =
+    joined_by s text place (length (bytes_at text place)) expected replacement _ p
     (rw (after_place, after_piece (drop place text) p.back_utf8) (cut_piece (drop place text) p.back_utf8).utf8) why.0 is
-keeps s text place expected mend (Some Iso8601) p why is =
-    removed_by s text place (length (bytes_at text place)) expected mend _ p (λ e. apart_at_start s text _ place why) is
-keeps s text place expected mend (Some Zero) p why is =
-    let same : record { start = place; end = place; suggestion = name_alone Second } ≡ mend = cc in
+keeps s text place expected replacement (Some Iso8601) p why is =
+    removed_by s text place (length (bytes_at text place)) expected replacement _ p (λ e. apart_at_start s text _ place why) is
+keeps s text place expected replacement (Some Zero) p why is =
+    let same : record { start = place; end = place; suggestion = name_alone Second } ≡ replacement = cc in
     let written : Keeps s text (record { start = place; end = place + 0; suggestion = name_alone Second }) =
     name_written s text place 0 Second expected (ahead text place) p why.0
     (rw add-zero (sym (encodes-chars (drop place text) p.back_utf8))) (scalars-chars (drop place text) p.back_utf8)
     (zeros_end text place p.back_utf8 why.1) in
     rw (← same) (rw add-zero at written)
-keeps s text place expected mend help p why is = absurd cc
+keeps s text place expected replacement help p why is = absurd cc
 
-mended_by : (s : CodeRules) (text : List ℕ) (place : ℕ) (expected : Expected) (new : Pieces) (mend : Option Mend)
+mended_by : (s : CodeRules) (text : List ℕ) (place : ℕ) (expected : Expected) (new : Pieces) (replacement : Option Replacement)
     → IsPlaced s text place expected
-    → mend_for (meaning_of s) text place expected (bytes_at text place)
-    (syntax_help text place expected (first_piece (ahead text place))) ≡ mend
-    → option_map (pieces_of text) mend ≡ Some new → (later : ℕ) (others : Expected)
+    → replacement_for (meaning_of s) text place expected (bytes_at text place)
+    (syntax_help text place expected (first_piece (ahead text place))) ≡ replacement
+    → option_map (pieces_of text) replacement ≡ Some new → (later : ℕ) (others : Expected)
     → IsRefused (meaning_of s) (chars (mended_text new)) (Syntax later others)
     → length new.front + length new.written ≤ later
 mended_by s text place expected new None p is pieces later others again = cc
-mended_by s text place expected new (Some mend) p is pieces later others again =
-    let same : pieces_of text mend ≡ new = cc in
+mended_by s text place expected new (Some replacement) p is pieces later others again =
+    let same : pieces_of text replacement ≡ new = cc in
     let piece = first_piece (ahead text place) in
-    rw (← same) (keeps s text place expected mend (syntax_help text place expected piece) p (reason text place expected piece) is
+    rw (← same) (keeps s text place expected replacement (syntax_help text place expected piece) p (reason text place expected piece) is
     later others (rw (← same) at again))
 
 pub mended_texts_hold : MendedTexts

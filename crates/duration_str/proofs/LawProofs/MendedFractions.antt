@@ -8,12 +8,12 @@ use Rattle.std.proofs.lemmas.List.Folds.{list_all_at}
 use Rattle.std.proofs.lemmas.Nat.{div-add-mod'}
 use Rattle.std.specs.Prelude.{slice_index}
 use Rattle.duration_str_help.specs.declared.help.Help.TheVariants.{Fraction}
-use Rattle.duration_str_help.specs.declared.suggestion.Mend.{Mend}
+use Rattle.duration_str_help.specs.declared.suggestion.Replacement.{Replacement}
 use Rattle.duration_str_units.specs.declared.rules.Rules.{Rules as CodeRules}
 use Rattle.duration_str_help.specs.Fraction.{as_term, is_whole_in, longest_whole, nanos_of_fraction}
 use Rattle.duration_str.specs.Mended.{FractionsAreMended, mended_text, MendedFractions}
 use Rattle.duration_str_help.specs.Help.{begins_with_letter, first_piece, help_name, is_letter, is_like, near_unit, small_words, syntax_help, with_micro_sign}
-use Rattle.duration_str_help.specs.Mends.{fraction_mend, fraction_with, meant_unit, mend_of, Pieces, pieces_of, unit_ahead}
+use Rattle.duration_str_help.specs.Mends.{fraction_replacement, fraction_with, meant_unit, replacement_of, Pieces, pieces_of, unit_ahead}
 use Rattle.duration_str_units.proofs.CharacterLemmas.{all_weaker, digit-not_blank}
 use Rattle.duration_str_units.proofs.NumberLemmas.{decimal_digits}
 use Rattle.duration_str_reading.proofs.Cutting.RunLemmas.{decimal_terminal}
@@ -348,14 +348,14 @@ unit_found s blanks name unit blank utf8 means =
     rw (run, drop-append_seam blanks name, piece, first, means, encodes-chars name utf8) refl
 
 -- the mend of a number with these digits, if these bytes follow it
-abbrev mend_with : Rules → List ℕ → List ℕ → ℕ → List ℕ → Expected → Option Mend
+abbrev mend_with : Rules → List ℕ → List ℕ → ℕ → List ℕ → Expected → Option Replacement
 mend_with r whole decimals place bytes expected =
     if length decimals == 0 || (length whole == 0 && not expected.number) then None
     else fraction_with r whole decimals (place - length whole) (place + 1 + length decimals) (unit_ahead r bytes)
 
 mend_found : (r : Rules) (whole decimals bytes : List ℕ) (expected : Expected) → list_all is_digit whole ≡ true
     → list_all is_digit decimals ≡ true → Stops is_digit bytes
-    → fraction_mend r (whole ++ 46 ∷ (decimals ++ bytes)) (length whole) expected
+    → fraction_replacement r (whole ++ 46 ∷ (decimals ++ bytes)) (length whole) expected
     ≡ mend_with r whole decimals (length whole) bytes expected
 mend_found r whole decimals bytes expected digits more stops =
     let after = decimals ++ bytes in
@@ -397,7 +397,7 @@ module _ (s : CodeRules) (whole decimals blanks name : List ℕ) (unit : TimeUni
   unit_nanos = ((meaning_of s).table unit).nanos
 
   -- The mend that writes these nanoseconds as one term.
-  abbrev term_mend : ℕ → Mend
+  abbrev term_mend : ℕ → Replacement
   term_mend nanos = record {
     start = length whole - length whole;
     end = length whole + 1 + length decimals + (length blanks + length name);
@@ -431,7 +431,7 @@ module _ (s : CodeRules) (whole decimals blanks name : List ℕ) (unit : TimeUni
       → list_all is_digit decimals ≡ true → 1 ≤ length decimals → IsBlank blanks
       → meant_unit (meaning_of s) (chars name) ≡ Some unit
       → IsRefused (meaning_of s) (chars fraction_text) (Syntax place expected)
-      → mend_of (meaning_of s) fraction_text (Syntax place expected)
+      → replacement_of (meaning_of s) fraction_text (Syntax place expected)
       ≡ option_map term_mend (nanos_of_fraction whole decimals unit_nanos)
   mend_is place expected utf8 digits more some blank means refused =
       let r = meaning_of s in
@@ -453,7 +453,7 @@ module _ (s : CodeRules) (whole decimals blanks name : List ℕ) (unit : TimeUni
       ap (list_all is_digit) (take-append_seam whole (46 ∷ after)) ∙ digits in
       let next : is_digit (slice_index text (length whole + 1)) ≡ true =
       ap is_digit (get_or-append-add whole (46 ∷ after) 1 0) ∙ first_decimal decimals bytes some more in
-      let asked : mend_of r text (Syntax place expected) ≡ fraction_mend r text (length whole) expected =
+      let asked : replacement_of r text (Syntax place expected) ≡ fraction_replacement r text (length whole) expected =
       rw (n, piece, point_help text (length whole) expected front next) refl in
       asked ∙ mend_found r whole decimals bytes expected digits more stops
       ∙ rw (
@@ -473,9 +473,9 @@ mended_fractions_hold s text whole decimals unit (Syntax place expected) new utf
     let parts = fraction.parts in
     let blanks = fraction.blanks in
     let name = fraction.word in
-    let mend = mend_is s whole decimals blanks name unit place expected (rw parts at utf8) fraction.whole_digits
+    let replacement = mend_is s whole decimals blanks name unit place expected (rw parts at utf8) fraction.whole_digits
     fraction.decimal_digits fraction.some_decimal fraction.blank fraction.means (rw parts at refused) in
-    mended_scaled s whole decimals blanks name unit _ new refl (rw mend at (rw parts at is))
+    mended_scaled s whole decimals blanks name unit _ new refl (rw replacement at (rw parts at is))
 mended_fractions_hold s text whole decimals unit Empty new utf8 fraction refused is = cc
 mended_fractions_hold s text whole decimals unit (NumberTooLarge place) new utf8 fraction refused is = cc
 mended_fractions_hold s text whole decimals unit (Overflow place) new utf8 fraction refused is = cc
@@ -488,11 +488,11 @@ fractions_are_mended s text whole decimals unit place expected nanos utf8 fracti
     let parts = fraction.parts in
     let blanks = fraction.blanks in
     let name = fraction.word in
-    let mend = mend_is s whole decimals blanks name unit place expected (rw parts at utf8) fraction.whole_digits
+    let replacement = mend_is s whole decimals blanks name unit place expected (rw parts at utf8) fraction.whole_digits
     fraction.decimal_digits fraction.some_decimal fraction.blank fraction.means (rw parts at refused) in
     let fit : fits nanos ≡ true = grind (arith, nat_tests) in
     let value : nanos_of_fraction whole decimals (unit_nanos s whole decimals blanks name unit) ≡ Some nanos =
     quotient_some nanos _ (length decimals) is ∙ rw fit refl in
     let (scaled, front, rest) = term_scaled s whole decimals blanks name unit nanos value in
     let new = pieces_of (fraction_text s whole decimals blanks name unit) (term_mend s whole decimals blanks name unit nanos) in
-    (new, rw (parts, mend, value) refl, front, rest)
+    (new, rw (parts, replacement, value) refl, front, rest)

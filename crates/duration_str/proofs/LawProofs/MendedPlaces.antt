@@ -3,7 +3,7 @@ use Rattle.std.specs.List.{prefix_len}
 use Rattle.duration_str.proofs.Common.{[], ahead, ap, append_assoc, arith, Bool, byte_len, chars, chars-append, drop, encode_utf8_all, Expected, false, is_ascii_alphabetic, is_blank, is_digit, IsBlank, IsRefused, IsTrue, IsUtf8, IsUtf8-drop, IsUtf8-take, length, length-take-le, List, meaning_of, nat_le, nat_tests, not, refl, scalars, Some, sym, Syntax, take, take-append-drop, TimeUnit, true, ℕ, ◌++◌, ◌+◌, ◌-◌, ◌||◌, ◌∙◌, ◌∷◌, ◌≡◌, ◌≤◌}
 use Rattle.std.specs.Prelude.{slice_index}
 use Rattle.std.proofs.lemmas.List.{drop-drop}
-use Rattle.duration_str_help.specs.declared.suggestion.Mend.{Mend}
+use Rattle.duration_str_help.specs.declared.suggestion.Replacement.{Replacement}
 use Rattle.duration_str_units.specs.declared.rules.Rules.{Rules as CodeRules}
 use Rattle.duration_str_help.specs.Fraction.{end_run}
 use Rattle.duration_str_help.specs.Help.{begins_with_letter, help_name, is_letter}
@@ -16,12 +16,12 @@ use Rattle.duration_str_reading.proofs.OnePass.PlaceLemmas.{fault_placed}
 use Rattle.duration_str_reading.proofs.Sentences.AnswerLemmas.{answer_refused}
 
 -- What the mend writes has no syntax fault before its end.
-abbrev pub Keeps : CodeRules → List ℕ → Mend → Type 0
-Keeps s text mend =
+abbrev pub Keeps : CodeRules → List ℕ → Replacement → Type 0
+Keeps s text replacement =
     (later : ℕ) (others : Expected)
-    → IsRefused (meaning_of s) (chars (take mend.start text ++ (suggestion_text mend.suggestion ++ drop mend.end text)))
+    → IsRefused (meaning_of s) (chars (take replacement.start text ++ (suggestion_text replacement.suggestion ++ drop replacement.end text)))
     (Syntax later others)
-    → length (take mend.start text) + length (suggestion_text mend.suggestion) ≤ later
+    → length (take replacement.start text) + length (suggestion_text replacement.suggestion) ≤ later
 
 -- ---- The place
 
@@ -68,14 +68,14 @@ removed s text place n expected p apart later others again =
     let least = kept r front (chars (drop (place + n) text)) apart begins later others (rw new at again) in
     omega (arith, least, p.wide, p.long)
 
-pub removed_by : (s : CodeRules) (text : List ℕ) (place n : ℕ) (expected : Expected) (mend : Mend) (b : Bool)
+pub removed_by : (s : CodeRules) (text : List ℕ) (place n : ℕ) (expected : Expected) (replacement : Replacement) (b : Bool)
     → IsPlaced s text place expected
     → (b ≡ true → IsApart s.options (chars (take place text)) (chars (drop (place + n) text)))
-    → removed_if b place (place + n) ≡ Some mend → Keeps s text mend
-removed_by s text place n expected mend true p apart is =
-    let same : record { start = place; end = place + n; suggestion = nothing } ≡ mend = cc in
+    → removed_if b place (place + n) ≡ Some replacement → Keeps s text replacement
+removed_by s text place n expected replacement true p apart is =
+    let same : record { start = place; end = place + n; suggestion = nothing } ≡ replacement = cc in
     rw (← same) (removed s text place n expected p (apart refl))
-removed_by s text place n expected mend false p apart is = absurd cc
+removed_by s text place n expected replacement false p apart is = absurd cc
 
 pub apart_at_start : (s : CodeRules) (text rest : List ℕ) (place : ℕ) → IsBlank (take place text)
     → IsApart s.options (chars (take place text)) rest
@@ -129,14 +129,14 @@ joined_at s text place n expected p utf8 digit later others again =
     let bytes : byte_len (chars cut.front ++ run) ≡ place = ap byte_len (sym cut.spelled) ∙ p.wide in
     omega (arith, least, bytes, p.long)
 
-pub joined_by : (s : CodeRules) (text : List ℕ) (place n : ℕ) (expected : Expected) (mend : Mend) (b : Bool)
+pub joined_by : (s : CodeRules) (text : List ℕ) (place n : ℕ) (expected : Expected) (replacement : Replacement) (b : Bool)
     → IsPlaced s text place expected → IsUtf8 (drop (place + n) text)
     → is_digit (slice_index (take place text) (length (take place text) - 1)) ≡ true
-    → removed_if b place (place + n) ≡ Some mend → Keeps s text mend
-joined_by s text place n expected mend true p utf8 digit is =
-    let same : record { start = place; end = place + n; suggestion = nothing } ≡ mend = cc in
+    → removed_if b place (place + n) ≡ Some replacement → Keeps s text replacement
+joined_by s text place n expected replacement true p utf8 digit is =
+    let same : record { start = place; end = place + n; suggestion = nothing } ≡ replacement = cc in
     rw (← same) (joined_at s text place n expected p utf8 (ends_by_last is_digit (take place text) refl ∙ digit))
-joined_by s text place n expected mend false p utf8 digit is = absurd cc
+joined_by s text place n expected replacement false p utf8 digit is = absurd cc
 
 -- ---- A name is written
 

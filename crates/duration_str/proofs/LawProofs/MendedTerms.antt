@@ -4,11 +4,11 @@ use Rattle.duration_str.proofs.Common.{[], ahead, and_parts, ap, append_assoc, a
 use Rattle.std.proofs.lemmas.List.Folds.{length-prefix_len}
 use Rattle.std.proofs.Math.Nat.{div-le_self}
 use Rattle.std.proofs.Math.Seq.{take-append_seam}
-use Rattle.duration_str_help.specs.declared.suggestion.Mend.{Mend}
+use Rattle.duration_str_help.specs.declared.suggestion.Replacement.{Replacement}
 use Rattle.duration_str_units.specs.declared.rules.Rules.{Rules as CodeRules}
 use Rattle.duration_str_help.specs.Fraction.{as_term, end_run, longest_whole, nanos_of_fraction, whole_quotient}
 use Rattle.duration_str_help.specs.Help.{begins_with_letter, first_piece, help_name, is_letter}
-use Rattle.duration_str_help.specs.Mends.{can_end_number, fraction_mend, fraction_with, meant_unit, unit_ahead}
+use Rattle.duration_str_help.specs.Mends.{can_end_number, fraction_replacement, fraction_with, meant_unit, unit_ahead}
 use Rattle.duration_str_units.proofs.CharacterLemmas.{all_weaker, byte_count}
 use Rattle.duration_str_units.proofs.NumberLemmas.{decimal_digits}
 use Rattle.duration_str_units.proofs.PackedLemmas.{no_long_name}
@@ -22,24 +22,24 @@ use Rattle.duration_str_help.proofs.MendedLemmas.{after_piece, cut_piece, IsCut,
 
 -- The mend's unit and nanoseconds.
 pub record IsFractionMend (r : Rules) (whole decimals : List ℕ) (start end : ℕ) (ahead : Option (TimeUnit × ℕ))
-    (mend : Mend) : Type 0 where
+    (replacement : Replacement) : Type 0 where
   pub unit : TimeUnit
   pub more : ℕ
   pub nanos : ℕ
   pub named : ahead ≡ Some (unit, more)
   pub value : nanos_of_fraction whole decimals (r.table unit).nanos ≡ Some nanos
-  pub is : record { start = start; end = end + more; suggestion = as_term r.table unit nanos } ≡ mend
+  pub is : record { start = start; end = end + more; suggestion = as_term r.table unit nanos } ≡ replacement
 
-pub fraction_parts : (r : Rules) (whole decimals : List ℕ) (start end : ℕ) (ahead : Option (TimeUnit × ℕ)) (mend : Mend)
-    → fraction_with r whole decimals start end ahead ≡ Some mend → IsFractionMend r whole decimals start end ahead mend
-fraction_parts r whole decimals start end None mend is = absurd cc
-fraction_parts r whole decimals start end (Some (u, more)) mend is =
+pub fraction_parts : (r : Rules) (whole decimals : List ℕ) (start end : ℕ) (ahead : Option (TimeUnit × ℕ)) (replacement : Replacement)
+    → fraction_with r whole decimals start end ahead ≡ Some replacement → IsFractionMend r whole decimals start end ahead replacement
+fraction_parts r whole decimals start end None replacement is = absurd cc
+fraction_parts r whole decimals start end (Some (u, more)) replacement is =
     by (nanos_of_fraction whole decimals (r.table u).nanos) refl is
   where
     by : (nanos : Option ℕ) → nanos_of_fraction whole decimals (r.table u).nanos ≡ nanos
         → option_map (λ nanos. record { start = start; end = end + more; suggestion = as_term r.table u nanos }) nanos
-        ≡ Some mend
-        → IsFractionMend r whole decimals start end (Some (u, more)) mend
+        ≡ Some replacement
+        → IsFractionMend r whole decimals start end (Some (u, more)) replacement
     by None value is = absurd cc
     by (Some nanos) value is =
         record { unit = u; more = more; nanos = nanos; named = refl; value = value; is = cc }
@@ -196,10 +196,10 @@ after_point text place utf8 point =
     rw (after_place text place (length bytes), after_piece (drop place text) utf8) (cut_piece (drop place text) utf8).utf8 in
     rw one at after
 
-pub fraction_kept : (s : CodeRules) (text : List ℕ) (place : ℕ) (expected : Expected) (mend : Mend)
+pub fraction_kept : (s : CodeRules) (text : List ℕ) (place : ℕ) (expected : Expected) (replacement : Replacement)
     → IsPlaced s text place expected → bytes_eq (encode_utf8_all (first_piece (ahead text place))) (codes ".") ≡ true
-    → fraction_mend (meaning_of s) text place expected ≡ Some mend → Keeps s text mend
-fraction_kept s text place expected mend p point is =
+    → fraction_replacement (meaning_of s) text place expected ≡ Some replacement → Keeps s text replacement
+fraction_kept s text place expected replacement p point is =
     let r = meaning_of s in
     let whole = end_run is_digit (take place text) in
     let after = drop (place + 1) text in
@@ -209,8 +209,8 @@ fraction_kept s text place expected mend p point is =
     elim (cases_Bool (length decimals == 0 || (length whole == 0 && not expected.number))) [
       | inl missing ↦ absurd (cc (rw missing at is))
       | inr fits ↦
-          let f : IsFractionMend r whole decimals (place - length whole) end (unit_ahead r (drop end text)) mend =
-          fraction_parts r whole decimals (place - length whole) end (unit_ahead r (drop end text)) mend (rw fits at is) in
+          let f : IsFractionMend r whole decimals (place - length whole) end (unit_ahead r (drop end text)) replacement =
+          fraction_parts r whole decimals (place - length whole) end (unit_ahead r (drop end text)) replacement (rw fits at is) in
           let after_utf8 = after_point text place p.back_utf8 point in
           let small = all_weaker is_digit _ decimals digit_small (run_parts is_digit after).all in
           let end_utf8 : IsUtf8 (drop end text) =

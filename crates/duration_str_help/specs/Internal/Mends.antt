@@ -3,15 +3,15 @@ use Rattle.std.specs.Prelude.{◌≤◌, None, Option, Some}
 use Rattle.std.specs.Str.{IsCharBoundary}
 use Rattle.duration_str_help.specs.declared.help.Help.{Help}
 use Rattle.duration_str_help.specs.declared.help.Help.TheVariants.{DidYouMean}
-use Rattle.duration_str_help.specs.declared.suggestion.Mend.{Mend}
+use Rattle.duration_str_help.specs.declared.suggestion.Replacement.{Replacement}
 use Rattle.duration_str_units.specs.declared.unit.TimeUnit.{TimeUnit}
 use Rattle.duration_str_units.specs.Text.{Bytes}
 
 -- The part starts and ends at character boundaries of the text.
-pub record IsCutOut (text : Bytes) (mend : Mend) : Type 0 where
-  pub starts : IsCharBoundary text mend.start
-  pub ends : IsCharBoundary text mend.end
-  pub ordered : mend.start ≤ mend.end
+pub record IsCutOut (text : Bytes) (replacement : Replacement) : Type 0 where
+  pub starts : IsCharBoundary text replacement.start
+  pub ends : IsCharBoundary text replacement.end
+  pub ordered : replacement.start ≤ replacement.end
 
 -- the unit that a help asks for, if it is `DidYouMean`
 abbrev pub offered_unit : Option Help → Option TimeUnit

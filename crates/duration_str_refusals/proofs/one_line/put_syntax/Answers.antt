@@ -3,7 +3,7 @@ use Rattle.duration_str_help.proofs.ShortLemmas.{quoted_stops}
 use Rattle.duration_str_help.specs.contracts.help.HelpPartialEq.TheImpl
 use Rattle.duration_str_help.specs.declared.help.Help.{Help}
 use Rattle.duration_str_help.specs.declared.help.Help.TheVariants.{Fraction}
-use Rattle.duration_str_help.specs.declared.suggestion.Mend.{Mend}
+use Rattle.duration_str_help.specs.declared.suggestion.Replacement.{Replacement}
 use Rattle.duration_str_refusals.specs.OneLine.{help_end}
 use Rattle.std.specs.Option.{option_eq}
 use Rattle.duration_str_refusals.proofs.one_line.put_syntax.Goals.{Else-ne}
@@ -13,10 +13,10 @@ abbrev is_fraction : Option Help → Bool
 is_fraction help = option_eq TheImpl.eq-value.it help (Some Fraction)
 
 -- No other help says a mend.
-other_end : (help : Option Help) (mend : Option Mend) → is_fraction help ≡ false → help_end help mend ≡ help_end help None
-other_end None mend other = refl
-other_end (Some Fraction) mend other = absurd (cc)
-other_end (Some help) mend other = refl
+other_end : (help : Option Help) (replacement : Option Replacement) → is_fraction help ≡ false → help_end help replacement ≡ help_end help None
+other_end None replacement other = refl
+other_end (Some Fraction) replacement other = absurd (cc)
+other_end (Some help) replacement other = refl
 
 same_help : (help : Option Help) → is_fraction help ≡ true → help ≡ Some Fraction
 same_help None same = absurd (cc)
@@ -42,12 +42,12 @@ pub returns-in-Some : goal.returns-in-Some
 returns-in-Some c =
     let found = c.found_at-found.ensures in
     let is = found_fraction (goal.at.returns-in-Some c).Else-ne in
-    rw (← found.help, ← found.piece, ← c.column_at.ensures.column, is, ← c.fraction_mend.ensures.mend, c.in-Some.is)
+    rw (← found.help, ← found.piece, ← c.column_at.ensures.column, is, ← c.fraction_replacement.ensures.replacement, c.in-Some.is)
     (rw (c.in_ok-end.ensures {u = tt}).1 at c.put_fraction_words.ensures)
 
 pub returns-in-None : goal.returns-in-None
 returns-in-None c =
     let found = c.found_at-found.ensures in
     let is = found_fraction (goal.at.returns-in-None c).Else-ne in
-    rw (← found.help, ← found.piece, ← c.column_at.ensures.column, is, ← c.fraction_mend.ensures.mend, c.in-None.is)
+    rw (← found.help, ← found.piece, ← c.column_at.ensures.column, is, ← c.fraction_replacement.ensures.replacement, c.in-None.is)
     (rw ((c.in_ok-end.ensures {u = tt}).1, is) at c.put_help-in-None.ensures)

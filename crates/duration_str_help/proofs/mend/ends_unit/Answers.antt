@@ -1,5 +1,5 @@
 use Rattle.duration_str_help.proofs.Common.{chars_past_char, refl, sym, ◌∙◌}
-use Rattle.duration_str_help.proofs.mended.ends_unit.Goals as goal
+use Rattle.duration_str_help.proofs.mend.ends_unit.Goals as goal
 
 pub returns-then-not-is_letter : goal.returns-then-not-is_letter
 returns-then-not-is_letter c =

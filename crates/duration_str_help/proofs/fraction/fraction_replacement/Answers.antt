@@ -5,8 +5,8 @@ use Rattle.std.specs.List.{prefix_len}
 use Rattle.duration_str_help.specs.Fraction.{end_run}
 use Rattle.duration_str_help.proofs.MendedBytes.{end_parts, run_parts}
 use Rattle.duration_str_help.proofs.FractionLemmas.{digit_ascii, number_start, run_boundary, run_length}
-use Rattle.duration_str_help.proofs.fraction.fraction_mend.Goals.{After-first_digits-decimals}
-use Rattle.duration_str_help.proofs.fraction.fraction_mend.Goals as goal
+use Rattle.duration_str_help.proofs.fraction.fraction_replacement.Goals.{After-first_digits-decimals}
+use Rattle.duration_str_help.proofs.fraction.fraction_replacement.Goals as goal
 
 whole : (c : After-first_digits-decimals)
     → c.last_digits-whole.result.now ≡ end_run is_digit (take c.args.place c.args.text.now)

@@ -4,13 +4,13 @@ ghost use Rattle.std.specs.Str.{chars, IsCharBoundary};
 ghost use Rattle.duration_str_units.specs.Internal.Positions.{ahead};
 ghost use Rattle.duration_str_help.specs.Internal.Mends.{IsCutOut};
 ghost use Rattle.duration_str_units.specs.Meaning.{meaning_of};
-ghost use Rattle.duration_str_help.specs.Mends.{HasPieces, ends_unit, mend_for, pieces_of, removed_if};
+ghost use Rattle.duration_str_help.specs.Mends.{HasPieces, ends_unit, replacement_for, pieces_of, removed_if};
 ghost use Rattle.duration_str_help.specs.Help.{first_piece};
 
 use crate::characters::is_letter;
-use crate::fraction::fraction_mend;
+use crate::fraction::fraction_replacement;
 use crate::help::{Found, Help};
-use crate::suggestion::{Mend, Suggestion};
+use crate::suggestion::{Replacement, Suggestion};
 use duration_str_units::cause::Expected;
 use duration_str_units::rules::Rules;
 use duration_str_units::slice::{range_from, range_to};
@@ -23,13 +23,12 @@ use duration_str_units::unit::TimeUnit;
 /// ```
 /// use duration_str::{Options, parse_with};
 ///
-/// let mended = parse_with("2 * 1.5h", Options::off()).unwrap_err().mended().unwrap();
-/// assert_eq!([mended.front, mended.replaced, mended.rest], ["2 * ", "1.5h", ""]);
-/// assert_eq!(mended.suggestion.to_string(), "90min");
-/// assert_eq!(mended.to_string(), "2 * 90min");
+/// let mend = parse_with("2 * 1.5h", Options::off()).unwrap_err().mend().unwrap();
+/// assert_eq!([mend.front, mend.replaced, mend.rest], ["2 * ", "1.5h", ""]);
+/// assert_eq!(mend.suggestion.to_string(), "90min");
 /// ```
 #[derive(Clone, Copy, Debug, PartialEq, Eq, Hash)]
-pub struct Mended<'a> {
+pub struct Mend<'a> {
     /// The text before the part that is replaced.
     pub front: &'a str,
     /// The part that is replaced. It is empty if the suggestion is to be inserted.
@@ -40,40 +39,40 @@ pub struct Mended<'a> {
     pub rest: &'a str,
 }
 
-pub fn cut_out(text: &str, mend: Mend) -> Mended<'_>
-    requires { IsCutOut text.now mend }
-    ensures pieces { HasPieces (Some (pieces_of text.now mend)) (Some result) }
-    ensures suggestion { result.suggestion ≡ mend.suggestion }
+pub fn cut_out(text: &str, replacement: Replacement) -> Mend<'_>
+    requires { IsCutOut text.now replacement }
+    ensures pieces { HasPieces (Some (pieces_of text.now replacement)) (Some result) }
+    ensures suggestion { result.suggestion ≡ replacement.suggestion }
     ensures whole { text.now ≡ result.front.now ++ (result.replaced.now ++ result.rest.now) }
 {
-    let ahead = range_from(text, mend.start);
-    Mended {
-        front: range_to(text, mend.start),
-        replaced: range_to(ahead, mend.end - mend.start),
-        suggestion: mend.suggestion,
-        rest: range_from(text, mend.end),
+    let ahead = range_from(text, replacement.start);
+    Mend {
+        front: range_to(text, replacement.start),
+        replaced: range_to(ahead, replacement.end - replacement.start),
+        suggestion: replacement.suggestion,
+        rest: range_from(text, replacement.end),
     }
 }
 
-/// Returns the mend for what was found at the place, if it has one that is certain.
-pub fn mend_for(
+/// Returns what to replace, given what was found at the place, if it has one that is certain.
+pub fn replacement_for(
     text: &str,
     place: usize,
     expected: Expected,
     found: &Found<'_>,
     rules: Rules,
-) -> Option<Mend>
+) -> Option<Replacement>
     requires boundary { IsCharBoundary text.now place }
     requires piece { found.now.piece.now ≡ encode_utf8_all (first_piece (ahead text.now place)) }
-    ensures mend { result
-        ≡ mend_for (meaning_of rules) text.now place expected found.now.piece.now found.now.help }
+    ensures replacement { result
+        ≡ replacement_for (meaning_of rules) text.now place expected found.now.piece.now found.now.help }
     ensures cut { IfSome result (IsCutOut text.now) }
 {
     let piece = found.piece;
     let end = place + piece.len();
     match found.help? {
         Help::DidYouMean(unit) => Some(named(place, end, unit)),
-        Help::Fraction => fraction_mend(text, place, expected, rules),
+        Help::Fraction => fraction_replacement(text, place, expected, rules),
         Help::LeadingPlus => removed_if(true, place, end),
         Help::NoPoint => removed_if(ends_unit(range_from(text, end)), place, end),
         Help::DigitsOnly => removed_if(piece == "_" || piece == "'", place, end),
@@ -94,7 +93,7 @@ fn ends_unit(text: &str) -> bool
     }
 }
 
-fn named(start: usize, end: usize, unit: TimeUnit) -> Mend
+fn named(start: usize, end: usize, unit: TimeUnit) -> Replacement
     ensures start { result.start ≡ start }
     ensures end { result.end ≡ end }
     ensures count { result.suggestion.count ≡ None }
@@ -104,14 +103,14 @@ fn named(start: usize, end: usize, unit: TimeUnit) -> Mend
         count: None,
         unit: Some(unit),
     };
-    Mend {
+    Replacement {
         start,
         end,
         suggestion,
     }
 }
 
-fn removed_if(condition: bool, start: usize, end: usize) -> Option<Mend>
+fn removed_if(condition: bool, start: usize, end: usize) -> Option<Replacement>
     ensures { result ≡ removed_if condition start end }
 {
     if !condition {
@@ -121,7 +120,7 @@ fn removed_if(condition: bool, start: usize, end: usize) -> Option<Mend>
         count: None,
         unit: None,
     };
-    Some(Mend {
+    Some(Replacement {
         start,
         end,
         suggestion,

@@ -1,6 +1,6 @@
 use Rattle.duration_str_help.proofs.Common.{arith, true}
 use Rattle.duration_str_help.proofs.MendedLemmas.{cut_named, cut_removed, piece_end}
-use Rattle.duration_str_help.proofs.mended.mend_for.Goals as goal
+use Rattle.duration_str_help.proofs.mend.replacement_for.Goals as goal
 
 pub range_from-requires : goal.range_from-requires
 range_from-requires c =

@@ -1,6 +1,6 @@
 use Rattle.duration_str_help.proofs.Common.{ap, arith, drop, List, take, ℕ, ◌-◌, ◌∙◌, ◌≡◌}
 use Rattle.duration_str_help.proofs.MendedLemmas.{cut_whole}
-use Rattle.duration_str_help.proofs.mended.cut_out.Goals as goal
+use Rattle.duration_str_help.proofs.mend.cut_out.Goals as goal
 
 pub returns-clause-whole : goal.returns-clause-whole
 returns-clause-whole c =

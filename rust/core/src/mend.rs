@@ -1,10 +1,10 @@
-// Made by tools/erase of crates/duration_str_help/src/mended.rt.
+// Made by tools/erase of crates/duration_str_help/src/mend.rt.
 //! What to write in place of a part of a refused text, and the text that this gives.
 
 use crate::characters::is_letter;
-use crate::fraction::fraction_mend;
+use crate::fraction::fraction_replacement;
 use crate::help::{Found, Help};
-use crate::suggestion::{Mend, Suggestion};
+use crate::suggestion::{Replacement, Suggestion};
 use crate::cause::Expected;
 use crate::rules::Rules;
 use crate::slice::{range_from, range_to};
@@ -17,13 +17,13 @@ use crate::unit::TimeUnit;
 /// ```
 /// use duration_str::{Options, parse_with};
 ///
-/// let mended = parse_with("2 * 1.5h", Options::off()).unwrap_err().mend().unwrap();
-/// assert_eq!([mended.front, mended.replaced, mended.rest], ["2 * ", "1.5h", ""]);
-/// assert_eq!(mended.suggestion.to_string(), "90min");
+/// let mend = parse_with("2 * 1.5h", Options::off()).unwrap_err().mend().unwrap();
+/// assert_eq!([mend.front, mend.replaced, mend.rest], ["2 * ", "1.5h", ""]);
+/// assert_eq!(mend.suggestion.to_string(), "90min");
 /// ```
 #[derive(Clone, Copy, Debug, PartialEq, Eq, Hash)]
 #[non_exhaustive]
-pub struct Mended<'a> {
+pub struct Mend<'a> {
     /// The text before the part that is replaced.
     pub front: &'a str,
     /// The part that is replaced. It is empty if the suggestion is to be inserted.
@@ -34,29 +34,29 @@ pub struct Mended<'a> {
     pub rest: &'a str,
 }
 
-pub(crate) fn cut_out(text: &str, mend: Mend) -> Mended<'_> {
-    let ahead = range_from(text, mend.start);
-    Mended {
-        front: range_to(text, mend.start),
-        replaced: range_to(ahead, mend.end - mend.start),
-        suggestion: mend.suggestion,
-        rest: range_from(text, mend.end),
+pub(crate) fn cut_out(text: &str, replacement: Replacement) -> Mend<'_> {
+    let ahead = range_from(text, replacement.start);
+    Mend {
+        front: range_to(text, replacement.start),
+        replaced: range_to(ahead, replacement.end - replacement.start),
+        suggestion: replacement.suggestion,
+        rest: range_from(text, replacement.end),
     }
 }
 
-/// Returns the mend for what was found at the place, if it has one that is certain.
-pub(crate) fn mend_for(
+/// Returns what to replace, given what was found at the place, if it has one that is certain.
+pub(crate) fn replacement_for(
     text: &str,
     place: usize,
     expected: Expected,
     found: &Found<'_>,
     rules: Rules,
-) -> Option<Mend> {
+) -> Option<Replacement> {
     let piece = found.piece;
     let end = place + piece.len();
     match found.help? {
         Help::DidYouMean(unit) => Some(named(place, end, unit)),
-        Help::Fraction => fraction_mend(text, place, expected, rules),
+        Help::Fraction => fraction_replacement(text, place, expected, rules),
         Help::LeadingPlus => removed_if(true, place, end),
         Help::NoPoint => removed_if(ends_unit(range_from(text, end)), place, end),
         Help::DigitsOnly => removed_if(piece == "_" || piece == "'", place, end),
@@ -75,19 +75,19 @@ fn ends_unit(text: &str) -> bool {
     }
 }
 
-fn named(start: usize, end: usize, unit: TimeUnit) -> Mend {
+fn named(start: usize, end: usize, unit: TimeUnit) -> Replacement {
     let suggestion = Suggestion {
         count: None,
         unit: Some(unit),
     };
-    Mend {
+    Replacement {
         start,
         end,
         suggestion,
     }
 }
 
-fn removed_if(condition: bool, start: usize, end: usize) -> Option<Mend> {
+fn removed_if(condition: bool, start: usize, end: usize) -> Option<Replacement> {
     if !condition {
         return None;
     }
@@ -95,7 +95,7 @@ fn removed_if(condition: bool, start: usize, end: usize) -> Option<Mend> {
         count: None,
         unit: None,
     };
-    Some(Mend {
+    Some(Replacement {
         start,
         end,
         suggestion,
