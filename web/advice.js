@@ -43,7 +43,8 @@ export function offerFor(text, options, value) {
     });
     const offer = read.find((each) => each.ok && each.value !== value);
     // `1.5年` is mended only with Chinese units, but its mended text needs none.
-    const needed = offer && tried.find((each) => tryParseNs(offer.text, each).value === offer.value);
+    const needed =
+        offer && tried.find((each) => tryParseNs(offer.text, each).value === offer.value);
     return offer && { ...offer, options: needed };
 }
 

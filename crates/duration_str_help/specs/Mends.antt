@@ -64,8 +64,8 @@ unit_ahead r bytes =
     else None
 
 -- what to replace in a text that has a number with these digits before and after its point: it
--- starts at byte `start`, its digits end at byte `end`, and this is its unit, with the length of the
--- blanks and the word that name it
+-- starts at byte `start`, its digits end at byte `end`, and this is its unit, with the length of
+-- the blanks and the word that name it
 abbrev pub fraction_with : Rules → Bytes → Bytes → ℕ → ℕ → Option (TimeUnit × ℕ) → Option Replacement
 fraction_with r whole decimals start end (Some (u, more)) =
     option_map (λ nanos. record { start = start; end = end + more; suggestion = as_term r.table u nanos })

@@ -32,7 +32,8 @@ pub(crate) fn shown(d: Duration, format: Format, rounding: Option<Rounding>) -> 
 /// units and parts, so that its text leaves nothing out. The format's style does not matter.
 ///
 /// A duration that prints whole is returned as it is. To print or to break down the rounded
-/// duration, call [`write_rounded`](crate::write_rounded) or [`Breakdown::rounded`](crate::Breakdown::rounded).
+/// duration, call [`write_rounded`](crate::write_rounded) or
+/// [`Breakdown::rounded`](crate::Breakdown::rounded).
 ///
 /// The result is `None` only for `Rounding::Up`, if no duration up to `Duration::MAX` prints whole
 /// and is not below the given one. That is so for 1ns in a format without units or parts.
