@@ -111,6 +111,9 @@ fn reads_mended_texts() {
     let json = answer(&["--mend", "--json", "5 mins", "+5m"]);
     assert!(json.starts_with(r#"{"text":"5 min","nanoseconds":"300000000000","#));
     assert!(json.contains("\n{\"text\":\"5m\","), "{json}");
+    // The mended text still has the name.
+    let words = ["--mend", "--more-names", "5 mins 1.5h", "1.5mins"];
+    assert_eq!(answer(&words), "1h 35min\n1min 30s\n");
     let total = run(
         &["--mend", "--sum", "--header", "--to=s"],
         b"took\n1.5h\n5 mins\n",
@@ -363,6 +366,7 @@ fn refuses_wrong_usage() {
         &["--pattern", "--round", "up"],
         &["--pattern", "--refused", "keep"],
         &["--pattern", "--json-errors"],
+        &["--pattern", "--mend"],
         &["--json", "--refused", "keep", "1h"],
         &["--sum", "--refused", "drop", "1h"],
         &["--sum", "--json-errors", "1h"],
