@@ -473,8 +473,7 @@ size_t duration_str_report(
  * With the suggestion in place of that part, the text can be refused again, such
  * as `2h 1.5min` for `2hrs 1.5min`. But no syntax fault is before the end of the
  * suggestion. So a program can put one suggestion after the other into a text.
- * This ends, since each of them but one leaves fewer bytes after it. (The one is
- * the `s` that is inserted after a zero.)
+ * This ends, since each of them leaves fewer bytes after it than the one before.
  *
  * `suggestion` has DURATION_STR_SUGGESTION_BUFFER_SIZE bytes. Each of the three
  * pointers may be null. */
