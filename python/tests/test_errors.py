@@ -69,6 +69,11 @@ class Errors(unittest.TestCase):
             error = error_of("0_" * count + "0s")
             self.assertEqual(error.mended, "0" * count + "0s" if is_mended else None)
 
+    def test_mends_to_a_longer_text(self):
+        for before in ("", "0s" * 300):
+            error = error_of(before + "+".join(["00.7d"] + [".7d"] * 31))
+            self.assertEqual(error.mended, before + "+".join(["1008min"] * 32))
+
     def test_has_each_help(self):
         codes = {code for *_, code, _, _, _ in VECTORS["refused"]}
         self.assertEqual({None, *(each.name for each in Help)}, codes)
