@@ -181,8 +181,9 @@ pub fn mended_texts()
 /// If a text is only a number with a fraction and its unit, is refused, and has a suggestion, the
 /// text with this suggestion is read by the same rules. Its value, times 10 for each digit after
 /// the point, is the number without its point times the unit's length. So `1.5h` becomes `90min`,
-/// and 10 times 90 minutes are 15 hours. Each such text whose value is a whole number of
-/// nanoseconds below 2^64 has a suggestion.
+/// and 10 times 90 minutes are 15 hours. Each such text that is refused for a syntax fault, and
+/// whose value is a whole number of nanoseconds below 2^64, has a suggestion, which replaces the
+/// whole text.
 pub fn mended_fractions()
     ensures value { MendedFractions }
     ensures mended { FractionsAreMended }
