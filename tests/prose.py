@@ -388,6 +388,17 @@ def wrong_names():
             yield f"{name}: names what stands in no source: {word}"
 
 
+# A definition that moves to another file still stands in a source, so `wrong_names` misses it.
+def other_rules():
+    page = section("docs/ARCHITECTURE.md", "## Where a rule is stated")
+    for names, path in re.findall("((?:`[^`/]+`(?:, )?)+) in `([^`]+/[^`]+)`", page):
+        places = [ROOT / path, *(ROOT / "crates" / each / path for each in LAYERS)]
+        files = [file for place in places for file in (place, *place.rglob("*")) if file.is_file()]
+        words = set(re.findall(r"\w+", " ".join(file.read_text("utf-8") for file in files)))
+        for name in sorted(set(re.findall(r"\w+(?=`)", names)) - words):
+            yield f"docs/ARCHITECTURE.md: {path} doesn't have {name}"
+
+
 # ---- What the packages need
 
 
@@ -441,6 +452,7 @@ def problems():
         other_kinds,
         untested_examples,
         wrong_names,
+        other_rules,
         misspelt,
     ):
         yield from each()

@@ -667,7 +667,7 @@ pub record Helps : Type 0 where
 pub helps : Helps
 helps = assumption
 
--- ---- Mended texts
+-- ---- Mends
 
 abbrev pieces : List ℕ → List ℕ → List ℕ → List ℕ → Option Pieces
 pieces front old new rest = Some (record { front = front; replaced = old; written = new; rest = rest })

@@ -1,4 +1,4 @@
--- The laws about a text in which something else is written instead of the part that a help mends.
+-- The laws of mends: what is known of a refused text with its suggestion.
 use Rattle.std.specs.Prelude.{◌≡◌, ℕ, ◌+◌, ◌*◌, ◌^◌, ◌≤◌, ◌++◌, ◌<◌, Some, IsUtf8, chars, codes, length, IsTrue, []}
 use Rattle.std.specs.List.{list_all}
 use Rattle.duration_str_units.specs.declared.cause.Cause.{Cause}
@@ -11,12 +11,12 @@ use Rattle.duration_str_help.specs.Mends.{meant_unit, mend_of, Pieces}
 use Rattle.duration_str_reading.specs.Reading.{IsRead, IsRefused}
 use Rattle.duration_str_units.specs.Text.{Bytes, IsBlank, is_digit, number_of}
 
--- the mended text
+-- the text with the suggestion, in place of the part that it replaces
 abbrev pub mended_text : Pieces → Bytes
 mended_text new = new.front ++ (new.written ++ new.rest)
 
--- A text is refused, and it has a mend. If the mended text, read by the same rules, has a syntax
--- fault, then not before the end of what was written.
+-- A text is refused, and it has a mend. If the text with the suggestion, read by the same rules,
+-- has a syntax fault, then not before the end of the suggestion.
 abbrev pub MendedTexts : Type 0
 MendedTexts =
     (s : CodeRules) (text : Bytes) (cause : Cause) (new : Pieces) → IsUtf8 text
@@ -37,8 +37,8 @@ pub record IsFraction (s : CodeRules) (text whole decimals : Bytes) (unit : Time
   pub means : meant_unit (meaning_of s) (chars word) ≡ Some unit
 
 -- A text that is only a number with a fraction and its unit is refused, and it has a mend. Then the
--- mended text, read by the same rules, has a value. This value, times 10 for each digit after the
--- point, is the number without its point times the unit's length.
+-- text with the suggestion, read by the same rules, has a value. This value, times 10 for each
+-- digit after the point, is the number without its point times the unit's length.
 abbrev pub MendedFractions : Type 0
 MendedFractions =
     (s : CodeRules) (text whole decimals : Bytes) (unit : TimeUnit) (cause : Cause) (new : Pieces) → IsUtf8 text

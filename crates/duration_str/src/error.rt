@@ -1,3 +1,3 @@
-//! Errors that don't borrow the text, made from faults.
+//! Errors that don't borrow the text, made from faults. This module only exports them.
 
 pub use duration_str_refusals::error::{DError, DResult};

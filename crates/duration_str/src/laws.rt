@@ -170,19 +170,20 @@ pub fn more_names()
     ensures { MoreNames }
 {}
 
-/// If a text is refused and has a mend, a syntax fault of the mended text is not before the end of
-/// what was written. So `1.5h 3 hrs` is refused at its second byte, and `90min 3 hrs` at its ninth
-/// one. Both texts are read by the same rules, with any table of units.
+/// If a text is refused and has a suggestion, the text with this suggestion has no syntax fault
+/// before the end of the suggestion. So `1.5h 3 hrs` is refused at its second byte, and
+/// `90min 3 hrs` at its ninth one. Both texts are read by the same rules, with any table of units.
 #[tactic(auto, using(crate::proofs::LawProofs::Mended::mended_texts_hold))]
 pub fn mended_texts()
     ensures { MendedTexts }
 {}
 
-/// If a text is only a number with a fraction and its unit, is refused, and has a mend, the mended
-/// text is read by the same rules. Its value, times 10 for each digit after the point, is the
-/// number without its point times the unit's length. So `1.5h` becomes `90min`, and 10 times 90
-/// minutes are 15 hours. Each such text whose value is a whole number of nanoseconds below 2^64 has
-/// a mend.
+/// If a text is only a number with a fraction and its unit, is refused, and has a suggestion, the
+/// text with this suggestion is read by the same rules. Its value, times 10 for each digit after
+/// the point, is the number without its point times the unit's length. So `1.5h` becomes `90min`,
+/// and 10 times 90 minutes are 15 hours. Each such text that is refused for a syntax fault, and
+/// whose value is a whole number of nanoseconds below 2^64, has a suggestion, which replaces the
+/// whole text.
 pub fn mended_fractions()
     ensures value { MendedFractions }
     ensures mended { FractionsAreMended }

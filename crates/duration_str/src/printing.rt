@@ -1,4 +1,4 @@
-//! Durations printed for people.
+//! Durations printed for people. This module only exports the calls.
 
 pub use duration_str_printing::printing::{
     FORMAT_BUFFER_SIZE, HUMAN_BUFFER_SIZE, MAX_LONG_LEN, MAX_PRINTED_LEN, write_format,

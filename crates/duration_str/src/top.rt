@@ -1,4 +1,4 @@
-//! Signed durations, dates and configuration values.
+//! Signed durations, dates and configuration values. This module only exports the calls.
 
 pub use crate::config::{
     DeserializeDuration, deserialize_duration, deserialize_duration_chrono,

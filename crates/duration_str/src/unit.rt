@@ -1,4 +1,4 @@
-//! The units of time and their names, the options and the operators.
+//! The units of time and their names, the options and the operators. This module only exports them.
 
 pub use duration_str_units::operator::CondUnit;
 pub use duration_str_units::options::Options;

@@ -1,4 +1,4 @@
--- What to write in place of a part of a refused text, and the text that this gives.
+-- Which part of a refused text to replace, and by what.
 use Rattle.std.specs.Prelude.{◌≡◌, ℕ, ◌+◌, ◌-◌, Bool, true, not, ◌&&◌, ◌||◌, [], ◌∷◌, ◌++◌, Option, Some, None, if◌then◌else◌, ◌==◌, decimal, encode_utf8_all, take, drop, length, option_map, is_some, chars, bytes_eq, codes}
 use Rattle.std.specs.List.{prefix_len}
 use Rattle.std.specs.Option.{option_or}
@@ -117,8 +117,8 @@ replacement_of r text cause = None
 abbrev pub suggestion_of : Rules → Bytes → Cause → Option Suggestion
 suggestion_of r text cause = option_map (λ replacement. replacement.suggestion) (replacement_of r text cause)
 
--- The refused text is the front, the part that is replaced, and the rest. The mended text is the
--- front, what is written instead, and the rest.
+-- The refused text is the front, the part that is replaced, and the rest. With the suggestion it is
+-- the front, what is written instead, and the rest.
 pub record Pieces : Type 0 where
   pub front : Bytes
   pub replaced : Bytes
@@ -134,7 +134,7 @@ pieces_of text replacement = record {
   rest = drop replacement.end text;
 }
 
--- the pieces of a refused text and its mended text, if there is a mend that is certain
+-- the pieces of a refused text, if it is certain what to replace, and by what
 abbrev pub mend_of : Rules → Bytes → Cause → Option Pieces
 mend_of r text cause = option_map (pieces_of text) (replacement_of r text cause)
 

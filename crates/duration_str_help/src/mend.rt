@@ -1,4 +1,4 @@
-//! What to write in place of a part of a refused text, and the text that this gives.
+//! Which part of a refused text to replace, and by what.
 ghost use Rattle.std.specs.Prelude.{◌≡◌, ℕ, ◌^◌, ◌<◌, ◌≤◌, ◌+◌, ◌++◌, ◌==◌, ◌||◌, not, length, take, encode_utf8_all, option_map, IfSome, Some};
 ghost use Rattle.std.specs.Str.{chars, IsCharBoundary};
 ghost use Rattle.duration_str_units.specs.Internal.Positions.{ahead};
@@ -16,9 +16,8 @@ use duration_str_units::rules::Rules;
 use duration_str_units::slice::{range_from, range_to};
 use duration_str_units::unit::TimeUnit;
 
-/// A refused text, and what to write instead of a part of it. The refused text is `front`,
-/// `replaced` and `rest`, one after the other. The mended text is `front`, the suggestion and
-/// `rest`.
+/// A suggestion and its place in a refused text. The refused text is `front`, `replaced` and
+/// `rest`, one after the other. With the suggestion it is `front`, the suggestion and `rest`.
 ///
 /// ```
 /// use duration_str::{Options, parse_with};

@@ -1,2 +1,2 @@
--- Definitions for private contracts, such as what each step of cutting, reading or printing does.
+-- Definitions for private contracts: the bytes that are printed.
 pub mod PrintedBytes

@@ -1,3 +1,3 @@
--- Definitions for private contracts, such as what each step of cutting, reading or printing does.
+-- Definitions for private contracts: what each step of cutting and of reading does.
 pub mod Rest
 pub mod Steps

@@ -1,2 +1,2 @@
--- Definitions for private contracts.
+-- Definitions for private contracts: the code of a character in its escape.
 pub mod Escapes

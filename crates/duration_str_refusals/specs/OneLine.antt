@@ -1,5 +1,5 @@
--- The help for a fault, what to write instead, and the fault in one line: what is wrong, for a
--- syntax fault at which column, and what stands there, and then the words of the help.
+-- A fault in one line: what is wrong, for a syntax fault at which column, and what stands there,
+-- and then the words of its help.
 use Rattle.std.specs.Prelude.{ℕ, ◌+◌, [], ◌∷◌, ◌++◌, Option, Some, None, if◌then◌else◌, ◌==◌, decimal, encode_utf8_all, drop, chars, codes}
 use Rattle.std.specs.List.{list_any}
 use Rattle.duration_str_units.specs.declared.cause.Expected.{Expected}
@@ -17,9 +17,9 @@ use Rattle.duration_str_help.specs.Quotes.{quoted}
 use Rattle.duration_str_help.specs.Help.{first_piece, help_words, is_unknown_unit, help_of}
 use Rattle.duration_str_help.specs.Mends.{suggestion_text, replacement_of}
 
--- ---- The words of a help
+-- ---- The end of the line
 
--- the words for a fraction that has a mend
+-- the words of the help for a fraction that has a mend
 abbrev pub fraction_words : Suggestion → Bytes
 fraction_words suggestion = codes " (fractions are not read: write " ++ (suggestion_text suggestion ++ codes ")")
 
@@ -29,7 +29,7 @@ help_end (Some Fraction) (Some replacement) = fraction_words replacement.suggest
 help_end (Some help) replacement = help_words help
 help_end None replacement = []
 
--- ---- The line
+-- ---- The whole line
 
 abbrev pub expected_words : Expected → Bytes
 expected_words expected =

@@ -1,4 +1,4 @@
-//! A refused text with its cause, and the token at the place of a syntax fault.
+//! A refused text with its cause, the token at the place of a syntax fault, the help and the mend.
 ghost use Rattle.std.specs.Prelude.{◌≡◌, ◌<◌, ◌≤◌, ◌++◌, ℕ, IfSome, option_map};
 ghost use Rattle.std.specs.Option.{ForSome};
 ghost use Rattle.std.specs.Str.{IsCharBoundary, chars};
@@ -112,18 +112,18 @@ impl<'a> Fault<'a> {
         }
     }
 
-    /// Returns the mended text: the refused text with a suggestion in place of the part that is
-    /// wrong. It returns `None` if it isn't certain what to write. `rules` must be those with which
-    /// the text was read.
+    /// Returns the suggestion for the fault, with the text before and after the part that it
+    /// replaces. It returns `None` if it isn't certain what to write. `rules` must be those with
+    /// which the text was read.
     ///
-    /// The mended text can be refused by these rules, too, but it has no syntax fault before the
-    /// end of the suggestion. The help says what the suggestion replaces:
+    /// With the suggestion, the text can be refused again by these rules, but it has no syntax
+    /// fault before the end of the suggestion. The help says what the suggestion replaces:
     ///
     /// - `DidYouMean`: the word becomes the unit's name.
     /// - `Fraction`: one term replaces the number and its unit, such as `90min` for `1.5h`. Its
     ///   unit is the longest that gives a whole number and is not longer than the one in the text.
     ///   A number without a unit counts the default unit, if the end or an operator that is read
-    ///   follows. There is no mended text if the value is no whole number of nanoseconds, or 2^64
+    ///   follows. There is no suggestion if the value is no whole number of nanoseconds, or 2^64
     ///   nanoseconds or more.
     /// - `LeadingPlus`: the sign is removed.
     /// - `NoPoint`: the point is removed, unless a letter or a digit follows it directly.

@@ -1,4 +1,5 @@
--- Definitions for private contracts, such as what each step of cutting, reading or printing does.
+-- Definitions for contracts between the library's crates: characters at a position, numbers below
+-- 2^64, and the tables in the code.
 pub mod Numbers
 pub mod Positions
 pub mod UnitTable

@@ -1,4 +1,10 @@
-//! The units of time with their names, and the rules by which a text is read.
+//! The units of time with their names, the options and the rules by which a text is read, and the
+//! causes for which one is refused. This is the lowest of the library's six crates.
+//!
+//! Programs call `duration_str`. What that crate doesn't export is for the library's own crates,
+//! and may change.
+//!
+//! The definitions begin with `specs/Units.antt` and `specs/Rules.antt`.
 #![tactic(auto)]
 
 pub mod blank;

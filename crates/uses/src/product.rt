@@ -37,9 +37,9 @@ impl Part {
 
 ghost use Rattle.uses.specs.Product.{MultipliesInEitherOrder};
 
-/// Returns the product of the two parts. By the library's own units, and if operators are read,
-/// each text that multiplies them, in either order, is read as this duration, with whatever default
-/// unit. The result is `None` if no such text is accepted. So a program can test for an overflow
+/// Returns the product of the two parts. By the library's own units, with any default unit, and if
+/// operators are read, each text that multiplies them, in either order, is read as this duration.
+/// The result is `None` if no such text is accepted. So a program can test for an overflow
 /// before it makes the text.
 ///
 /// ```text

@@ -58,9 +58,9 @@ pub fn needs_letters(text: &str, rules: Rules) -> Option<bool>
     }
 }
 
-/// Returns what a prompt offers in place of a refused text: its mended text. By the same rules the
-/// offer can have a further syntax fault, but none before the end of the suggestion. So the prompt
-/// can put the cursor there.
+/// Returns what a prompt offers in place of a refused text: the text with its suggestion. By the
+/// same rules the offer can have a further syntax fault, but none before the end of the suggestion.
+/// So the prompt can put the cursor there.
 ///
 /// ```text
 /// offered("5 mins 3x", Rules::of(Options::off())) // `5 `, `min` and ` 3x`

@@ -10,8 +10,8 @@ use duration_str::laws::{one_sentence, reorder, sum_of_texts};
 use duration_str::{Options, Rules, TimeUnit, parse_by};
 use std::time::Duration;
 
-/// Sorts the terms of a sum in place, the longest first. The sorted sum is accepted exactly if the
-/// old one is, and has the same value, with whatever default unit.
+/// Sorts the terms of a sum in place, the longest first. By the library's own units, and with any
+/// default unit, the sorted sum is accepted exactly if the old one is, and has the same value.
 ///
 /// ```text
 /// // 29ms + 3min + 13s is written as 3min + 13s + 29ms

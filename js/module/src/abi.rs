@@ -75,8 +75,8 @@ mod printing {
         text: [u8; FORMAT_BUFFER_SIZE],
     }
 
-    /// Prints this many milliseconds, or, if the number is negative, the duration of the page.
-    /// Returns the length of the text, or 0 if there is none.
+    /// Prints this many milliseconds, or `page.nanos` if the number is negative. Returns the length
+    /// of the text, or 0 if there is none.
     #[unsafe(no_mangle)]
     extern "C" fn print(
         page: &mut Page,

@@ -56,7 +56,8 @@ To read a text:
 If a text is refused, they raise a `DurationError`. As a string it is a line
 for people. To say in another language what is wrong, take the error's fields:
 the `cause`, the place, what was `found` there and what was `expected`, the
-`help`, and the `suggestion` with its `span`. The `mended` text is read.
+`help`, and the `suggestion` with its `span`. The same call reads the `mended`
+text.
 
 To print an int of nanoseconds or a timedelta:
 

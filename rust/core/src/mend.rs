@@ -1,5 +1,5 @@
 // Made by tools/erase of crates/duration_str_help/src/mend.rt.
-//! What to write in place of a part of a refused text, and the text that this gives.
+//! Which part of a refused text to replace, and by what.
 
 use crate::characters::is_letter;
 use crate::fraction::fraction_replacement;
@@ -10,9 +10,8 @@ use crate::rules::Rules;
 use crate::slice::{range_from, range_to};
 use crate::unit::TimeUnit;
 
-/// A refused text, and what to write instead of a part of it. The refused text is `front`,
-/// `replaced` and `rest`, one after the other. The mended text is `front`, the suggestion and
-/// `rest`.
+/// A suggestion and its place in a refused text. The refused text is `front`, `replaced` and
+/// `rest`, one after the other. With the suggestion it is `front`, the suggestion and `rest`.
 ///
 /// ```
 /// use duration_str::{Options, parse_with};

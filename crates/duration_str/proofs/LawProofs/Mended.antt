@@ -1,4 +1,4 @@
--- A mended text has no syntax fault before the end of what was written.
+-- A text with its suggestion has no syntax fault before the end of the suggestion.
 use Rattle.duration_str.proofs.Common.{[], add-zero, ahead, and_parts, arith, chars, chars-nil, drop, Empty, encode_utf8_all, encodes-chars, Expected, false, is_ascii_alphabetic, is_blank, IsRefused, IsUtf8, length, List, list_all, list_all-append, meaning_of, Mixed, nat_tests, None, NotText, NumberTooLarge, Option, option_map, OutOfRange, Overflow, refl, scalars-chars, Second, Some, sym, Syntax, take, take-append-drop, true, ℕ, ◌+◌, ◌==◌, ◌||◌, ◌∙◌, ◌∷◌, ◌≡◌, ◌≤◌}
 use Rattle.duration_str_help.specs.declared.help.Help.{Help}
 use Rattle.duration_str_help.specs.declared.help.Help.TheVariants.{DidYouMean, DigitsOnly, Fraction, Iso8601, LeadingPlus, NoPoint, Zero}

@@ -1,4 +1,4 @@
--- A text that is only a number with a fraction and its unit: its mended text has the same value.
+-- A text that is only a number with a fraction and its unit: its suggestion has the same value.
 use Rattle.std.specs.List.{prefix_len}
 use Rattle.duration_str.proofs.Common.{[], add-zero, ahead, all_names_in, and_from, and_parts, ap, append-nil, arith, BeginsSentence, Bool, byte_len, bytes_eq, cases_Bool, chars, chars-append, chars-encodes, codes, comparison_form, decimal, digits_decimal, drop, drop_all, Empty, encode_ascii, encode_utf8_all, encodes-chars, EndsRun, eqb-true, Expected, false, false_from_ne_true, find, fits, Humantime, if◌then◌else◌, inl, inr, is_ascii_alphabetic, is_blank, is_digit, is_unit_letter, IsBlank, IsRead, IsRefused, IsUtf8, length, length-append, lexemes_of, List, list_all, list_any, map, meaning_of, Mixed, More, more_names, nat_le, nat_lt, nat_tests, ne_eqb, None, not, NotText, number, number_of, NumberTooLarge, off, Option, option_map, Options, or_right, other, OutOfRange, Overflow, Own, refl, Rules, Second, Some, Spells, Stops, suc, sym, Syntax, table_of, take, take_while, take_while-cons, Terminal, terminal_of, terminals_of, TimeUnit, to_ascii_lowercase, Token, tokens_from, tokens_of, true, unit_of_word, units, UnitTable, unwrap_or, word, ℕ, ◌%◌, ◌&&◌, ◌*◌, ◌++◌, ◌+◌, ◌-◌, ◌/◌, ◌<◌, ◌==◌, ◌^◌, ◌||◌, ◌∙◌, ◌∷◌, ◌≡◌, ◌≤◌}
 use Rattle.std.proofs.lemmas.List.{drop-drop, get_or-append-add, take_all}
@@ -382,7 +382,7 @@ can_stand d w b some can =
       | inr digits ↦ rw (more, digits) refl
     ]
 
--- The mended text has a value, which times 10 for each digit after the point is the number without
+-- The suggestion has a value, which times 10 for each digit after the point is the number without
 -- its point times the unit's length.
 abbrev IsScaled : CodeRules → List ℕ → List ℕ → TimeUnit → List ℕ → Type 0
 IsScaled s whole decimals unit mended =

@@ -1,4 +1,4 @@
--- The part of a text that a mend replaces, and the unit that a help offers.
+-- The part of a text that is replaced, and the unit that a help offers.
 use Rattle.std.specs.Prelude.{◌≤◌, None, Option, Some}
 use Rattle.std.specs.Str.{IsCharBoundary}
 use Rattle.duration_str_help.specs.declared.help.Help.{Help}
@@ -13,7 +13,7 @@ pub record IsCutOut (text : Bytes) (replacement : Replacement) : Type 0 where
   pub ends : IsCharBoundary text replacement.end
   pub ordered : replacement.start ≤ replacement.end
 
--- the unit that a help asks for, if it is `DidYouMean`
+-- the unit that a help offers, if it is `DidYouMean`
 abbrev pub offered_unit : Option Help → Option TimeUnit
 offered_unit (Some (DidYouMean unit)) = Some unit
 offered_unit help = None
