@@ -15,6 +15,7 @@ use crate::unit::TimeUnit;
 /// parse_by("5", RULES).unwrap_err().cause().place() // Some(1)
 /// ```
 #[derive(Clone, Copy, Debug, PartialEq, Eq)]
+#[non_exhaustive]
 pub struct Rules {
     pub(crate) table: UnitTable,
     /// The unit of a number without one, or `None` if each number needs its unit.
