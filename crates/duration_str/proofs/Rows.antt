@@ -1,6 +1,6 @@
 -- Examples that were worked out by hand, and are computed here, such as the values of texts, the
 -- causes for which others are refused, and the texts of durations.
-use Rattle.duration_str.proofs.Common.{[], ALL, answer, arith, Bool, Cause, codes, Compact, counts_of, Empty, encode_utf8_all, Err, Expected, false, flat_map, if◌then◌else◌, inl, inr, length, List, Long, map, MAX_LONG_LEN, MAX_PRINTED_LEN, message_of, Mixed, nanos_of, nat_lt, None, nonzero, NumberTooLarge, off, Ok, older_row_of, older_rules, Option, Options, OutOfRange, Overflow, Plus, printed_counts, Quarter, refl, replicate, Result, row_of, rules_of, rules_with, Short, Some, Star, Style, Syntax, TimeUnit, true, unit_lengths, unit_of_word, units, units_within, ℕ, ◌++◌, ◌∷◌, ◌≡◌, more_names, more_row_of, more_rules}
+use Rattle.duration_str.proofs.Common.{[], ALL, answer, arith, Bool, Cause, codes, Compact, counts_of, Empty, encode_utf8_all, Err, Expected, false, flat_map, if◌then◌else◌, inl, inr, length, List, Long, map, MAX_LONG_LEN, MAX_PRINTED_LEN, message_of, Mixed, nanos_of, nat_lt, None, nonzero, NumberTooLarge, off, Ok, older_row_of, older_rules, Option, Options, OutOfRange, Overflow, Plus, printed_counts, Quarter, refl, replicate, Result, row_of, rules_of, rules_with, Short, Some, Star, Style, Syntax, TimeUnit, true, unit_lengths, unit_of_word, units, units_within, ℕ, ◌++◌, ◌∷◌, ◌≡◌, more_names, more_row_of, more_rules, NotText}
 use Rattle.duration_str_printing.specs.declared.format.Format.{Format}
 use Rattle.duration_str_units.specs.declared.unit.TimeUnit.TheVariants.{Day, Hour, MicroSecond, MilliSecond, Minute, Month, NanoSecond, Second, Week, Year}
 use Rattle.duration_str_printing.proofs.RoundingLemmas.{near_own, nearest_up, none_above, only_zero, rounded_down, rounded_up, zero_above}
@@ -9,12 +9,12 @@ use Rattle.duration_str_printing.specs.Rounding.{IsNearest, IsRoundedDown, IsRou
 use Rattle.duration_str_printing.specs.Format.{chosen, intersection, counts_within, down_to, is_in, lengths_within, set_of, shorter_units, text_within, up_to, whole_format, without_unit}
 use Rattle.duration_str_units.specs.Humantime.{humantime_row_of, humantime_rules}
 use Rattle.duration_str_help.specs.Help.{help_number, is_letter}
-use Rattle.duration_str_help.specs.Quotes.{is_plain}
+use Rattle.duration_str_help.specs.Quotes.{is_clear, is_plain}
 use Rattle.duration_str_help.specs.Mends.{mend_of, Pieces}
 use Rattle.duration_str_refusals.specs.OneLine.{one_line_of}
 use Rattle.duration_str_help.specs.declared.help.Help.{Help}
 use Rattle.duration_str_help.specs.declared.help.Help.TheVariants.{Brackets, ClockTime, DidYouMean, DigitsOnly, Division, Fraction, Iso8601, LargeNumber, LeadingPlus, MissingUnit, Negative, NoPoint, OneDuration, QuotationMarks, Units as UnitsHelp, Zero}
-use Rattle.duration_str_refusals.specs.Report.{report_of}
+use Rattle.duration_str_refusals.specs.Report.{is_wide, report_of}
 use Rattle.duration_str_units.proofs.UnitLemmas.{Each, each_unit}
 use Rattle.duration_str_units.specs.Text.{width}
 use Rattle.std.specs.Fmt.{digits}
@@ -183,6 +183,14 @@ pub record PrintedTexts : Type 0 where
   pub byte-after_line_feeds : message_of (codes "1m" ++ 10 ∷ codes "+" ++ 10 ∷ codes "x") (Syntax 5 number_alone)
       ≡ codes "byte 5: expected number"
   pub line-alone : message_of (codes "1m 2s*3") (Mixed Plus Star) ≡ codes "not support '+' with '*' calculate"
+  pub line-empty : message_of [] Empty ≡ codes "Empty input"
+  pub line-number : message_of [] (NumberTooLarge None) ≡ codes "number too large to fit in target type"
+  pub line-overflow : message_of (codes "600y") (Overflow (Some 0)) ≡ codes "600y\n^\noverflow error"
+  pub line-unit : message_of (codes "1x") (Syntax 1 after_number) ≡ encode_utf8_all (
+      codes "1x\n ^\nexpected [\"y\", \"q\", \"mon\", \"w\", \"d\", \"h\", \"m\", \"s\", \"ms\", \"µs\", \"us\", \"ns\"]")
+  pub line-no_operator : message_of (codes "1m+") (Syntax 2 after_unit-no_calc) ≡ codes "1m+\n  ^\nexpected number"
+  pub line-no_text : message_of [] (NotText false) ≡ codes "expect duration string, e.g: '1min+30'"
+  pub line-no_text_or_null : message_of [] (NotText true) ≡ codes "expect duration string, null, or missing field"
   -- ---- Printed texts
   pub printed-zero : printed 0 ≡ codes "0s"
   pub printed-milliseconds : printed 193_029_000_000 ≡ codes "3min 13s 29ms"
@@ -795,6 +803,10 @@ pub record Classes : Type 0 where
       ∷ 0x180A ∷ 0x1810 ∷ 0x1FFF ∷ 0x2010 ∷ 0x2027 ∷ 0x2030 ∷ 0x205E ∷ 0x2070 ∷ 0x27FF ∷ 0x2801 ∷ 0x2FFF ∷ 0x3001 ∷ 0x3163
       ∷ 0x3165 ∷ 0xFDFF ∷ 0xFE10 ∷ 0xFEFE ∷ 0xFF00 ∷ 0xFF9F ∷ 0xFFA1 ∷ 0xFFEF ∷ 0xFFFC ∷ 0x1BC9F ∷ 0x1BCA4 ∷ 0x1D172
       ∷ 0x1D17B ∷ 0xDFFFF ∷ 0xE1000 ∷ []) ≡ true
+  -- Of the plain characters, a quote escapes these two.
+  pub clear : map is_clear (0x21 ∷ 0x22 ∷ 0x23 ∷ 0x5B ∷ 0x5C ∷ 0x5D ∷ [])
+      ≡ true ∷ false ∷ true ∷ true ∷ false ∷ true ∷ []
+  pub wide : map is_wide (0xB5 ∷ 0x2E7F ∷ 0x2E80 ∷ 0x5206 ∷ []) ≡ false ∷ false ∷ true ∷ true ∷ []
   -- the ends of the ranges of signs, and letters near them
   pub signs : list_any is_letter (
       0x40 ∷ 0x5B ∷ 0x60 ∷ 0x7B ∷ 0xA1 ∷ 0xB4 ∷ 0xB6 ∷ 0xBF ∷ 0xD7 ∷ 0xF7 ∷ 0x2010 ∷ 0x2BFF ∷ 0x3001 ∷ 0x303F

@@ -5,4 +5,5 @@ pub mod MendedHelp
 pub mod MendedLemmas
 pub mod NearLemmas
 pub mod PieceLemmas
+pub mod ResultRows
 pub mod ShortLemmas

@@ -1,6 +1,6 @@
 -- Rows of definitions that say what calls return: what follows from each in one case. A definition
 -- that said less would be refused here.
-use Rattle.std.specs.Prelude.{◌≡◌, ℕ, ◌-◌, ◌%◌, ◌^◌, List, None, codes, pos}
+use Rattle.std.specs.Prelude.{◌≡◌, ℕ, ◌-◌, ◌%◌, ◌^◌, List, [], ◌∷◌, None, Some, codes, negsuc, pos}
 use Rattle.std.specs.Str.{chars}
 use Rattle.std.proofs.Common.{false, refl, true}
 use Rattle.duration_str_reading.proofs.Sentences.AnswerLemmas.{answer_refused, one_reading_holds}
@@ -9,7 +9,7 @@ use Rattle.duration_str_printing.specs.Format.{set_of, whole_format}
 use Rattle.duration_str_reading.specs.Reading.{IsRefused}
 use Rattle.duration_str_refusals.specs.Report.{report_of}
 use Rattle.duration_str_units.specs.declared.cause.Cause.{Cause}
-use Rattle.duration_str_units.specs.declared.cause.Cause.TheVariants.{Syntax}
+use Rattle.duration_str_units.specs.declared.cause.Cause.TheVariants.{Overflow, Syntax}
 use Rattle.duration_str_units.specs.declared.cause.Expected.{Expected}
 use Rattle.duration_str_printing.specs.declared.format.Units.{Units}
 use Rattle.duration_str_js.specs.Printing.{IsCounted, units_among, with_counts}
@@ -74,6 +74,51 @@ unfolding chars encode digits
 what_is_said_of_a_fraction refusal report (cause, refused, same, is) =
     let one = one_reading_holds.one_cause (rules_of_bits in_millis) (chars (codes "1.5")) cause fraction refused
     ((answer_refused (rules_of_bits in_millis) (chars (codes "1.5")) fraction).0 refl) in
+    rw one at same
+
+abbrev too_large : Cause
+too_large = Overflow (Some 0)
+
+pub what_is_said_of_an_overflow : (refusal : Refusal) (report : List ℕ) → IsReported 0 (codes "18446744074") refusal report
+    → refusal ≡ record {
+      count = 0;
+      place = pos 0;
+      found_length = 0;
+      cause = 4;
+      expected = 0;
+      help = 16;
+      start = negsuc 0;
+      length = 0;
+      has_count = 0;
+      unit = 0;
+    }
+unfolding chars encode
+what_is_said_of_an_overflow refusal report (cause, refused, same, is) =
+    let one = one_reading_holds.one_cause (rules_of_bits 0) (chars (codes "18446744074")) cause too_large refused
+    ((answer_refused (rules_of_bits 0) (chars (codes "18446744074")) too_large).0 refl) in
+    rw one at same
+
+-- `1 分x` under the option `cn_unit`: without it, the token at the place would be shorter.
+abbrev chinese : List ℕ
+chinese = 49 ∷ 32 ∷ 229 ∷ 136 ∷ 134 ∷ 120 ∷ []
+
+pub what_is_said_of_a_chinese_word : (refusal : Refusal) (report : List ℕ) → IsReported 4 chinese refusal report
+    → refusal ≡ record {
+      count = 0;
+      place = pos 2;
+      found_length = 4;
+      cause = 2;
+      expected = 14;
+      help = 2;
+      start = negsuc 0;
+      length = 0;
+      has_count = 0;
+      unit = 0;
+    }
+unfolding chars encode
+what_is_said_of_a_chinese_word refusal report (cause, refused, same, is) =
+    let one = one_reading_holds.one_cause (rules_of_bits 4) (chars chinese) cause mins refused
+    ((answer_refused (rules_of_bits 4) (chars chinese) mins).0 refl) in
     rw one at same
 
 module _ (old new : List ℕ) (rest : ℕ) (set : Units) (is : IsCounted None whole_format 1_500_000_000 old new rest set) where

@@ -1,24 +1,27 @@
 -- Rows of definitions that say what calls return: what follows from each in one case. A definition
 -- that said less would be refused here.
-use Rattle.std.specs.Prelude.{◌≡◌, Option, None, Some}
+use denote.Ref.{Bor}
+use Rattle.std.specs.Prelude.{◌≡◌, ◌+◌, length, Option, None, Some, slice_range, codes}
+use Rattle.std.specs.Str.{chars}
 use Rattle.std.proofs.Common.{refl}
+use Rattle.std.proofs.lemmas.Option.{same_Some}
 use Rattle.duration_str_refusals.specs.Errors.{IsErrorOf}
-use Rattle.duration_str_help.specs.Mends.{HasPieces, Pieces, suggestion_text}
-use Rattle.duration_str_help.specs.declared.mend.Mend.{Mend}
+use Rattle.duration_str_refusals.specs.Faults.{IsSliceOf}
+use Rattle.duration_str_reading.specs.Tokens.{Token}
+use Rattle.duration_str_units.specs.Text.{Bytes}
 use Rattle.duration_str_units.specs.declared.cause.Cause.TheVariants.{Overflow}
 use Rattle.duration_str_refusals.specs.declared.error.DError.TheVariants.{OverflowError}
 
 pub overflow_has_no_line : {A : Type 0} → IsErrorOf {A = A} (Overflow None) OverflowError
 overflow_has_no_line = refl
 
-pub no_pieces : (pieces : Option Pieces) → HasPieces pieces None → pieces ≡ None
-no_pieces pieces is = is
+pub nothing_is_found : (token : Option Token) → IsSliceOf (codes "1x") token None → token ≡ None
+nothing_is_found token is = is
 
-pub has_these_pieces : (pieces : Option Pieces) (new : Mend) → HasPieces pieces (Some new)
-    → pieces ≡ Some (record {
-      front = new.front.now;
-      replaced = new.replaced.now;
-      written = suggestion_text new.suggestion;
-      rest = new.rest.now;
-    })
-has_these_pieces pieces new is = is
+module _ (token : Token) (slice : Bor Bytes) where
+  pub found_has_the_characters : IsSliceOf (codes "1x") (Some token) (Some slice) → chars slice.now ≡ token.characters
+  found_has_the_characters (p, same, characters, range) = rw (same_Some token p same) characters
+
+  pub found_is_a_slice : IsSliceOf (codes "1x") (Some token) (Some slice)
+      → slice.now ≡ slice_range (codes "1x") token.start (token.start + length slice.now)
+  found_is_a_slice (p, same, characters, range) = rw (same_Some token p same) range
