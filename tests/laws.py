@@ -75,6 +75,12 @@ def weaken(crates):
                 lib.write(f"pub mod {module}{end}\n")
 
 
+def weaker(uses):
+    """Returns the names of the weaker laws in this folder of `uses`."""
+    code = {module: (uses / f"src/{module}.rt").read_text("utf-8") for module in FEWER}
+    return [f"{it}::{law}" for it in code for law in re.findall(r"^pub fn (\w+)", code[it], re.M)]
+
+
 def proof_of(module, law, contract, weaker):
     """The proof of a weaker law: each of its clauses follows from the same clause of the law."""
     proof = f"use Rattle.uses.proofs.{module}.{law}.Goals as goal\n"
