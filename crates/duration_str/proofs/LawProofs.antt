@@ -1,12 +1,14 @@
 pub mod BlanksFree
 pub mod EqualTexts
 pub mod Mended
+pub mod MendedCuts
 pub mod MendedFractions
 pub mod MendedNames
 pub mod MendedNumbers
 pub mod MendedPlaces
 pub mod MendedTerms
 pub mod MendedTokens
+pub mod MendedValues
 pub mod NearWords
 pub mod NeverMore
 pub mod NoCalcAgrees

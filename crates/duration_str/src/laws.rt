@@ -4,7 +4,7 @@ ghost use Rattle.duration_str_reading.specs.ReadingLaws.{OneSentence, OneCut, On
 ghost use Rattle.duration_str_printing.specs.PrintingLaws.{GreatestBreakdown, AllParts, OneRounding, PartsAndRest};
 ghost use Rattle.duration_str.specs.Laws.{EqualTexts, ReadsBack, OlderTexts, NeverMore, NearWords, MoreNames};
 ghost use Rattle.duration_str_refusals.specs.Messages.{LastLine};
-ghost use Rattle.duration_str.specs.Mended.{FractionsAreMended, MendedFractions, MendedTexts};
+ghost use Rattle.duration_str.specs.Mended.{FractionsAreMended, MendedFractions, MendedTexts, MendedTokens, MendedValues, RefusedTokens, WrittenIsSaid};
 
 /// At most one sentence spells a text, and the lexemes of that sentence are those of the text's
 /// tokens. Each text is either read as one value or refused for one cause, and the computed answer
@@ -187,4 +187,19 @@ pub fn mended_texts()
 pub fn mended_fractions()
     ensures value { MendedFractions }
     ensures mended { FractionsAreMended }
+{}
+
+/// If a text is refused and has a mend, each token of the text is in the front, in the replaced
+/// part, or in the rest. The text with the suggestion has the tokens of the front, of the
+/// suggestion, and of the rest. There is one exception: if `_` or `'` is removed, the numbers
+/// before and after it become one number, with the digits of both. A suggestion is written as its
+/// count and a word that names its unit. If it has a count, the replaced part is a number with a
+/// fraction, which is exactly as long as that count of that unit. If the text with the suggestion
+/// is read, its value is that of the front's terms, the suggestion as one term, and the rest's
+/// terms. So `2*1.5h` becomes `2*90min`, which is 3 hours, and `1_000s` becomes `1000s`.
+pub fn mended_tokens()
+    ensures refused { RefusedTokens }
+    ensures tokens { MendedTokens }
+    ensures written { WrittenIsSaid }
+    ensures value { MendedValues }
 {}

@@ -10,7 +10,7 @@ use Rattle.duration_str_help.specs.declared.mend.Mend.{Mend}
 use Rattle.duration_str_units.specs.declared.rules.Rules.{Rules as CodeRules}
 use Rattle.duration_str_units.specs.Meaning.{meaning_of}
 use Rattle.duration_str_units.specs.declared.unit.TimeUnit.{TimeUnit}
-use Rattle.duration_str.specs.Mended.{IsFraction, MendedFractions, MendedTexts}
+use Rattle.duration_str.specs.Mended.{HasTokensOf, IsFraction, MendedFractions, MendedTexts, RefusedTokens}
 use Rattle.duration_str_help.specs.Mends.{HasPieces, mend_of, suggestion_text}
 
 refused_at : (r : Rules) (at : ℕ) (front rest : List Terminal) (cause : Cause) (place : ℕ) (expected : Expected)
@@ -43,6 +43,12 @@ pub offered_past : MendedTexts → (s : CodeRules) (text : List ℕ) (cause : Ca
     → length new.front.now + length (suggestion_text new.suggestion) ≤ place)
 offered_past law s text cause None utf8 refused has = tt
 offered_past law s text cause (Some new) utf8 refused has = law s text cause _ utf8 refused has
+
+pub offered_tokens : RefusedTokens → (s : CodeRules) (text : List ℕ) (cause : Cause) (offer : Option Mend) → IsUtf8 text
+    → IsRefused (meaning_of s) (chars text) cause → HasPieces (mend_of (meaning_of s) text cause) offer
+    → IfSome offer (λ new. HasTokensOf s.options text new.front.now new.replaced.now new.rest.now)
+offered_tokens law s text cause None utf8 refused has = tt
+offered_tokens law s text cause (Some new) utf8 refused has = law s text cause _ utf8 refused has
 
 alone : (front written rest : List ℕ) → length front ≡ 0 → length rest ≡ 0 → front ++ (written ++ rest) ≡ written
 alone [] written [] no_front no_rest = append-nil written

@@ -4,11 +4,13 @@
 ghost use Rattle.std.specs.Prelude.{◌≡◌, ◌↔◌, ◌&&◌, ◌+◌, ◌*◌, ◌^◌, ◌++◌, ◌≤◌, ℕ, List, false, length, IfSome, Some, IsTrue, chars};
 ghost use Rattle.uses.specs.Common.{Syntax, Expected as Kinds, as_nanos, IsRefused, TimeUnit};
 ghost use Rattle.duration_str_units.specs.Meaning.{meaning_of};
-ghost use Rattle.duration_str.specs.Mended.{IsFraction};
+ghost use Rattle.duration_str.specs.Mended.{HasTokensOf, IsFraction};
 ghost use Rattle.duration_str_help.specs.Mends.{suggestion_text};
 ghost use Rattle.duration_str_units.specs.Text.{number_of};
 
-use duration_str::laws::{mended_fractions, mended_texts, one_sentence, place_and_kinds};
+use duration_str::laws::{
+    mended_fractions, mended_texts, mended_tokens, one_sentence, place_and_kinds,
+};
 use duration_str::{Cause, Mend, Rules, SUGGESTION_BUFFER_SIZE, parse_by};
 use std::time::Duration;
 
@@ -60,20 +62,24 @@ pub fn needs_letters(text: &str, rules: Rules) -> Option<bool>
 
 /// Returns what a prompt offers in place of a refused text: the text with its suggestion. By the
 /// same rules the offer can have a further syntax fault, but none before the end of the suggestion.
-/// So the prompt can put the cursor there.
+/// So the prompt can put the cursor there. The suggestion replaces whole tokens of the text. So a
+/// prompt that colours tokens can keep the colours of those before and after it.
 ///
 /// ```text
 /// offered("5 mins 3x", Rules::of(Options::off())) // `5 `, `min` and ` 3x`
 /// offered("1.5h 3x", Rules::of(Options::off()))   // ``, `90min` and ` 3x`
 /// ```
 pub fn offered(text: &str, rules: Rules) -> Option<Mend<'_>>
-    ensures { IfSome result (λ new. (place : ℕ) (expected : Kinds)
+    ensures fault { IfSome result (λ new. (place : ℕ) (expected : Kinds)
         → IsRefused (meaning_of rules)
         (chars (new.front.now ++ (suggestion_text new.suggestion ++ new.rest.now)))
         (Syntax place expected)
         → length new.front.now + length (suggestion_text new.suggestion) ≤ place) }
+    ensures tokens { IfSome result (λ new.
+        HasTokensOf rules.options text.now new.front.now new.replaced.now new.rest.now) }
 {
     mended_texts();
+    mended_tokens();
     match parse_by(text, rules) {
         Ok(_) => None,
         Err(fault) => fault.mend(rules),

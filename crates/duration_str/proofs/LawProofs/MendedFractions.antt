@@ -1,74 +1,34 @@
 -- A text that is only a number with a fraction and its unit: its suggestion has the same value.
 use Rattle.std.specs.List.{prefix_len}
-use Rattle.duration_str.proofs.Common.{[], add-zero, ahead, all_names_in, and_from, and_parts, ap, append-nil, arith, BeginsSentence, Bool, byte_len, bytes_eq, cases_Bool, chars, chars-append, chars-encodes, codes, comparison_form, decimal, digits_decimal, drop, drop_all, Empty, encode_ascii, encode_utf8_all, encodes-chars, EndsRun, eqb-true, Expected, false, false_from_ne_true, find, fits, Humantime, if◌then◌else◌, inl, inr, is_ascii_alphabetic, is_blank, is_digit, is_unit_letter, IsBlank, IsRead, IsRefused, IsUtf8, length, length-append, lexemes_of, List, list_all, list_any, map, meaning_of, Mixed, More, more_names, nat_le, nat_lt, nat_tests, ne_eqb, None, not, NotText, number, number_of, NumberTooLarge, off, Option, option_map, Options, or_right, other, OutOfRange, Overflow, Own, refl, Rules, Second, Some, Spells, Stops, suc, sym, Syntax, table_of, take, take_while, take_while-cons, Terminal, terminal_of, terminals_of, TimeUnit, to_ascii_lowercase, Token, tokens_from, tokens_of, true, unit_of_word, units, UnitTable, unwrap_or, word, ℕ, ◌%◌, ◌&&◌, ◌*◌, ◌++◌, ◌+◌, ◌-◌, ◌/◌, ◌<◌, ◌==◌, ◌^◌, ◌||◌, ◌∙◌, ◌∷◌, ◌≡◌, ◌≤◌}
+use Rattle.duration_str.proofs.Common.{[], add-zero, ahead, all_names_in, and_from, and_parts, ap, append-nil, arith, BeginsSentence, Bool, byte_len, bytes_eq, cases_Bool, chars, codes, comparison_form, decimal, drop, drop_all, Empty, encode_ascii, encode_utf8_all, encodes-chars, EndsRun, eqb-true, Expected, false, false_from_ne_true, fits, Humantime, if◌then◌else◌, inl, inr, is_ascii_alphabetic, is_blank, is_digit, is_unit_letter, IsBlank, IsRead, IsRefused, IsUtf8, length, length-append, lexemes_of, List, list_all, list_any, map, meaning_of, Mixed, More, more_names, nat_le, nat_lt, nat_tests, ne_eqb, None, not, NotText, number, number_of, NumberTooLarge, off, Option, option_map, Options, or_right, other, OutOfRange, Overflow, Own, refl, Rules, Second, Some, Spells, Stops, suc, sym, Syntax, table_of, take, take_while, take_while-cons, Terminal, terminal_of, terminals_of, TimeUnit, to_ascii_lowercase, Token, tokens_from, tokens_of, true, unit_of_word, units, UnitTable, word, ℕ, ◌&&◌, ◌*◌, ◌++◌, ◌+◌, ◌-◌, ◌/◌, ◌<◌, ◌==◌, ◌^◌, ◌||◌, ◌∙◌, ◌∷◌, ◌≡◌, ◌≤◌}
 use Rattle.std.proofs.lemmas.List.{drop-drop, get_or-append-add, take_all}
 use Rattle.std.proofs.Math.Nat.{div-le_self}
 use Rattle.std.proofs.Math.Seq.{drop-append_seam, take-append_seam}
 use Rattle.std.proofs.lemmas.List.Folds.{list_all_at}
-use Rattle.std.proofs.lemmas.Nat.{div-add-mod'}
 use Rattle.std.specs.Prelude.{slice_index}
 use Rattle.duration_str_help.specs.declared.help.Help.TheVariants.{Fraction}
 use Rattle.duration_str_help.specs.declared.suggestion.Replacement.{Replacement}
 use Rattle.duration_str_units.specs.declared.rules.Rules.{Rules as CodeRules}
-use Rattle.duration_str_help.specs.Fraction.{as_term, is_whole_in, longest_whole, nanos_of_fraction}
+use Rattle.duration_str_help.specs.Fraction.{as_term, longest_whole, nanos_of_fraction}
 use Rattle.duration_str.specs.Mended.{FractionsAreMended, mended_text, MendedFractions}
 use Rattle.duration_str_help.specs.Help.{begins_with_letter, first_piece, help_name, is_letter, is_like, near_unit, small_words, syntax_help, with_micro_sign}
 use Rattle.duration_str_help.specs.Mends.{fraction_replacement, fraction_with, meant_unit, replacement_of, Pieces, pieces_of, unit_ahead}
 use Rattle.duration_str_units.proofs.CharacterLemmas.{all_weaker, digit-not_blank}
-use Rattle.duration_str_units.proofs.NumberLemmas.{decimal_digits}
 use Rattle.duration_str_reading.proofs.Cutting.RunLemmas.{decimal_terminal}
 use Rattle.duration_str_units.proofs.PackedLemmas.{no_name}
 use Rattle.duration_str_units.proofs.UnitLemmas.{all_units, named_passes}
 use Rattle.duration_str_reading.proofs.Cutting.TokenLemmas.{tokens_step}
 use Rattle.duration_str_help.proofs.FractionLemmas.{end_all, quotient_some}
-use Rattle.duration_str_help.proofs.MendedBytes.{blank_no_letter, blank_small, digit_small, first_char, is_small, past_small, plain_no_letter, run_cons, run_stops, small_chars, small_len, small_utf8}
-use Rattle.duration_str.proofs.LawProofs.MendedNames.{IsWritten, name_read, name_scalars, own_more, written}
+use Rattle.duration_str_help.proofs.MendedBytes.{blank_no_letter, blank_small, digit_small, first_char, is_small, past_small, plain_no_letter, run_cons, run_stops, small_len}
+use Rattle.duration_str.proofs.LawProofs.MendedNames.{IsWritten, name_read, own_more, written}
 use Rattle.duration_str.proofs.LawProofs.MendedNumbers.{digits_token}
-use Rattle.duration_str.proofs.LawProofs.MendedTerms.{IsQuotient, short_meant, value_parts}
+use Rattle.duration_str.proofs.LawProofs.MendedTerms.{scaled, short_meant, term_bytes, value_parts, whole_unit}
 use Rattle.duration_str.proofs.LawProofs.MendedTokens.{refused_at}
 use Rattle.duration_str.proofs.LawProofs.NearWords.{found_among}
 use Rattle.duration_str_reading.proofs.Sentences.AnswerLemmas.{fitting_sum_read, IsSumOf}
 use Rattle.duration_str_reading.proofs.Sentences.SpellingLemmas.{begins_with}
-use Rattle.duration_str_units.specs.declared.unit.TimeUnit.TheVariants.{NanoSecond}
-
--- ---- The value
-
-whole_times : (n d : ℕ) → n % d ≡ 0 → n / d * d ≡ n
-whole_times n d e = omega (arith, div-add-mod' n d, e)
-
--- The value times 10 for each digit after the point.
-scaled : (whole decimals : List ℕ) (l nanos : ℕ) → IsQuotient (number_of (whole ++ decimals) * l) (10 ^ length decimals) nanos
-    → nanos * 10 ^ length decimals ≡ number_of (whole ++ decimals) * l
-scaled whole decimals l nanos q =
-    ap (λ (n : ℕ). n * 10 ^ length decimals) (sym q.quotient) ∙ whole_times _ (10 ^ length decimals) q.whole
 
 -- ---- One term is read
-
-found_passes : (test : TimeUnit → Bool) (us : List TimeUnit) (v : TimeUnit) → find test us ≡ Some v → test v ≡ true
-found_passes test [] v e = absurd cc
-found_passes test (u ∷ us) v e = elim (cases_Bool (test u)) [
-  | inl passes ↦ let found = rw passes at e in let same : u ≡ v = cc in rw (← same) passes
-  | inr fails ↦ found_passes test us v (rw fails at e)
-]
-
-one_nano : (table : UnitTable) → (table_of table NanoSecond).nanos ≡ 1
-one_nano Own = refl
-one_nano More = refl
-one_nano Humantime = refl
-
-whole_unit : (s : CodeRules) (u : TimeUnit) (nanos : ℕ)
-    → let table = table_of s.table in
-    nanos / (table (longest_whole table u nanos)).nanos * (table (longest_whole table u nanos)).nanos ≡ nanos
-whole_unit s u nanos = by (find (is_whole_in (table_of s.table) u nanos) units) refl
-  where
-    by : (found : Option TimeUnit) → find (is_whole_in (table_of s.table) u nanos) units ≡ found
-        → let l = (table_of s.table (unwrap_or found NanoSecond)).nanos in nanos / l * l ≡ nanos
-    by None is = rw (one_nano s.table) (omega arith)
-    by (Some v) is =
-        let passes = found_passes (is_whole_in (table_of s.table) u nanos) units v is in
-        whole_times nanos (table_of s.table v).nanos
-        (eqb-true (nanos % (table_of s.table v).nanos) 0
-        (and_parts (nat_le (table_of s.table v).nanos (table_of s.table u).nanos) _ passes).1)
 
 word_of : (r : Rules) (name : List ℕ) (u : TimeUnit) → IsWritten r name → unit_of_word r name ≡ Some u
     → terminal_of r name ≡ word (Some u)
@@ -94,7 +54,7 @@ term_read s count nanos v small below is =
 
 -- ---- The name
 
-abbrev are_letters : List ℕ → Bool
+abbrev pub are_letters : List ℕ → Bool
 are_letters w = begins_with_letter w && list_all is_letter w
 
 lower_letter : (c : ℕ) → is_letter (to_ascii_lowercase c) ≡ is_letter c
@@ -161,7 +121,7 @@ near_letters w u near = elim (cases_Bool (list_any (bytes_eq w) small_words)) [
   ]
 ]
 
-meant_letters : (s : CodeRules) (w : List ℕ) (u : TimeUnit) → meant_unit (meaning_of s) w ≡ Some u → are_letters w ≡ true
+pub meant_letters : (s : CodeRules) (w : List ℕ) (u : TimeUnit) → meant_unit (meaning_of s) w ≡ Some u → are_letters w ≡ true
 meant_letters s w u meant = by (unit_of_word (meaning_of s) w) refl
   where
     by : (unit : Option TimeUnit) → unit_of_word (meaning_of s) w ≡ unit → are_letters w ≡ true
@@ -419,13 +379,8 @@ module _ (s : CodeRules) (whole decimals blanks name : List ℕ) (unit : TimeUni
       simp length-append refl in
       let end = length whole + 1 + length decimals + (length blanks + length name) in
       let rest : drop end fraction_text ≡ [] = drop_all end fraction_text (omega (arith, long)) in
-      let digits : list_all is_digit (decimal count) ≡ true = digits_decimal decimal_digits count small in
-      let ascii = all_weaker is_digit _ (decimal count) digit_small digits in
-      let term : chars (decimal count ++ encode_utf8_all (help_name v)) ≡ decimal count ++ help_name v =
-      chars-append (decimal count) (encode_utf8_all (help_name v)) (small_utf8 (decimal count) ascii)
-      ∙ rw (small_chars (decimal count) ascii, chars-encodes (help_name v) (name_scalars v)) refl in
       rw (start, rest, append-nil)
-      ((nanos, rw term read, scaled whole decimals unit_nanos nanos q), refl, refl)
+      ((nanos, rw (term_bytes count v small).1 read, scaled whole decimals unit_nanos nanos q), refl, refl)
 
   mend_is : (place : ℕ) (expected : Expected) → IsUtf8 fraction_text → list_all is_digit whole ≡ true
       → list_all is_digit decimals ≡ true → 1 ≤ length decimals → IsBlank blanks

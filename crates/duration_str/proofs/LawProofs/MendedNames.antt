@@ -1,5 +1,5 @@
 -- The names of units that a mend writes, and the words that it replaces.
-use Rattle.duration_str.proofs.Common.{[], and_parts, ap, arith, Bool, byte_len, bytes_eq, cases_Bool, chars, chars-append, chars-encodes, chinese_letters, comparison_form, encode_utf8_all, EndsRun, eqb-true, false, false_from_ne_true, find, Humantime, if◌then◌else◌, inl, inr, is_ascii_alphabetic, is_chinese, is_unit_letter, IsLexeme, IsUtf8, leb, leb-true, length, List, list_all, list_any, map, meaning_of, More, more_names, more_rules, nat_tests, None, off, Options, or_cases, Own, refl, Rules, scalars, Some, table_of, terminal_of, TimeUnit, to_ascii_lowercase, true, unit_of_word, UnitRow, units, UnitTable, word, ℕ, ◌&&◌, ◌++◌, ◌==◌, ◌||◌, ◌∙◌, ◌∷◌, ◌≡◌, ◌≤◌}
+use Rattle.duration_str.proofs.Common.{[], and_parts, arith, Bool, byte_len, bytes_eq, cases_Bool, chinese_letters, comparison_form, EndsRun, eqb-true, false, false_from_ne_true, find, Humantime, if◌then◌else◌, inl, inr, is_ascii_alphabetic, is_chinese, is_unit_letter, IsLexeme, leb, leb-true, length, List, list_all, list_any, map, meaning_of, More, more_names, more_rules, nat_tests, None, off, Options, or_cases, Own, refl, Rules, scalars, Some, table_of, terminal_of, TimeUnit, to_ascii_lowercase, true, unit_of_word, UnitRow, units, UnitTable, word, ℕ, ◌&&◌, ◌==◌, ◌||◌, ◌∙◌, ◌∷◌, ◌≡◌, ◌≤◌}
 use Rattle.duration_str_units.proofs.UnitLemmas.{all_units, each_unit, named_passes}
 use Rattle.duration_str_units.specs.declared.rules.Rules.{Rules as CodeRules}
 use Rattle.duration_str_units.proofs.PackedLemmas.{no_long_name}
@@ -106,18 +106,7 @@ near_short cs u near = elim (cases_Bool (list_any (bytes_eq cs) small_words)) [
   ]
 ]
 
--- ---- The bytes of the new text
+-- ---- The characters of a name
 
 pub name_scalars : (u : TimeUnit) → scalars (help_name u) ≡ true
 name_scalars = all_units (λ u. scalars (help_name u)) refl
-
-pub name_bytes : (u : TimeUnit) → length (encode_utf8_all (help_name u)) ≡ byte_len (help_name u)
-unfolding lib.Utf8.encode
-name_bytes = each_unit (λ u. length (encode_utf8_all (help_name u)) ≡ byte_len (help_name u)) assumption
-
-pub joined_chars : (front name rest : List ℕ) → IsUtf8 front → scalars name ≡ true → scalars rest ≡ true
-    → chars (front ++ (encode_utf8_all name ++ encode_utf8_all rest)) ≡ chars front ++ (name ++ rest)
-joined_chars front name rest utf8 are more =
-    chars-append front (encode_utf8_all name ++ encode_utf8_all rest) utf8
-    ∙ ap (λ (cs : List ℕ). chars front ++ cs) (chars-append (encode_utf8_all name) (encode_utf8_all rest) (name, (are, refl))
-    ∙ rw (chars-encodes name are, chars-encodes rest more) refl)

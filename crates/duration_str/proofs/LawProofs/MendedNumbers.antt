@@ -1,23 +1,18 @@
 -- Texts that begin a sentence, with a number, a number and a unit, or nothing after them.
-use Rattle.duration_str.proofs.Common.{[], add-zero, allows, and_from, and_parts, ap, append-nil, append_assoc, are_of_one_run, AreTokens, arith, BeginsSentence, Bool, byte_len, cases_Bool, EndsRun, Expected, expected_after, false, false_from_ne_true, goes_on, inl, inr, is_blank, is_digit, is_unit_letter, IsBlank, IsLexeme, IsRefused, IsTrue, last_of, length, length-append, List, list_all, list_all-append, map-append, None, number, number_of, operator, Option, Options, other, refl, Rules, Some, Stops, sym, Syntax, take, Terminal, terminal_of, terminals_of, TimeUnit, Token, tokens_from, tokens_of, true, unit_of_word, width, with_first_character, word, ℕ, ⊤, ◌&&◌, ◌++◌, ◌+◌, ◌||◌, ◌∙◌, ◌∷◌, ◌≡◌, ◌≢◌, ◌≤◌}
-use Rattle.duration_str_help.specs.Help.{begins_with_letter}
-use Rattle.duration_str_units.proofs.CharacterLemmas.{byte_len-append, digit-not_blank, digit-not_letter, letter-not_blank, letter-not_digit}
+use Rattle.duration_str.proofs.Common.{[], add-zero, allows, and_from, and_parts, ap, append-nil, append_assoc, are_of_one_run, AreTokens, arith, BeginsSentence, Bool, byte_len, cases_Bool, EndsRun, Expected, expected_after, false, false_from_ne_true, goes_on, inl, inr, is_blank, is_digit, is_unit_letter, IsLexeme, IsRefused, IsTrue, last_of, length, length-append, List, list_all, list_all-append, map-append, None, not, number, number_of, operator, Option, Options, other, refl, Rules, Some, Stops, sym, Syntax, take, Terminal, terminal_of, terminals_of, TimeUnit, Token, tokens_from, tokens_of, true, unit_of_word, width, with_first_character, word, ℕ, ◌&&◌, ◌++◌, ◌+◌, ◌||◌, ◌∙◌, ◌∷◌, ◌≡◌, ◌≢◌, ◌≤◌}
+use Rattle.duration_str_help.specs.Help.{begins_with_letter, is_letter}
+use Rattle.duration_str_help.specs.Mends.{ends_unit}
+use Rattle.duration_str_units.proofs.CharacterLemmas.{byte_len-append, digit-not_letter, letter-not_digit}
 use Rattle.duration_str_reading.proofs.Cutting.RunLemmas.{run-not_blank}
 use Rattle.duration_str_reading.proofs.Cutting.SortLemmas.{digits_are_lexeme, terminal_cases}
-use Rattle.duration_str_reading.proofs.Cutting.TokenLemmas.{same_all, same_end, tokens_are, tokens_step}
+use Rattle.duration_str_reading.proofs.Cutting.TokenLemmas.{tokens_are, tokens_step}
 use Rattle.duration_str.proofs.LawProofs.MendedNames.{ends_word, IsWritten, unit_letter_is_letter}
-use Rattle.duration_str.proofs.LawProofs.MendedTokens.{Begins, cut_before, IsCutBefore, length_stand, refused_at, stand_for, starts_over}
+use Rattle.duration_str.proofs.LawProofs.MendedTokens.{apart_blank, apart_last, apart_nothing, apart_past, Begins, cut_before, IsApart, IsCutBefore, length_stand, refused_at, stand_for, starts_over}
 use Rattle.duration_str_reading.proofs.Sentences.FrontLemmas.{follows_by_table}
 use Rattle.std.proofs.Math.Seq.{take-append_seam}
 use Rattle.duration_str_help.proofs.MendedBytes.{ends_in}
 
--- ---- Two texts with no run over their seam
-
--- No run goes on from the first text into the second.
-abbrev pub IsApart : Options → List ℕ → List ℕ → Type 0
-IsApart o [] more = ⊤
-IsApart o (c ∷ []) more = goes_on o c more ≡ false
-IsApart o (c ∷ d ∷ text) more = IsApart o (d ∷ text) more
+-- ---- The tokens of two texts with no run over their seam
 
 moved : (at c : ℕ) (xs ys : List Token) → xs ≢ [] → with_first_character at c (xs ++ ys) ≡ with_first_character at c xs ++ ys
 moved at c [] ys some = absurd (some refl)
@@ -59,7 +54,7 @@ seamed o at (c ∷ d ∷ text) more h =
       ]
     ]
 
-no_run : (a b p q : Bool) → a ≡ false → q ≡ false → ((a && b) || (p && q)) ≡ false
+pub no_run : (a b p q : Bool) → a ≡ false → q ≡ false → ((a && b) || (p && q)) ≡ false
 no_run a b p q h k = grind arith
 
 pub apart_digit : (o : Options) (text : List ℕ) (d : ℕ) (more : List ℕ) → ends_in is_digit text ≡ false
@@ -69,27 +64,28 @@ apart_digit o (c ∷ []) d more h digit =
     no_run (is_digit c) (is_digit d) (is_unit_letter o c) (is_unit_letter o d) h (digit-not_letter o d digit)
 apart_digit o (c ∷ e ∷ text) d more h digit = apart_digit o (e ∷ text) d more h digit
 
-pub apart_word : (o : Options) (text rest : List ℕ) → ends_in is_digit text ≡ false → begins_with_letter rest ≡ false
-    → IsApart o text rest
-apart_word o [] rest h ends = tt
-apart_word o (c ∷ []) [] h ends = refl
-apart_word o (c ∷ []) (d ∷ rest) h ends =
-    let other : is_unit_letter o d ≡ false =
-    false_from_ne_true (is_unit_letter o d) (λ t. cc (unit_letter_is_letter o d t, ends)) in
-    no_run (is_digit c) (is_digit d) (is_unit_letter o c) (is_unit_letter o d) h other
-apart_word o (c ∷ e ∷ text) rest h ends = apart_word o (e ∷ text) rest h ends
+neither : (a b : Bool) → ((a && false) || (b && false)) ≡ false
+neither a b = grind arith
 
-pub apart_blank : (o : Options) (text rest : List ℕ) → IsBlank text → IsApart o text rest
-apart_blank o [] rest h = tt
-apart_blank o (c ∷ []) [] h = refl
-apart_blank o (c ∷ []) (d ∷ rest) h =
-    let blank : is_blank c ≡ true = (and_parts (is_blank c) _ h).0 in
-    let digit = false_from_ne_true (is_digit c) (λ t. cc (digit-not_blank c t, blank)) in
-    let letter = false_from_ne_true (is_unit_letter o c) (λ t. cc (letter-not_blank o c t, blank)) in
-    rw (digit, letter) refl
-apart_blank o (c ∷ e ∷ text) rest h = apart_blank o (e ∷ text) rest (and_parts (is_blank c) _ h).1
+pub apart_before : (o : Options) (text : List ℕ) (d : ℕ) (rest : List ℕ) → is_digit d ≡ false → is_unit_letter o d ≡ false
+    → IsApart o text (d ∷ rest)
+apart_before o [] d rest digit letter = tt
+apart_before o (c ∷ []) d rest digit letter = rw (digit, letter) (neither (is_digit c) (is_unit_letter o c))
+apart_before o (c ∷ e ∷ text) d rest digit letter = apart_before o (e ∷ text) d rest digit letter
 
-ends_digits : (o : Options) (c : ℕ) (cs rest : List ℕ) → is_digit c ≡ true → Stops is_digit rest → EndsRun o (c ∷ cs) rest
+pub no_unit_letter : (o : Options) (c : ℕ) → is_letter c ≡ false → is_unit_letter o c ≡ false
+no_unit_letter o c none = false_from_ne_true (is_unit_letter o c) (λ t. cc (unit_letter_is_letter o c t, none))
+
+both_false : (a b : Bool) → not (a || b) ≡ true → (a ≡ false) × (b ≡ false)
+both_false a b h = grind arith
+
+pub apart_unless : (o : Options) (text rest : List ℕ) → ends_unit rest ≡ true → IsApart o text rest
+apart_unless o text [] ends = apart_nothing o text
+apart_unless o text (d ∷ rest) ends =
+    let none = both_false (is_letter d) (is_digit d) ends in
+    apart_before o text d rest none.1 (no_unit_letter o d none.0)
+
+pub ends_digits : (o : Options) (c : ℕ) (cs rest : List ℕ) → is_digit c ≡ true → Stops is_digit rest → EndsRun o (c ∷ cs) rest
 ends_digits o c cs [] digit stops = refl
 ends_digits o c cs (d ∷ rest) digit stops = rw (digit, stops, digit-not_letter o c digit) refl
 
@@ -101,23 +97,6 @@ digits_token o at c cs rest digits stops =
     rw add-zero at (tokens_step o at [] (c ∷ cs) rest refl (digits_are_lexeme o c cs digits) ends)
 
 -- ---- A text that ends with a whole token
-
-apart_run : (o : Options) (c : ℕ) (cs rest : List ℕ) → IsLexeme o (c ∷ cs) → EndsRun o (c ∷ cs) rest
-    → IsApart o (c ∷ cs) rest
-apart_run o c [] rest lexeme ends = ends
-apart_run o c (d ∷ cs) rest lexeme ends =
-    let (run, more) = and_parts (are_of_one_run o c d) (list_all (are_of_one_run o c) cs) lexeme.1 in
-    apart_run o d cs rest (run-not_blank o c d run, same_all o c d cs run ∙ more) (same_end o c d rest run ∙ ends)
-
-apart_past : (o : Options) (front : List ℕ) (c : ℕ) (cs rest : List ℕ) → IsApart o (c ∷ cs) rest
-    → IsApart o (front ++ c ∷ cs) rest
-apart_past o [] c cs rest h = h
-apart_past o (d ∷ []) c cs rest h = h
-apart_past o (d ∷ e ∷ front) c cs rest h = apart_past o (e ∷ front) c cs rest h
-
-apart_last : (o : Options) (front cs rest : List ℕ) → IsLexeme o cs → EndsRun o cs rest → IsApart o (front ++ cs) rest
-apart_last o front [] rest lexeme ends = absurd lexeme
-apart_last o front (c ∷ cs) rest lexeme ends = apart_past o front c cs rest (apart_run o c cs rest lexeme ends)
 
 no_token : (o : Options) (cs blanks left : List ℕ) → IsLexeme o cs → [] ≡ blanks ++ (cs ++ left) → ⊥
 no_token o [] blanks left lexeme parts = lexeme
@@ -182,14 +161,40 @@ one_more : (r : Rules) (text cs : List ℕ) → IsLexeme r.options cs → IsApar
 one_more r text cs lexeme apart =
     rw (seamed r.options 0 text cs apart, alone r.options (0 + byte_len text) cs lexeme, map-append, map-append) refl
 
+-- No run goes over the seams of three texts, and some sentence starts with the first two.
+pub record IsSeamed (r : Rules) (front written rest : List ℕ) : Type 0 where
+  pub first : IsApart r.options front written
+  pub last : IsApart r.options (front ++ written) rest
+  pub begins : Begins r (front ++ written)
+
+pub seamed_tokens : (o : Options) (front middle rest : List ℕ) → IsApart o front middle → IsApart o (front ++ middle) rest
+    → tokens_of o (front ++ (middle ++ rest))
+    ≡ tokens_of o front ++ (tokens_from o (byte_len front) middle ++ tokens_from o (byte_len front + byte_len middle) rest)
+seamed_tokens o front middle rest first last =
+    let start : 0 + byte_len front ≡ byte_len front = omega arith in
+    let end : 0 + byte_len (front ++ middle) ≡ byte_len front + byte_len middle = omega (arith, byte_len-append front middle) in
+    ap (tokens_of o) (sym (append_assoc front middle rest)) ∙ seamed o 0 (front ++ middle) rest last
+    ∙ rw (end, seamed o 0 front middle first, start, append_assoc) refl
+
+pub seamed_kept : (r : Rules) (front written rest : List ℕ) → IsSeamed r front written rest → (later : ℕ) (others : Expected)
+    → IsRefused r (front ++ (written ++ rest)) (Syntax later others) → byte_len front + byte_len written ≤ later
+seamed_kept r front written rest s later others again =
+    let least = kept r (front ++ written) rest s.last s.begins later others (rw append_assoc again) in
+    omega (arith, least, byte_len-append front written)
+
+pub nothing_seamed : (r : Rules) (front rest : List ℕ) → IsApart r.options front rest → Begins r front
+    → IsSeamed r front [] rest
+nothing_seamed r front rest apart begins =
+    record { first = apart_nothing r.options front; last = rw append-nil apart; begins = rw append-nil begins }
+
 -- A token is written after a text, and some sentence starts with both.
-token_kept : (r : Rules) (text cs rest : List ℕ) → IsLexeme r.options cs → IsApart r.options text cs
-    → EndsRun r.options cs rest → BeginsSentence r (terminals_of r text ++ terminal_of r cs ∷ []) → (later : ℕ) (others : Expected)
-    → IsRefused r (text ++ (cs ++ rest)) (Syntax later others) → byte_len text + byte_len cs ≤ later
-token_kept r text cs rest lexeme apart ends begins later others again =
-    let least = kept r (text ++ cs) rest (apart_last r.options text cs rest lexeme ends)
-    (rw (one_more r text cs lexeme apart) begins) later others (rw append_assoc again) in
-    omega (arith, least, byte_len-append text cs)
+token_seamed : (r : Rules) (text cs rest : List ℕ) → IsLexeme r.options cs → IsApart r.options text cs
+    → EndsRun r.options cs rest → BeginsSentence r (terminals_of r text ++ terminal_of r cs ∷ []) → IsSeamed r text cs rest
+token_seamed r text cs rest lexeme apart ends begins = record {
+  first = apart;
+  last = apart_last r.options text cs rest lexeme ends;
+  begins = rw (one_more r text cs lexeme apart) begins;
+}
 
 pub front_begins : (r : Rules) (front back : List ℕ) (expected : Expected)
     → IsRefused r (front ++ back) (Syntax (byte_len front) expected) → Begins r front
@@ -214,18 +219,17 @@ after_number r (Some other) h = cc
 
 pub mends : (r : Rules) (front back rest name : List ℕ) (u : TimeUnit) (expected : Expected) → IsWritten r name
     → unit_of_word r name ≡ Some u → begins_with_letter rest ≡ false → IsTrue expected.unit_word
-    → IsRefused r (front ++ back) (Syntax (byte_len front) expected) → (later : ℕ) (others : Expected)
-    → IsRefused r (front ++ (name ++ rest)) (Syntax later others) → byte_len front + byte_len name ≤ later
-mends r front back rest [] u expected is read ends unit refused later others again = absurd is
-mends r front back rest (c ∷ cs) u expected (letter, lexeme, names) read ends unit refused later others again =
-    let b : IsCutBefore r front expected = cut_before r front back expected refused in
+    → IsRefused r (front ++ back) (Syntax (byte_len front) expected) → IsSeamed r front name rest
+mends r front back rest [] u expected is read ends unit refused = absurd is
+mends r front back rest (c ∷ cs) u expected (letter, lexeme, names) read ends unit refused =
+    let b : IsCutBefore r front back expected = cut_before r front back expected refused in
     let ts = terminals_of r front in
     let (v, begins) = b.can_follow.unit_expected.0 unit in
     let allowed = (follows_by_table r ts (word (Some v)) b.begins).1 begins in
     let (n, last) = after_number r (last_of None ts) (and_parts _ _ allowed).0 in
     let apart = apart_number r 0 n c front cs None (tokens_of r.options front) (tokens_are r.options 0 front) last letter in
-    token_kept r front (c ∷ cs) rest lexeme apart (ends_word r.options c cs rest letter ends)
-    (rw (names ∙ ap word read) (same_follows r ts (word (Some v)) (word (Some u)) b.begins (λ h. h) begins)) later others again
+    token_seamed r front (c ∷ cs) rest lexeme apart (ends_word r.options c cs rest letter ends)
+    (rw (names ∙ ap word read) (same_follows r ts (word (Some v)) (word (Some u)) b.begins (λ h. h) begins))
 
 -- ---- A number after a text
 
@@ -268,43 +272,81 @@ last_of_pushed last (s ∷ front) t = last_of_pushed (Some s) front t
 
 pub joined_digits : (r : Rules) (text digits more rest back : List ℕ) (expected : Expected) → ends_in is_digit text ≡ false
     → IsTrue (list_all is_digit digits) → IsTrue (list_all is_digit more) → Stops is_digit rest → digits ≢ []
-    → IsRefused r ((text ++ digits) ++ back) (Syntax (byte_len (text ++ digits)) expected) → (later : ℕ) (others : Expected)
-    → IsRefused r (text ++ (digits ++ (more ++ rest))) (Syntax later others) → byte_len (text ++ digits) ≤ later
-joined_digits r text [] more rest back expected ends are also stops some refused later others again = absurd (some refl)
-joined_digits r text (c ∷ cs) more rest back expected ends are also stops some refused later others again =
+    → IsRefused r ((text ++ digits) ++ back) (Syntax (byte_len (text ++ digits)) expected)
+    → IsSeamed r text (digits ++ more) rest
+joined_digits r text [] more rest back expected ends are also stops some refused = absurd (some refl)
+joined_digits r text (c ∷ cs) more rest back expected ends are also stops some refused =
     let o = r.options in
     let takes = takes_number r text (c ∷ cs) back expected ends are (λ e. absurd (some e)) refused in
     let first = (and_parts (is_digit c) _ are).0 in
     let digits : list_all is_digit (c ∷ (cs ++ more)) ≡ true =
     list_all-append is_digit (c ∷ cs) more ∙ and_from _ _ are also in
-    let same : text ++ ((c ∷ cs) ++ (more ++ rest)) ≡ text ++ ((c ∷ (cs ++ more)) ++ rest) =
-    ap (λ (xs : List ℕ). text ++ c ∷ xs) (sym (append_assoc cs more rest)) in
-    let least = token_kept r text (c ∷ (cs ++ more)) rest (digits_are_lexeme o c (cs ++ more) digits)
+    token_seamed r text (c ∷ (cs ++ more)) rest (digits_are_lexeme o c (cs ++ more) digits)
     (apart_digit o text c (cs ++ more) ends first) (ends_digits o c (cs ++ more) rest first stops)
-    (rw digits (takes (number_of (c ∷ (cs ++ more))))) later others (rw same at again) in
-    omega (arith, least, byte_len-append text (c ∷ cs), byte_len-append cs more)
+    (rw digits (takes (number_of (c ∷ (cs ++ more)))))
 
 pub term_in_place : (r : Rules) (text digits back count name rest : List ℕ) (u : TimeUnit) (expected : Expected)
     → ends_in is_digit text ≡ false → IsTrue (list_all is_digit digits) → (digits ≡ [] → IsTrue expected.number)
     → IsTrue (list_all is_digit count) → count ≢ [] → IsWritten r name → unit_of_word r name ≡ Some u
     → begins_with_letter rest ≡ false
-    → IsRefused r ((text ++ digits) ++ back) (Syntax (byte_len (text ++ digits)) expected) → (later : ℕ) (others : Expected)
-    → IsRefused r (text ++ (count ++ (name ++ rest))) (Syntax later others)
-    → byte_len text + (byte_len count + byte_len name) ≤ later
-term_in_place r text digits back [] name rest u expected ends are can new some is read after refused later others again =
-    absurd (some refl)
-term_in_place r text digits back (c ∷ cs) [] rest u expected ends are can new some is read after refused later others again =
-    absurd is
-term_in_place r text digits back (c ∷ cs) (w ∷ ws) rest u expected ends are can new some (letter, lexeme, names) read after refused
-    later others again =
+    → IsRefused r ((text ++ digits) ++ back) (Syntax (byte_len (text ++ digits)) expected)
+    → IsSeamed r text (count ++ name) rest
+term_in_place r text digits back [] name rest u expected ends are can new some is read after refused = absurd (some refl)
+term_in_place r text digits back (c ∷ cs) [] rest u expected ends are can new some is read after refused = absurd is
+term_in_place r text digits back (c ∷ cs) (w ∷ ws) rest u expected ends are can new some (letter, lexeme, names) read after refused =
     let o = r.options in
     let n = number_of (c ∷ cs) in
     let ts = terminals_of r text in
+    let whole : (text ++ c ∷ cs) ++ w ∷ ws ≡ text ++ ((c ∷ cs) ++ w ∷ ws) = append_assoc text (c ∷ cs) (w ∷ ws) in
     let takes = takes_number r text digits back expected ends are can refused in
-    let stops = ends_digits o c cs (w ∷ ws) (and_parts (is_digit c) _ new).0 (letter-not_digit o w letter) in
+    let first = (and_parts (is_digit c) _ new).0 in
+    let stops = ends_digits o c cs (w ∷ ws) first (letter-not_digit o w letter) in
     let apart = apart_last o text (c ∷ cs) (w ∷ ws) (digits_are_lexeme o c cs new) stops in
     let begins : BeginsSentence r ((ts ++ number n ∷ []) ++ word (Some u) ∷ []) =
     (follows_by_table r (ts ++ number n ∷ []) (word (Some u)) (takes n)).0 (rw (last_of_pushed None ts (number n)) refl) in
-    let least = token_kept r (text ++ c ∷ cs) (w ∷ ws) rest lexeme apart (ends_word o w ws rest letter after)
-    (rw (more_digits r text cs c ends new, names ∙ ap word read) begins) later others (rw append_assoc again) in
-    omega (arith, least, byte_len-append text (c ∷ cs))
+    let all : terminals_of r ((text ++ c ∷ cs) ++ w ∷ ws) ≡ (ts ++ number n ∷ []) ++ word (Some u) ∷ [] =
+    one_more r (text ++ c ∷ cs) (w ∷ ws) lexeme apart ∙ rw (more_digits r text cs c ends new, names ∙ ap word read) refl in
+    record {
+      first = apart_digit o text c (cs ++ w ∷ ws) ends first;
+      last = rw whole at (apart_last o (text ++ c ∷ cs) (w ∷ ws) rest lexeme (ends_word o w ws rest letter after));
+      begins = rw (← whole, all) begins;
+    }
+
+-- ---- Digits as one token
+
+pub one_number : (o : Options) (at : ℕ) (digits : List ℕ) → IsTrue (list_all is_digit digits) → digits ≢ []
+    → tokens_from o at digits ≡ record { start = at; characters = digits } ∷ []
+one_number o at [] are some = absurd (some refl)
+one_number o at (c ∷ cs) are some = alone o at (c ∷ cs) (digits_are_lexeme o c cs are)
+
+pub number_last : (o : Options) (text digits : List ℕ) → ends_in is_digit text ≡ false → IsTrue (list_all is_digit digits)
+    → digits ≢ [] → tokens_of o (text ++ digits) ≡ tokens_of o text ++ record { start = byte_len text; characters = digits } ∷ []
+number_last o text [] ends are some = absurd (some refl)
+number_last o text (c ∷ cs) ends are some =
+    let start : 0 + byte_len text ≡ byte_len text = omega arith in
+    seamed o 0 text (c ∷ cs) (apart_digit o text c cs ends (and_parts (is_digit c) _ are).0)
+    ∙ rw (start, one_number o (byte_len text) (c ∷ cs) are some) refl
+
+pub number_first : (o : Options) (at : ℕ) (digits rest : List ℕ) → IsTrue (list_all is_digit digits) → digits ≢ []
+    → Stops is_digit rest
+    → tokens_from o at (digits ++ rest) ≡ record { start = at; characters = digits } ∷ tokens_from o (at + byte_len digits) rest
+number_first o at [] rest are some stops = absurd (some refl)
+number_first o at (c ∷ cs) rest are some stops = digits_token o at c cs rest are stops
+
+-- ---- What is written stands for what is said
+
+pub name_said : (r : Rules) (name : List ℕ) (u : TimeUnit) → IsWritten r name → unit_of_word r name ≡ Some u
+    → terminals_of r name ≡ word (Some u) ∷ []
+name_said r [] u is read = absurd is
+name_said r (c ∷ cs) u (letter, lexeme, names) read = rw (alone r.options 0 (c ∷ cs) lexeme, names ∙ ap word read) refl
+
+pub term_said : (r : Rules) (count name : List ℕ) (u : TimeUnit) → IsTrue (list_all is_digit count) → count ≢ []
+    → IsWritten r name → unit_of_word r name ≡ Some u
+    → terminals_of r (count ++ name) ≡ number (number_of count) ∷ word (Some u) ∷ []
+term_said r [] name u digits some is read = absurd (some refl)
+term_said r (c ∷ cs) [] u digits some is read = absurd is
+term_said r (c ∷ cs) (w ∷ ws) u digits some (letter, lexeme, names) read =
+    let o = r.options in
+    let stops = ends_digits o c cs (w ∷ ws) (and_parts (is_digit c) _ digits).0 (letter-not_digit o w letter) in
+    let apart = apart_last o [] (c ∷ cs) (w ∷ ws) (digits_are_lexeme o c cs digits) stops in
+    one_more r (c ∷ cs) (w ∷ ws) lexeme apart ∙ rw (more_digits r [] cs c refl digits, names ∙ ap word read) refl

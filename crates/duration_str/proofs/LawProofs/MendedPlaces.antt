@@ -1,27 +1,58 @@
 -- The bytes of a text before and after the place of a syntax fault, and mends there.
 use Rattle.std.specs.List.{prefix_len}
-use Rattle.duration_str.proofs.Common.{[], ahead, ap, append_assoc, arith, Bool, byte_len, chars, chars-append, drop, encode_utf8_all, Expected, false, is_ascii_alphabetic, is_blank, is_digit, IsBlank, IsRefused, IsTrue, IsUtf8, IsUtf8-drop, IsUtf8-take, length, length-take-le, List, meaning_of, nat_le, nat_tests, not, refl, scalars, Some, sym, Syntax, take, take-append-drop, TimeUnit, true, ℕ, ◌++◌, ◌+◌, ◌-◌, ◌||◌, ◌∙◌, ◌∷◌, ◌≡◌, ◌≤◌}
+use Rattle.duration_str.proofs.Common.{[], ahead, ap, arith, Bool, byte_len, bytes_eq, bytes_eq-Decides, chars, chars-append, chars-encodes, chars-nil, codes, drop, encode_utf8_all, Expected, false, inl, inr, is_blank, is_digit, IsBlank, IsRefused, IsTrue, IsUtf8, IsUtf8-drop, IsUtf8-nil, IsUtf8-take, length, length-take-le, List, list_all, meaning_of, None, Option, or_cases, refl, Some, Stops, suc, sym, Syntax, take, take-append-drop, terminals_of, TimeUnit, true, zero, ℕ, ◌++◌, ◌+◌, ◌-◌, ◌∙◌, ◌∷◌, ◌≡◌, ◌≢◌, ◌⊎◌}
 use Rattle.std.specs.Prelude.{slice_index}
 use Rattle.std.proofs.lemmas.List.{drop-drop}
 use Rattle.duration_str_help.specs.declared.suggestion.Replacement.{Replacement}
+use Rattle.duration_str_help.specs.declared.suggestion.Suggestion.{Suggestion}
 use Rattle.duration_str_units.specs.declared.rules.Rules.{Rules as CodeRules}
 use Rattle.duration_str_help.specs.Fraction.{end_run}
-use Rattle.duration_str_help.specs.Help.{begins_with_letter, help_name, is_letter}
-use Rattle.duration_str_help.specs.Mends.{ends_unit, name_alone, nothing, removed_if, suggestion_text}
-use Rattle.duration_str_help.proofs.MendedBytes.{blank_small, digit_small, end_cut, EndCut, ends_by_last, ends_chars, first_digit, past_small, run_parts, RunParts, small_chars, some_end, ends_in}
-use Rattle.duration_str.proofs.LawProofs.MendedNames.{joined_chars, name_bytes, name_read, name_scalars, written}
-use Rattle.duration_str.proofs.LawProofs.MendedNumbers.{apart_blank, apart_word, front_begins, IsApart, joined_digits, kept, mends}
+use Rattle.duration_str_help.specs.Help.{begins_with_letter, help_name}
+use Rattle.duration_str_help.specs.Mends.{name_alone, nothing, Pieces, pieces_of, removed_if, suggestion_text}
+use Rattle.duration_str.specs.Mended.{IsExactly, said}
+use Rattle.std.proofs.Math.Seq.{drop-append_seam, take-append_seam}
+use Rattle.duration_str_help.proofs.MendedHelp.{is_separator}
+use Rattle.duration_str_help.proofs.MendedBytes.{blank_small, digit_small, end_cut, EndCut, ends_by_last, first_digit, past_small, run_parts, RunParts, small_chars, run_cons, some_end, ends_in}
+use Rattle.duration_str.proofs.LawProofs.MendedNames.{name_read, name_scalars, written}
+use Rattle.duration_str.proofs.LawProofs.MendedNumbers.{front_begins, IsSeamed, joined_digits, mends, name_said, nothing_seamed}
+use Rattle.duration_str.proofs.LawProofs.MendedTokens.{apart_blank, IsApart}
 use Rattle.duration_str_units.proofs.CharacterLemmas.{all_weaker, byte_count}
 use Rattle.duration_str_reading.proofs.OnePass.PlaceLemmas.{fault_placed}
 use Rattle.duration_str_reading.proofs.Sentences.AnswerLemmas.{answer_refused}
 
--- What the mend writes has no syntax fault before its end.
-abbrev pub Keeps : CodeRules → List ℕ → Replacement → Type 0
-Keeps s text replacement =
-    (later : ℕ) (others : Expected)
-    → IsRefused (meaning_of s) (chars (take replacement.start text ++ (suggestion_text replacement.suggestion ++ drop replacement.end text)))
-    (Syntax later others)
-    → length (take replacement.start text) + length (suggestion_text replacement.suggestion) ≤ later
+-- What is written stands between the front and the rest. No run goes over its two seams, and some
+-- sentence starts with the front and with what is written.
+pub record IsInPlace (s : CodeRules) (new : Pieces) : Type 0 where
+  pub front_utf8 : IsUtf8 new.front
+  pub written_utf8 : IsUtf8 new.written
+  pub seamed : IsSeamed (meaning_of s) (chars new.front) (chars new.written) (chars new.rest)
+
+-- A sign between digits is removed, and some sentence starts with the text before these digits and
+-- the number that they are then.
+pub record IsJoined (s : CodeRules) (new : Pieces) : Type 0 where
+  pub separator : (new.replaced ≡ codes "_") ⊎ (new.replaced ≡ codes "'")
+  pub removed : new.written ≡ []
+  pub front_utf8 : IsUtf8 new.front
+  pub before : List ℕ
+  pub digits : List ℕ
+  pub more : List ℕ
+  pub after : List ℕ
+  pub front : chars new.front ≡ before ++ digits
+  pub rest : chars new.rest ≡ more ++ after
+  pub ends : ends_in is_digit before ≡ false
+  pub are_digits : IsTrue (list_all is_digit digits)
+  pub are_more : IsTrue (list_all is_digit more)
+  pub some : digits ≢ []
+  pub some_more : more ≢ []
+  pub stops : Stops is_digit after
+  pub seamed : IsSeamed (meaning_of s) before (digits ++ more) after
+
+-- What is written for a mend, and that it stands for what the suggestion says.
+pub record IsMended (s : CodeRules) (text : List ℕ) (replacement : Replacement) : Type 0 where
+  pub tokens : IsInPlace s (pieces_of text replacement) ⊎ IsJoined s (pieces_of text replacement)
+  pub said : terminals_of (meaning_of s) (chars (suggestion_text replacement.suggestion)) ≡ said replacement.suggestion
+  pub exact : (count : ℕ) (unit : TimeUnit) → replacement.suggestion ≡ record { count = Some count; unit = Some unit }
+      → IsExactly s (pieces_of text replacement).replaced count unit
 
 -- ---- The place
 
@@ -56,22 +87,35 @@ after_place text place n = sym (drop-drop n place text)
 
 -- ---- Something is only removed
 
+no_count : (given : Option TimeUnit) (count : ℕ) (unit : TimeUnit)
+    → ◌≡◌ {A = Suggestion} (record { count = None; unit = given }) (record { count = Some count; unit = Some unit }) → ⊥
+no_count given count unit is =
+    let clash : None ≡ Some count = ap (λ (suggestion : Suggestion). suggestion.count) is in cc clash
+
+nothing_said : (s : CodeRules) → terminals_of (meaning_of s) (chars []) ≡ []
+nothing_said s = rw chars-nil refl
+
 removed : (s : CodeRules) (text : List ℕ) (place n : ℕ) (expected : Expected) → IsPlaced s text place expected
     → IsApart s.options (chars (take place text)) (chars (drop (place + n) text))
-    → Keeps s text (record { start = place; end = place + n; suggestion = nothing })
-removed s text place n expected p apart later others again =
+    → IsMended s text (record { start = place; end = place + n; suggestion = nothing })
+removed s text place n expected p apart =
     let r = meaning_of s in
     let front = chars (take place text) in
-    let new : chars (take place text ++ drop (place + n) text) ≡ front ++ chars (drop (place + n) text) =
-    chars-append (take place text) (drop (place + n) text) p.front_utf8 in
     let begins = front_begins r front (ahead text place) expected p.refused in
-    let least = kept r front (chars (drop (place + n) text)) apart begins later others (rw new at again) in
-    omega (arith, least, p.wide, p.long)
+    record {
+      tokens = inl (record {
+        front_utf8 = p.front_utf8;
+        written_utf8 = IsUtf8-nil;
+        seamed = rw chars-nil (nothing_seamed r front (chars (drop (place + n) text)) apart begins);
+      });
+      said = nothing_said s;
+      exact = λ count unit is. absurd (no_count _ count unit is);
+    }
 
 pub removed_by : (s : CodeRules) (text : List ℕ) (place n : ℕ) (expected : Expected) (replacement : Replacement) (b : Bool)
     → IsPlaced s text place expected
     → (b ≡ true → IsApart s.options (chars (take place text)) (chars (drop (place + n) text)))
-    → removed_if b place (place + n) ≡ Some replacement → Keeps s text replacement
+    → removed_if b place (place + n) ≡ Some replacement → IsMended s text replacement
 removed_by s text place n expected replacement true p apart is =
     let same : record { start = place; end = place + n; suggestion = nothing } ≡ replacement = cc in
     rw (← same) (removed s text place n expected p (apart refl))
@@ -83,73 +127,96 @@ apart_at_start s text rest place blank =
     let own = small_chars (take place text) (all_weaker is_blank _ (take place text) blank_small blank) in
     rw own (apart_blank s.options (take place text) rest blank)
 
-no_digit : (b : ℕ) → (is_ascii_alphabetic b || nat_le 0x80 b) ≡ true → is_digit b ≡ false
-no_digit b h = grind (arith, nat_tests)
-
-pub apart_at_point : (s : CodeRules) (text rest : List ℕ) (place : ℕ) → IsUtf8 (take place text)
-    → (let before = take place text in
-    let last = slice_index before (length before - 1) in (is_ascii_alphabetic last || nat_le 0x80 last) ≡ true)
-    → ends_unit rest ≡ true → IsApart s.options (chars (take place text)) rest
-apart_at_point s text rest place utf8 letter other =
-    let before = take place text in
-    let ends = ends_by_last is_digit before refl ∙ no_digit (slice_index before (length before - 1)) letter in
-    apart_word s.options (chars before) rest (ends_chars before utf8 ends) (no_letter rest other)
-  where
-    neither : (a b : Bool) → not (a || b) ≡ true → a ≡ false
-    neither true b e = absurd cc
-    neither false b e = refl
-
-    no_letter : (cs : List ℕ) → ends_unit cs ≡ true → begins_with_letter cs ≡ false
-    no_letter [] e = refl
-    no_letter (c ∷ cs) e = neither (is_letter c) (is_digit c) e
-
 -- ---- A sign between digits is removed
 
-joined_at : (s : CodeRules) (text : List ℕ) (place n : ℕ) (expected : Expected) → IsPlaced s text place expected
-    → IsUtf8 (drop (place + n) text) → ends_in is_digit (take place text) ≡ true
-    → Keeps s text (record { start = place; end = place + n; suggestion = nothing })
-joined_at s text place n expected p utf8 digit later others again =
+some_digit : (text : List ℕ) (place : ℕ) → is_digit (slice_index text place) ≡ true
+    → take (prefix_len is_digit (drop place text)) (drop place text) ≢ []
+some_digit [] place digit none = cc digit
+some_digit (b ∷ text) zero digit none = cc (rw (run_cons is_digit b text digit) at none)
+some_digit (b ∷ text) (suc place) digit none = some_digit text place digit none
+
+joined_at : (s : CodeRules) (text piece : List ℕ) (place : ℕ) (expected : Expected) → IsPlaced s text place expected
+    → (rest : List ℕ) → drop place text ≡ piece ++ rest → IsUtf8 rest
+    → ends_in is_digit (take place text) ≡ true → is_digit (slice_index text (place + length piece)) ≡ true
+    → (piece ≡ codes "_") ⊎ (piece ≡ codes "'")
+    → IsMended s text (record { start = place; end = place + length piece; suggestion = nothing })
+joined_at s text piece place expected p rest parts utf8 digit next separator =
     let r = meaning_of s in
+    let n = length piece in
     let front = take place text in
     let back = drop (place + n) text in
+    let same : back ≡ rest = after_place text place n ∙ ap (drop n) parts ∙ drop-append_seam piece rest in
     let cut : EndCut front = end_cut front p.front_utf8 in
     let run = end_run is_digit front in
     let k = prefix_len is_digit back in
-    let parts : RunParts is_digit back = run_parts is_digit back in
-    let small = all_weaker is_digit _ (take k back) digit_small parts.all in
-    let after = past_small (take k back) (drop k back) small (rw take-append-drop utf8) in
-    let rest : chars back ≡ take k back ++ chars (drop k back) = rw take-append-drop at after.0 in
-    let new : chars (front ++ back) ≡ chars cut.front ++ (run ++ (take k back ++ chars (drop k back))) =
-    chars-append front back p.front_utf8 ∙ rw (cut.spelled, rest) (append_assoc (chars cut.front) run _) in
+    let more : RunParts is_digit back = run_parts is_digit back in
+    let small = all_weaker is_digit _ (take k back) digit_small more.all in
+    let after = past_small (take k back) (drop k back) small (rw (take-append-drop, same) utf8) in
+    let some = some_end is_digit front digit in
+    let stops = first_digit (drop k back) after.1 more.stops in
     let refused : IsRefused r ((chars cut.front ++ run) ++ ahead text place) (Syntax (byte_len (chars cut.front ++ run)) expected) =
     rw (← cut.spelled) p.refused in
-    let least = joined_digits r (chars cut.front) run (take k back) (chars (drop k back)) (ahead text place) expected cut.ends
-    cut.digits parts.all (first_digit (drop k back) after.1 parts.stops) (some_end is_digit front digit) refused later others
-    (rw new at again) in
-    let bytes : byte_len (chars cut.front ++ run) ≡ place = ap byte_len (sym cut.spelled) ∙ p.wide in
-    omega (arith, least, bytes, p.long)
+    let gone : place + n - place ≡ n = omega arith in
+    let replaced : take (place + n - place) (drop place text) ≡ piece =
+    rw gone (ap (take n) parts ∙ take-append_seam piece rest) in
+    record {
+      tokens = inr (record {
+        separator = rw replaced separator;
+        removed = refl;
+        front_utf8 = p.front_utf8;
+        before = chars cut.front;
+        digits = run;
+        more = take k back;
+        after = chars (drop k back);
+        front = cut.spelled;
+        rest = rw take-append-drop at after.0;
+        ends = cut.ends;
+        are_digits = cut.digits;
+        are_more = more.all;
+        some = some;
+        some_more = some_digit text (place + n) next;
+        stops = stops;
+        seamed = joined_digits r (chars cut.front) run (take k back) (chars (drop k back)) (ahead text place) expected
+            cut.ends cut.digits more.all stops some refused;
+      });
+      said = nothing_said s;
+      exact = λ count unit is. absurd (no_count _ count unit is);
+    }
 
-pub joined_by : (s : CodeRules) (text : List ℕ) (place n : ℕ) (expected : Expected) (replacement : Replacement) (b : Bool)
-    → IsPlaced s text place expected → IsUtf8 (drop (place + n) text)
+pub joined_by : (s : CodeRules) (text piece : List ℕ) (place : ℕ) (expected : Expected) (replacement : Replacement)
+    → IsPlaced s text place expected → (rest : List ℕ) → drop place text ≡ piece ++ rest → IsUtf8 rest
     → is_digit (slice_index (take place text) (length (take place text) - 1)) ≡ true
-    → removed_if b place (place + n) ≡ Some replacement → Keeps s text replacement
-joined_by s text place n expected replacement true p utf8 digit is =
-    let same : record { start = place; end = place + n; suggestion = nothing } ≡ replacement = cc in
-    rw (← same) (joined_at s text place n expected p utf8 (ends_by_last is_digit (take place text) refl ∙ digit))
-joined_by s text place n expected replacement false p utf8 digit is = absurd cc
+    → (is_separator piece ≡ true → is_digit (slice_index text (place + length piece)) ≡ true) → (b : Bool)
+    → is_separator piece ≡ b → removed_if b place (place + length piece) ≡ Some replacement → IsMended s text replacement
+joined_by s text piece place expected replacement p rest parts utf8 digit next true separates is =
+    let same : record { start = place; end = place + length piece; suggestion = nothing } ≡ replacement = cc in
+    let signs = or_cases (bytes_eq piece (codes "_")) (bytes_eq piece (codes "'")) separates in
+    let separator : (piece ≡ codes "_") ⊎ (piece ≡ codes "'") = elim signs [
+      | inl line ↦ inl ((bytes_eq-Decides piece (codes "_")).0 line)
+      | inr mark ↦ inr ((bytes_eq-Decides piece (codes "'")).0 mark)
+    ] in
+    rw (← same) (joined_at s text piece place expected p rest parts utf8
+    (ends_by_last is_digit (take place text) refl ∙ digit) (next separates) separator)
+joined_by s text piece place expected replacement p rest parts utf8 digit next false separates is = absurd cc
 
 -- ---- A name is written
 
-pub name_written : (s : CodeRules) (text : List ℕ) (place n : ℕ) (u : TimeUnit) (expected : Expected) (rest : List ℕ)
-    → IsPlaced s text place expected → IsTrue expected.unit_word → drop (place + n) text ≡ encode_utf8_all rest
-    → scalars rest ≡ true → begins_with_letter rest ≡ false
-    → Keeps s text (record { start = place; end = place + n; suggestion = name_alone u })
-name_written s text place n u expected rest p unit is are stops later others again =
+pub name_written : (s : CodeRules) (text : List ℕ) (place n : ℕ) (u : TimeUnit) (expected : Expected)
+    → IsPlaced s text place expected → IsTrue expected.unit_word
+    → begins_with_letter (chars (drop (place + n) text)) ≡ false
+    → IsMended s text (record { start = place; end = place + n; suggestion = name_alone u })
+name_written s text place n u expected p unit stops =
     let r = meaning_of s in
-    let front = take place text in
+    let front = chars (take place text) in
+    let rest = chars (drop (place + n) text) in
     let name = help_name u in
-    let new : chars (front ++ (encode_utf8_all name ++ drop (place + n) text)) ≡ chars front ++ (name ++ rest) =
-    rw is (joined_chars front name rest p.front_utf8 (name_scalars u) are) in
-    let least = mends r (chars front) (ahead text place) rest name u expected (written r u) (name_read s u) stops unit p.refused
-    later others (rw new at again) in
-    omega (arith, least, name_bytes u, p.wide, p.long)
+    let own : chars (encode_utf8_all name) ≡ name = chars-encodes name (name_scalars u) in
+    record {
+      tokens = inl (record {
+        front_utf8 = p.front_utf8;
+        written_utf8 = (name, (name_scalars u, refl));
+        seamed = rw own (mends r front (ahead text place) rest name u expected (written r u) (name_read s u) stops unit p.refused);
+      });
+      said = ap (terminals_of r) own ∙ name_said r name u (written r u) (name_read s u);
+      exact = λ count unit is. absurd (no_count _ count unit is);
+    }
