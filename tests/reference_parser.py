@@ -807,6 +807,11 @@ def help_of(text, answer):
     return name and Help(name)
 
 
+def is_time_of_units(text, piece):
+    """Whether a text with `PT` ends with a letter, as it does in ISO 8601."""
+    return piece.upper() == "PT" and bool(re.search("[A-Za-z]$", text.rstrip(BLANKS)))
+
+
 def mend_of(text, answer, choice):
     """What is certain to be written instead, or None. GRAMMAR's table says it for each help."""
     found = help_of(text, answer)
@@ -821,11 +826,11 @@ def mend_of(text, answer, choice):
             return Mend(place, place, "s")
         case "LeadingPlus":
             return Mend(place, end)
-        case "NoPoint" if first_kind(text[end:]) is None:
+        case "NoPoint" if first_kind(text[end:]) is None and text[end : end + 1] != ".":
             return Mend(place, end)
-        case "DigitsOnly" if piece in ("_", "'"):
+        case "DigitsOnly" if piece in ("_", "'") and re.match("[0-9]{3}(?![0-9])", text[end:]):
             return Mend(place, end)
-        case "Iso8601" if piece.upper() == "PT" and not choice.options.lowercase:
+        case "Iso8601" if is_time_of_units(text, piece) and not choice.options.lowercase:
             return Mend(place, end)
     return None
 

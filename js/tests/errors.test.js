@@ -90,17 +90,19 @@ test("mends a part that has fewer UTF-16 units than bytes", () => {
 });
 
 test("mends until a text is read, and up to 32 faults", () => {
-    const zeros = (count, between) => `0${between}`.repeat(count);
+    const zeros = (count, mark) => `0${`${mark}000`.repeat(count)}s`;
     const rows = [
         ["2hrs 1.5min", {}, "2h 90s"],
         ["1.5h 5x", {}, null],
         ["600years.", {}, null],
-        ["1_0.5", { defaultUnit: "ms" }, "10500us"],
+        ["1_000.5", { defaultUnit: "ms" }, "1000500us"],
+        ["1_5.5", { defaultUnit: "ms" }, null],
+        ["1_000'00s", {}, null],
         [1.5, { defaultUnit: "ms" }, "1500us"],
         ["0 0", { requireUnit: true }, null],
-        [`${zeros(32, "_")}0s`, {}, `${zeros(32, "")}0s`],
-        [`${zeros(33, "_")}0s`, {}, null],
-        [`${zeros(500_000, "_")}0s`, {}, null],
+        [zeros(32, "_"), {}, zeros(32, "")],
+        [zeros(33, "_"), {}, null],
+        [zeros(250_000, "_"), {}, null],
     ];
     for (const [text, options, mended] of rows) {
         const error = errorOf(text, options);

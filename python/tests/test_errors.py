@@ -56,7 +56,9 @@ class Errors(unittest.TestCase):
             ("2hrs 1.5min", {}, "2h 90s"),
             ("1.5h 5x", {}, None),
             ("600years.", {}, None),
-            ("1_0.5", {"default_unit": "ms"}, "10500us"),
+            ("1_000.5", {"default_unit": "ms"}, "1000500us"),
+            ("1_5.5", {"default_unit": "ms"}, None),
+            ("1_000'00s", {}, None),
             (1.5, {"default_unit": "ms"}, "1500us"),
             ("0 0", {"require_unit": True}, None),
         ]
@@ -65,9 +67,9 @@ class Errors(unittest.TestCase):
                 self.assertEqual(error_of(text, **options).mended, mended)
 
     def test_mends_up_to_32_faults(self):
-        for count, is_mended in ((32, True), (33, False), (500_000, False)):
-            error = error_of("0_" * count + "0s")
-            self.assertEqual(error.mended, "0" * count + "0s" if is_mended else None)
+        for count, is_mended in ((32, True), (33, False), (250_000, False)):
+            error = error_of(f"0{'_000' * count}s")
+            self.assertEqual(error.mended, f"0{'000' * count}s" if is_mended else None)
 
     def test_mends_to_a_longer_text(self):
         for before in ("", "0s" * 300):

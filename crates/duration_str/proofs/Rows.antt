@@ -767,12 +767,31 @@ pub record MendedRows : Type 0 where
   pub mended-point_before_a_digit : mended (codes "5m.5s") (Syntax 2 after_unit) ≡ None
   pub mended-point_before_a_blank : mended (codes "5m. 5s") (Syntax 2 after_unit) ≡ pieces (codes "5m") (codes ".") [] (codes " 5s")
   pub mended-point_before_a_letter : mended (codes "5m.in") (Syntax 2 after_unit) ≡ None
+  pub mended-point_before_a_point : mended (codes "5m..10m") (Syntax 2 after_unit) ≡ None
+  pub mended-point_and_a_blank_before_a_point : mended (codes "5m. .") (Syntax 2 after_unit)
+      ≡ pieces (codes "5m") (codes ".") [] (codes " .")
   pub mended-underscore : mended (codes "1_000s") (Syntax 1 after_number) ≡ pieces (codes "1") (codes "_") [] (codes "000s")
   pub mended-apostrophe : mended (codes "1'000s") (Syntax 1 after_number) ≡ pieces (codes "1") (codes "'") [] (codes "000s")
+  pub mended-thousands_at_the_end : mended (codes "1_000") (Syntax 1 after_number) ≡ pieces (codes "1") (codes "_") [] (codes "000")
+  pub mended-thousands_again : mended (codes "1'000'0s") (Syntax 1 after_number)
+      ≡ pieces (codes "1") (codes "'") [] (codes "000'0s")
+  pub mended-many_digits_before : mended (codes "1000_000.5s") (Syntax 4 after_number)
+      ≡ pieces (codes "1000") (codes "_") [] (codes "000.5s")
+  pub mended-one_digit_after : mended (codes "1_5h") (Syntax 1 after_number) ≡ None
+  pub mended-two_digits_after : mended (codes "4'33") (Syntax 1 after_number) ≡ None
+  pub mended-two_digits_and_a_unit : mended (codes "1'30s") (Syntax 1 after_number) ≡ None
+  pub mended-four_digits_after : mended (codes "1_2024") (Syntax 1 after_number) ≡ None
+  pub mended-date : mended (codes "2024_01_31") (Syntax 4 after_number) ≡ None
   pub mended-comma : mended (codes "1,000s") (Syntax 1 after_number) ≡ None
   pub mended-exponent : mended (codes "1e3s") (Syntax 1 after_number) ≡ None
   pub mended-time : mended (codes "PT5M") (Syntax 0 number_alone) ≡ term (codes "PT") [] (codes "5M")
   pub mended-time_in_small_letters : mended (codes "pt5m") (Syntax 0 number_alone) ≡ term (codes "pt") [] (codes "5m")
+  pub mended-time_before_blanks : mended (codes "PT5M \n") (Syntax 0 number_alone) ≡ term (codes "PT") [] (codes "5M \n")
+  pub mended-time_and_another_fault : mended (codes "PT1,5H") (Syntax 0 number_alone) ≡ term (codes "PT") [] (codes "1,5H")
+  pub mended-time_without_a_unit : mended (codes "PT5") (Syntax 0 number_alone) ≡ None
+  pub mended-time_without_a_last_unit : mended (codes "PT1H30 ") (Syntax 0 number_alone) ≡ None
+  pub mended-time_before_a_point : mended (codes "PT5M.") (Syntax 0 number_alone) ≡ None
+  pub mended-time_before_a_wide_letter : mended (encode_utf8_all (codes "PT5年")) (Syntax 0 number_alone) ≡ None
   pub mended-time_without_capitals : mend_of (rules_of with_lowercase) (codes "pt5m") (Syntax 0 number_alone) ≡ None
   pub mended-period : mended (codes "P1M") (Syntax 0 number_alone) ≡ None
   pub mended-zero_alone : mended_with None (codes "0") (Syntax 1 unit_alone) ≡ pieces (codes "0") [] (codes "s") []

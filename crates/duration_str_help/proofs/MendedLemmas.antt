@@ -1,11 +1,12 @@
 -- Lemmas about a text that is split after its first piece.
-use Rattle.duration_str_help.proofs.Common.{ahead, drop-drop, IfSome, IsUtf8-drop, Option, take-append-drop, ◌+◌, ◌-◌, ◌≤◌, [], ap, arith, Bool, cases_Bool, chars, drop, encode_utf8_all, encodes-append, encodes-chars, false, false_from_ne_true, inl, inr, IsCharBoundary, IsCharBoundary-at_seam, IsUtf8, length, List, refl, scalars, scalars-chars, suc, sym, take, take_while, take_while-cons, true, zero, ℕ, ◌++◌, ◌<◌, ◌∙◌, ◌∷◌, ◌≡◌}
+use Rattle.duration_str_help.proofs.Common.{ahead, and_parts, drop-drop, get_or, is_ascii_alphabetic, is_blank, list_all, nat_lt, nat_tests, IfSome, IsUtf8-drop, Option, take-append-drop, ◌+◌, ◌-◌, ◌≤◌, [], ap, arith, Bool, cases_Bool, chars, drop, encode_utf8_all, encodes-append, encodes-chars, false, false_from_ne_true, inl, inr, IsCharBoundary, IsCharBoundary-at_seam, IsUtf8, length, List, refl, scalars, scalars-chars, suc, sym, take, take_while, take_while-cons, true, zero, ℕ, ◌++◌, ◌<◌, ◌∙◌, ◌∷◌, ◌≡◌}
 use Rattle.std.proofs.lemmas.Str.{IsCharBoundary-from_rest}
 use Rattle.duration_str_help.specs.declared.suggestion.Replacement.{Replacement}
 use Rattle.duration_str_help.specs.Internal.Mends.{IsCutOut}
 use Rattle.std.proofs.Math.Seq.{drop-append_seam}
 use Rattle.duration_str_help.specs.Help.{begins_with_letter, first_piece, is_letter, is_like}
-use Rattle.duration_str_help.specs.Mends.{removed_if}
+use Rattle.duration_str_help.specs.Mends.{ends_with_letter, removed_if}
+use Rattle.std.proofs.lemmas.List.Folds.{list_all_at}
 
 run_parts : (test : ℕ → Bool) (most : ℕ) (text : List ℕ)
     → text ≡ take most (take_while test text) ++ drop (length (take most (take_while test text))) text
@@ -110,3 +111,34 @@ cut_whole text start end ordered =
     ∙ ap (λ (bs : List ℕ). take start text ++ bs)
     (sym (take-append-drop (end - start) (drop start text))
     ∙ ap (λ (bs : List ℕ). take (end - start) (drop start text) ++ bs) last)
+
+-- ---- The letter that a text ends with
+
+letter_after : (bytes : List ℕ) (n : ℕ) → n < length bytes → is_blank (get_or bytes n 0) ≡ false
+    → list_all is_blank (drop (suc n) bytes) ≡ true → ends_with_letter bytes ≡ is_ascii_alphabetic (get_or bytes n 0)
+letter_after [] n within fails all = absurd (omega (arith, within))
+letter_after (b ∷ bytes) zero within fails all = rw all refl
+letter_after (b ∷ bytes) (suc n) within fails all =
+    let inside : n < length bytes = omega (arith, within) in
+    rw (list_all_at is_blank bytes n 0 inside fails) (letter_after bytes n inside fails all)
+
+-- If all bytes after one that isn't blank are blank, it decides whether a letter ends the text.
+pub letter_from : (bytes : List ℕ) (n : ℕ) → 0 < n → n ≤ length bytes → is_blank (get_or bytes (n - 1) 0) ≡ false
+    → list_all is_blank (drop n bytes) ≡ true → ends_with_letter bytes ≡ is_ascii_alphabetic (get_or bytes (n - 1) 0)
+letter_from bytes zero some within fails all = absurd (omega (arith, some))
+letter_from bytes (suc n) some within fails all =
+    let e : suc n - 1 ≡ n = omega arith in
+    rw e (letter_after bytes n (omega (arith, within)) (rw e at fails) all)
+
+blank_no_letter : (b : ℕ) → is_blank b ≡ true → is_ascii_alphabetic b ≡ false
+blank_no_letter b blank = grind (arith, nat_tests)
+
+all_blank : (bytes : List ℕ) → list_all is_blank bytes ≡ true → ends_with_letter bytes ≡ false
+all_blank [] all = refl
+all_blank (b ∷ bytes) all =
+    let both = and_parts (is_blank b) _ all in rw both.1 (blank_no_letter b both.0)
+
+pub no_letter : (bytes : List ℕ) (n : ℕ) → n ≤ 0 → list_all is_blank (drop n bytes) ≡ true
+    → nat_lt 0 n ≡ ends_with_letter bytes
+no_letter bytes zero none all = sym (all_blank bytes all)
+no_letter bytes (suc n) none all = absurd (omega (arith, none))

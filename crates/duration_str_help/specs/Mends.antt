@@ -1,6 +1,7 @@
 -- Which part of a refused text to replace, and by what.
-use Rattle.std.specs.Prelude.{◌≡◌, ℕ, ◌+◌, ◌-◌, Bool, true, not, ◌&&◌, ◌||◌, [], ◌∷◌, ◌++◌, Option, Some, None, if◌then◌else◌, ◌==◌, decimal, encode_utf8_all, take, drop, length, option_map, is_some, chars, bytes_eq, codes}
-use Rattle.std.specs.List.{prefix_len}
+use Rattle.std.specs.Prelude.{◌≡◌, ℕ, ◌+◌, ◌-◌, Bool, true, false, not, ◌&&◌, ◌||◌, [], ◌∷◌, ◌++◌, Option, Some, None, if◌then◌else◌, ◌==◌, decimal, encode_utf8_all, take, drop, length, option_map, is_some, chars, bytes_eq, codes}
+use Rattle.std.specs.Char.{is_ascii_alphabetic}
+use Rattle.std.specs.List.{list_all, prefix_len}
 use Rattle.std.specs.Option.{option_or}
 use Rattle.duration_str_units.specs.declared.cause.Expected.{Expected}
 use Rattle.duration_str_units.specs.declared.cause.Cause.{Cause}
@@ -84,10 +85,23 @@ fraction_replacement r text place expected =
     else fraction_with r whole decimals (place - length whole) end (unit_ahead r (drop end text))
 
 -- whether a point can go that these characters follow directly: they begin with no letter, which
--- would join the unit's word, and with no digit, since the point can begin a fraction
+-- would join the unit's word, with no digit, since the point can begin a fraction, and with no
+-- point, since two can stand between the ends of a range
 abbrev pub ends_unit : Characters → Bool
 ends_unit [] = true
-ends_unit (c ∷ text) = not (is_letter c || is_digit c)
+ends_unit (c ∷ text) = not (is_letter c || is_digit c || c == 46)
+
+-- whether a mark can go that these bytes follow directly: they begin with exactly three digits, so
+-- that the mark separates thousands. With fewer or more digits it can stand in a time or a date
+abbrev pub separates_thousands : Bytes → Bool
+separates_thousands bytes = prefix_len is_digit bytes == 3
+
+-- whether `PT` can go from a text with these bytes: the last one that isn't blank is a letter, as
+-- in ISO 8601. Otherwise the last number has no unit there
+abbrev pub ends_with_letter : Bytes → Bool
+ends_with_letter [] = false
+ends_with_letter (b ∷ bytes) =
+    if list_all is_blank bytes then is_ascii_alphabetic b else ends_with_letter bytes
 
 -- what to replace for a help, if that is certain, given the bytes of the piece at byte `place`
 abbrev pub replacement_for : Rules → Bytes → ℕ → Expected → Bytes → Option Help → Option Replacement
@@ -98,9 +112,10 @@ replacement_for r text place expected piece (Some LeadingPlus) = removed_if true
 replacement_for r text place expected piece (Some NoPoint) =
     removed_if (ends_unit (chars (drop (place + length piece) text))) place (place + length piece)
 replacement_for r text place expected piece (Some DigitsOnly) =
-    removed_if (bytes_eq piece (codes "_") || bytes_eq piece (codes "'")) place (place + length piece)
+    removed_if ((bytes_eq piece (codes "_") || bytes_eq piece (codes "'")) && separates_thousands (drop (place + length piece) text))
+    place (place + length piece)
 replacement_for r text place expected piece (Some Iso8601) =
-    removed_if (length piece == 2 && not r.options.lowercase) place (place + length piece)
+    removed_if (length piece == 2 && not r.options.lowercase && ends_with_letter text) place (place + length piece)
 replacement_for r text place expected piece (Some Zero) =
     Some (record { start = place; end = place; suggestion = name_alone Second })
 replacement_for r text place expected piece help = None

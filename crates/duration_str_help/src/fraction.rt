@@ -67,7 +67,7 @@ fn last_digits(bytes: &[u8]) -> &[u8]
 }
 
 /// Returns the digits that the bytes begin with.
-fn first_digits(bytes: &[u8]) -> &[u8]
+pub fn first_digits(bytes: &[u8]) -> &[u8]
     ensures { result.now ≡ take (prefix_len is_digit bytes.now) bytes.now }
 {
     let mut len = 0;

@@ -4,13 +4,14 @@ ghost use Rattle.std.specs.Str.{chars, IsCharBoundary};
 ghost use Rattle.duration_str_units.specs.Internal.Positions.{ahead};
 ghost use Rattle.duration_str_help.specs.Internal.Mends.{IsCutOut};
 ghost use Rattle.duration_str_units.specs.Meaning.{meaning_of};
-ghost use Rattle.duration_str_help.specs.Mends.{HasPieces, ends_unit, replacement_for, pieces_of, removed_if};
+ghost use Rattle.duration_str_help.specs.Mends.{HasPieces, ends_unit, ends_with_letter, replacement_for, pieces_of, removed_if, separates_thousands};
 ghost use Rattle.duration_str_help.specs.Help.{first_piece};
 
 use crate::characters::is_letter;
-use crate::fraction::fraction_replacement;
+use crate::fraction::{first_digits, fraction_replacement};
 use crate::help::{Found, Help};
 use crate::suggestion::{Replacement, Suggestion};
+use duration_str_units::blank::is_blank;
 use duration_str_units::cause::Expected;
 use duration_str_units::rules::Rules;
 use duration_str_units::slice::{range_from, range_to};
@@ -74,22 +75,51 @@ pub fn replacement_for(
         Help::Fraction => fraction_replacement(text, place, expected, rules),
         Help::LeadingPlus => removed_if(true, place, end),
         Help::NoPoint => removed_if(ends_unit(range_from(text, end)), place, end),
-        Help::DigitsOnly => removed_if(piece == "_" || piece == "'", place, end),
-        Help::Iso8601 => removed_if(piece.len() == 2 && !rules.options.lowercase, place, end),
+        Help::DigitsOnly => {
+            let is_mark = piece == "_" || piece == "'";
+            let rest = range_from(text, end).as_bytes();
+            removed_if(is_mark && separates_thousands(rest), place, end)
+        }
+        Help::Iso8601 => {
+            let is_time = piece.len() == 2 && !rules.options.lowercase;
+            removed_if(is_time && ends_with_letter(text.as_bytes()), place, end)
+        }
         Help::Zero => Some(named(place, place, TimeUnit::Second)),
         _ => None,
     }
 }
 
 /// Returns whether a point can go that this text follows directly: it begins with no letter, which
-/// would join the unit's word, and with no digit, since the point can begin a fraction.
+/// would join the unit's word, with no digit, since the point can begin a fraction, and with no
+/// point, since two can stand between the ends of a range.
 fn ends_unit(text: &str) -> bool
     ensures { result ≡ ends_unit (chars text.now) }
 {
     match text.chars().next() {
-        Some(c) => !is_letter(c) && !c.is_ascii_digit(),
+        Some(c) => !is_letter(c) && !c.is_ascii_digit() && c != '.',
         None => true,
     }
+}
+
+/// Returns whether a mark can go that these bytes follow directly: they begin with exactly three
+/// digits, so that the mark separates thousands. With fewer or more digits it can stand in a time
+/// or a date.
+fn separates_thousands(bytes: &[u8]) -> bool
+    ensures { result ≡ separates_thousands bytes.now }
+{
+    first_digits(bytes).len() == 3
+}
+
+/// Returns whether `PT` can go from a text with these bytes: the last one that isn't blank is a
+/// letter, as in ISO 8601. Otherwise the last number has no unit there.
+fn ends_with_letter(bytes: &[u8]) -> bool
+    ensures { result ≡ ends_with_letter bytes.now }
+{
+    let mut end = bytes.len();
+    while end > 0 && is_blank(char::from(bytes[end - 1])) {
+        end -= 1;
+    }
+    end > 0 && bytes[end - 1].is_ascii_alphabetic()
 }
 
 fn named(start: usize, end: usize, unit: TimeUnit) -> Replacement

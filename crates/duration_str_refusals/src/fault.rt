@@ -126,9 +126,10 @@ impl<'a> Fault<'a> {
     ///   follows. There is no suggestion if the value is no whole number of nanoseconds, or 2^64
     ///   nanoseconds or more.
     /// - `LeadingPlus`: the sign is removed.
-    /// - `NoPoint`: the point is removed, unless a letter or a digit follows it directly.
-    /// - `DigitsOnly`: `_` or `'` is removed.
-    /// - `Iso8601`: `PT` is removed, unless `lowercase` is on.
+    /// - `NoPoint`: the point is removed, unless a letter, a digit or a point follows it directly.
+    /// - `DigitsOnly`: `_` or `'` is removed, if exactly three digits follow it directly.
+    /// - `Iso8601`: `PT` is removed, if the last character that isn't blank is an ASCII letter. It
+    ///   stays if `lowercase` is on.
     /// - `Zero`: `s` is inserted.
     ///
     /// ```text

@@ -51,7 +51,7 @@ fn last_digits(bytes: &[u8]) -> &[u8] {
 }
 
 /// Returns the digits that the bytes begin with.
-fn first_digits(bytes: &[u8]) -> &[u8] {
+pub(crate) fn first_digits(bytes: &[u8]) -> &[u8] {
     let mut len = 0;
     while len < bytes.len() && bytes[len].is_ascii_digit() {
         len += 1;

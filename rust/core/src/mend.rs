@@ -2,9 +2,10 @@
 //! Which part of a refused text to replace, and by what.
 
 use crate::characters::is_letter;
-use crate::fraction::fraction_replacement;
+use crate::fraction::{first_digits, fraction_replacement};
 use crate::help::{Found, Help};
 use crate::suggestion::{Replacement, Suggestion};
+use crate::blank::is_blank;
 use crate::cause::Expected;
 use crate::rules::Rules;
 use crate::slice::{range_from, range_to};
@@ -58,20 +59,45 @@ pub(crate) fn replacement_for(
         Help::Fraction => fraction_replacement(text, place, expected, rules),
         Help::LeadingPlus => removed_if(true, place, end),
         Help::NoPoint => removed_if(ends_unit(range_from(text, end)), place, end),
-        Help::DigitsOnly => removed_if(piece == "_" || piece == "'", place, end),
-        Help::Iso8601 => removed_if(piece.len() == 2 && !rules.options.lowercase, place, end),
+        Help::DigitsOnly => {
+            let is_mark = piece == "_" || piece == "'";
+            let rest = range_from(text, end).as_bytes();
+            removed_if(is_mark && separates_thousands(rest), place, end)
+        }
+        Help::Iso8601 => {
+            let is_time = piece.len() == 2 && !rules.options.lowercase;
+            removed_if(is_time && ends_with_letter(text.as_bytes()), place, end)
+        }
         Help::Zero => Some(named(place, place, TimeUnit::Second)),
         _ => None,
     }
 }
 
 /// Returns whether a point can go that this text follows directly: it begins with no letter, which
-/// would join the unit's word, and with no digit, since the point can begin a fraction.
+/// would join the unit's word, with no digit, since the point can begin a fraction, and with no
+/// point, since two can stand between the ends of a range.
 fn ends_unit(text: &str) -> bool {
     match text.chars().next() {
-        Some(c) => !is_letter(c) && !c.is_ascii_digit(),
+        Some(c) => !is_letter(c) && !c.is_ascii_digit() && c != '.',
         None => true,
     }
+}
+
+/// Returns whether a mark can go that these bytes follow directly: they begin with exactly three
+/// digits, so that the mark separates thousands. With fewer or more digits it can stand in a time
+/// or a date.
+fn separates_thousands(bytes: &[u8]) -> bool {
+    first_digits(bytes).len() == 3
+}
+
+/// Returns whether `PT` can go from a text with these bytes: the last one that isn't blank is a
+/// letter, as in ISO 8601. Otherwise the last number has no unit there.
+fn ends_with_letter(bytes: &[u8]) -> bool {
+    let mut end = bytes.len();
+    while end > 0 && is_blank(char::from(bytes[end - 1])) {
+        end -= 1;
+    }
+    end > 0 && bytes[end - 1].is_ascii_alphabetic()
 }
 
 fn named(start: usize, end: usize, unit: TimeUnit) -> Replacement {

@@ -175,6 +175,12 @@ fn mends_until_a_text_is_read() {
     let rows = [
         ("2hrs 1.5min", Some("2h 90s")),
         ("+1_000_000.5 mins.", Some("60000030s")),
+        ("1'000_000s 1_000", Some("1000000s 1000")),
+        ("1_000'00s", None),
+        ("4'33", None),
+        ("2024_01_31", None),
+        ("5m... 10m", None),
+        ("PT1H30", None),
         ("1.5h 5x", None),
         ("1.5h, 5s", None),
         ("600years.", None),
@@ -188,10 +194,9 @@ fn mends_until_a_text_is_read() {
 
 #[test]
 fn mends_up_to_32_faults() {
-    for (count, is_mended) in [(1, true), (32, true), (33, false), (500_000, false)] {
-        let digits = "0".repeat(count);
-        let text = format!("{}0s", "0_".repeat(count));
-        let wanted = is_mended.then(|| format!("{digits}0s"));
+    for (count, is_mended) in [(1, true), (32, true), (33, false), (250_000, false)] {
+        let text = format!("0{}s", "_000".repeat(count));
+        let wanted = is_mended.then(|| format!("0{}s", "000".repeat(count)));
         assert_eq!(fault(&text, Options::off()).mended(), wanted, "{count}");
     }
 }

@@ -8,7 +8,7 @@ use Rattle.duration_str_units.specs.declared.rules.Rules.{Rules as CodeRules}
 use Rattle.duration_str.specs.Mended.{JoinsNumbers, KeepsTokens, mended_text, MendedTexts, MendedTokens, WrittenIsSaid}
 use Rattle.duration_str_help.specs.Help.{begins_with_letter, first_piece, syntax_help}
 use Rattle.duration_str_help.specs.Mends.{mend_of, replacement_for, replacement_of, name_alone, Pieces, pieces_of, suggestion_of, suggestion_text}
-use Rattle.duration_str_help.proofs.MendedHelp.{Reason, reason}
+use Rattle.duration_str_help.proofs.MendedHelp.{is_separator, Reason, reason}
 use Rattle.duration_str.proofs.LawProofs.MendedPlaces.{after_place, apart_at_start, IsInPlace, IsJoined, IsMended, IsPlaced, joined_by, name_written, placed, removed_by}
 use Rattle.duration_str_help.proofs.MendedBytes.{first_char, is_small, plain_no_letter}
 use Rattle.duration_str.proofs.LawProofs.MendedNames.{near_short}
@@ -62,7 +62,7 @@ mended s text place expected replacement (Some NoPoint) p why is =
 mended s text place expected replacement (Some DigitsOnly) p why is =
     let cut : IsCut (drop place text) = cut_piece (drop place text) p.back_utf8 in
     joined_by s text (bytes_at text place) place expected replacement p (encode_utf8_all cut.rest) cut.whole cut.utf8 why.0 why.1 _
-    refl is
+    (λ e. (and_parts (is_separator (bytes_at text place)) _ e).0) is
 mended s text place expected replacement (Some Iso8601) p why is =
     removed_by s text place (length (bytes_at text place)) expected replacement _ p (λ e. apart_at_start s text _ place why) is
 mended s text place expected replacement (Some Zero) p why is =

@@ -1,5 +1,5 @@
 -- The tokens of a refused text that has a mend: none has characters of two of the mend's parts.
-use Rattle.duration_str.proofs.Common.{[], ahead, and_from, and_parts, ap, append-nil, append_assoc, are_of_one_run, arith, Bool, bytes_eq, bytes_eq-Decides, cases_Bool, Cause, chars, chars-append, chars-encodes, chars-nil, codes, drop, Empty, encode_utf8_all, eqb-true, Expected, false, false_from_ne_true, inl, inr, is_blank, is_digit, is_unit_letter, IsRefused, IsTrue, IsUtf8, IsUtf8-append, IsUtf8-nil, length, length-le-encodes, List, list_all, list_all-append, meaning_of, Mixed, nat_tests, NotText, NumberTooLarge, Option, Options, or_cases, or_right, OutOfRange, Overflow, refl, scalars-chars, Second, Some, Stops, suc, sym, Syntax, take, take-append-drop, take_while, take_while-cons, TimeUnit, tokens_of, true, zero, ℕ, ◌&&◌, ◌++◌, ◌+◌, ◌-◌, ◌<◌, ◌==◌, ◌∙◌, ◌∷◌, ◌≡◌, ◌≤◌}
+use Rattle.duration_str.proofs.Common.{[], ahead, and_from, and_parts, ap, append-nil, append_assoc, are_of_one_run, arith, Bool, bytes_eq, bytes_eq-Decides, cases_Bool, Cause, chars, chars-append, chars-encodes, chars-nil, codes, drop, Empty, encode_utf8_all, eqb-true, Expected, false, false_from_ne_true, inl, inr, is_blank, is_digit, is_unit_letter, IsRefused, IsTrue, IsUtf8, IsUtf8-append, IsUtf8-nil, length, length-le-encodes, List, list_all, list_all-append, meaning_of, Mixed, nat_tests, not, NotText, NumberTooLarge, Option, Options, or_cases, or_right, OutOfRange, Overflow, refl, scalars-chars, Second, Some, Stops, suc, sym, Syntax, take, take-append-drop, take_while, take_while-cons, TimeUnit, tokens_of, true, zero, ℕ, ◌&&◌, ◌++◌, ◌+◌, ◌-◌, ◌<◌, ◌==◌, ◌∙◌, ◌∷◌, ◌≡◌, ◌≤◌}
 use Rattle.duration_str_help.specs.declared.help.Help.{Help}
 use Rattle.duration_str_help.specs.declared.help.Help.TheVariants.{DidYouMean, DigitsOnly, Fraction, Iso8601, LeadingPlus, NoPoint, Zero}
 use Rattle.duration_str_help.specs.declared.suggestion.Replacement.{Replacement}
@@ -292,11 +292,13 @@ cut_mend s text place expected replacement (Some NoPoint) p why is =
     (rw (after, chars-encodes cut.rest cut.are, cut.same) at e)) is
 cut_mend s text place expected replacement (Some DigitsOnly) p why is =
     cut_removed s text place expected replacement _ p
-    (λ e. short_apart s text place (separator_short (bytes_at text place) e)) is
+    (λ e. short_apart s text place (separator_short (bytes_at text place)
+    (and_parts (is_separator (bytes_at text place)) _ e).0)) is
 cut_mend s text place expected replacement (Some Iso8601) p why is =
     let n = length (bytes_at text place) in
     cut_removed s text place expected replacement _ p
-    (λ e. let two = eqb-true n 2 (and_parts (n == 2) _ e).0 in short_apart s text place (omega (arith, two))) is
+    (λ e. let time = (and_parts (n == 2 && not (meaning_of s).options.lowercase) _ e).0 in
+      let two = eqb-true n 2 (and_parts (n == 2) _ time).0 in short_apart s text place (omega (arith, two))) is
 cut_mend s text place expected replacement (Some Zero) p why is =
     let same : record { start = place; end = place; suggestion = name_alone Second } ≡ replacement = cc in
     rw (← same) (cut_at_place s text place expected (name_alone Second) p)

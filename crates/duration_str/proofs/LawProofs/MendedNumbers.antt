@@ -1,5 +1,5 @@
 -- Texts that begin a sentence, with a number, a number and a unit, or nothing after them.
-use Rattle.duration_str.proofs.Common.{[], add-zero, allows, and_from, and_parts, ap, append-nil, append_assoc, are_of_one_run, AreTokens, arith, BeginsSentence, Bool, byte_len, cases_Bool, EndsRun, Expected, expected_after, false, false_from_ne_true, goes_on, inl, inr, is_blank, is_digit, is_unit_letter, IsLexeme, IsRefused, IsTrue, last_of, length, length-append, List, list_all, list_all-append, map-append, None, not, number, number_of, operator, Option, Options, other, refl, Rules, Some, Stops, sym, Syntax, take, Terminal, terminal_of, terminals_of, TimeUnit, Token, tokens_from, tokens_of, true, unit_of_word, width, with_first_character, word, ℕ, ◌&&◌, ◌++◌, ◌+◌, ◌||◌, ◌∙◌, ◌∷◌, ◌≡◌, ◌≢◌, ◌≤◌}
+use Rattle.duration_str.proofs.Common.{[], add-zero, allows, and_from, and_parts, ap, append-nil, append_assoc, are_of_one_run, AreTokens, arith, BeginsSentence, Bool, byte_len, cases_Bool, EndsRun, Expected, expected_after, false, false_from_ne_true, goes_on, inl, inr, is_blank, is_digit, is_unit_letter, IsLexeme, IsRefused, IsTrue, last_of, length, length-append, List, list_all, list_all-append, map-append, None, not, number, number_of, operator, Option, Options, other, refl, Rules, Some, Stops, sym, Syntax, take, Terminal, terminal_of, terminals_of, TimeUnit, Token, tokens_from, tokens_of, true, unit_of_word, width, with_first_character, word, ℕ, ◌&&◌, ◌++◌, ◌+◌, ◌||◌, ◌==◌, ◌∙◌, ◌∷◌, ◌≡◌, ◌≢◌, ◌≤◌}
 use Rattle.duration_str_help.specs.Help.{begins_with_letter, is_letter}
 use Rattle.duration_str_help.specs.Mends.{ends_unit}
 use Rattle.duration_str_units.proofs.CharacterLemmas.{byte_len-append, digit-not_letter, letter-not_digit}
@@ -76,13 +76,13 @@ apart_before o (c ∷ e ∷ text) d rest digit letter = apart_before o (e ∷ te
 pub no_unit_letter : (o : Options) (c : ℕ) → is_letter c ≡ false → is_unit_letter o c ≡ false
 no_unit_letter o c none = false_from_ne_true (is_unit_letter o c) (λ t. cc (unit_letter_is_letter o c t, none))
 
-both_false : (a b : Bool) → not (a || b) ≡ true → (a ≡ false) × (b ≡ false)
-both_false a b h = grind arith
+both_false : (a b c : Bool) → not (a || b || c) ≡ true → (a ≡ false) × (b ≡ false)
+both_false a b c h = grind arith
 
 pub apart_unless : (o : Options) (text rest : List ℕ) → ends_unit rest ≡ true → IsApart o text rest
 apart_unless o text [] ends = apart_nothing o text
 apart_unless o text (d ∷ rest) ends =
-    let none = both_false (is_letter d) (is_digit d) ends in
+    let none = both_false (is_letter d) (is_digit d) (d == 46) ends in
     apart_before o text d rest none.1 (no_unit_letter o d none.0)
 
 pub ends_digits : (o : Options) (c : ℕ) (cs rest : List ℕ) → is_digit c ≡ true → Stops is_digit rest → EndsRun o (c ∷ cs) rest

@@ -187,16 +187,16 @@ pub joined_by : (s : CodeRules) (text piece : List ℕ) (place : ℕ) (expected 
     → IsPlaced s text place expected → (rest : List ℕ) → drop place text ≡ piece ++ rest → IsUtf8 rest
     → is_digit (slice_index (take place text) (length (take place text) - 1)) ≡ true
     → (is_separator piece ≡ true → is_digit (slice_index text (place + length piece)) ≡ true) → (b : Bool)
-    → is_separator piece ≡ b → removed_if b place (place + length piece) ≡ Some replacement → IsMended s text replacement
+    → (b ≡ true → is_separator piece ≡ true) → removed_if b place (place + length piece) ≡ Some replacement → IsMended s text replacement
 joined_by s text piece place expected replacement p rest parts utf8 digit next true separates is =
     let same : record { start = place; end = place + length piece; suggestion = nothing } ≡ replacement = cc in
-    let signs = or_cases (bytes_eq piece (codes "_")) (bytes_eq piece (codes "'")) separates in
+    let signs = or_cases (bytes_eq piece (codes "_")) (bytes_eq piece (codes "'")) (separates refl) in
     let separator : (piece ≡ codes "_") ⊎ (piece ≡ codes "'") = elim signs [
       | inl line ↦ inl ((bytes_eq-Decides piece (codes "_")).0 line)
       | inr mark ↦ inr ((bytes_eq-Decides piece (codes "'")).0 mark)
     ] in
     rw (← same) (joined_at s text piece place expected p rest parts utf8
-    (ends_by_last is_digit (take place text) refl ∙ digit) (next separates) separator)
+    (ends_by_last is_digit (take place text) refl ∙ digit) (next (separates refl)) separator)
 joined_by s text piece place expected replacement p rest parts utf8 digit next false separates is = absurd cc
 
 -- ---- A name is written
