@@ -96,7 +96,8 @@ fn ends_unit(text: &str) -> bool
     ensures { result ≡ ends_unit (chars text.now) }
 {
     match text.chars().next() {
-        Some(c) => !is_letter(c) && !c.is_ascii_digit() && c != '.',
+        Some('.') => false,
+        Some(c) => !is_letter(c) && !c.is_ascii_digit(),
         None => true,
     }
 }

@@ -78,7 +78,8 @@ pub(crate) fn replacement_for(
 /// point, since two can stand between the ends of a range.
 fn ends_unit(text: &str) -> bool {
     match text.chars().next() {
-        Some(c) => !is_letter(c) && !c.is_ascii_digit() && c != '.',
+        Some('.') => false,
+        Some(c) => !is_letter(c) && !c.is_ascii_digit(),
         None => true,
     }
 }
