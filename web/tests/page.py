@@ -125,7 +125,7 @@ REFUSED = [
     ("PT1H30M", "", ["PT"], ["1H30M", "1 hour 30 minutes"]),
     ("PT5M", "lowercase", ["PT"], ["5M", "in capitals too, 5 minutes"]),
     ("PT5", "", ["PT"], []),
-    ("PT1H30", "", ["PT"], ["1H30m", "1 hour 30 minutes"]),
+    ("PT1H30", "", ["PT"], ["1H 30m", "1 hour 30 minutes"]),
     ("P5M", "", ["P"], []),
     ("-5m", "", ["-"], []),
     ("1m+", "", AT_END, []),
