@@ -33,8 +33,8 @@ MendedTexts =
     → IsRefused (meaning_of s) (chars (mended_text new)) (Syntax later others)
     → length new.front + length new.written ≤ later
 
--- The tokens of the text are those of the front, those of the middle, and those of the rest, each at
--- its place in the text. So no token has characters of two of these parts.
+-- The tokens of the text are those of the front, those of the middle, and those of the rest, each
+-- at its place in the text. So no token has characters of two of these parts.
 abbrev pub HasTokensOf : Options → Bytes → Bytes → Bytes → Bytes → Type 0
 HasTokensOf o text front middle rest =
     tokens_of o (chars text)
@@ -153,9 +153,10 @@ terms_around r new count unit =
     terms_of r (terminals_of r (chars new.front) ++ number count ∷ word (Some unit) ∷ [])
     ++ terms_of r (terminals_of r (chars new.rest))
 
--- A text is refused, it has a mend, and the mend's suggestion has a count. Then the replaced part is
--- a number with a fraction, and the suggestion is exactly its value. If the text with the suggestion
--- is read, its value is that of the front's terms, the suggestion as one term, and the rest's terms.
+-- A text is refused, it has a mend, and the mend's suggestion has a count. Then the replaced part
+-- is a number with a fraction, and the suggestion is exactly its value. If the text with the
+-- suggestion is read, its value is that of the front's terms, the suggestion as one term, and the
+-- rest's terms.
 abbrev pub MendedValues : Type 0
 MendedValues =
     (s : CodeRules) (text : Bytes) (cause : Cause) (new : Pieces) (count : ℕ) (unit : TimeUnit) → IsUtf8 text
