@@ -298,7 +298,7 @@ cut_mend s text place expected replacement (Some Iso8601) p why is =
     let n = length (bytes_at text place) in
     cut_removed s text place expected replacement _ p
     (λ e. let time = (and_parts (n == 2 && not (meaning_of s).options.lowercase) _ e).0 in
-      let two = eqb-true n 2 (and_parts (n == 2) _ time).0 in short_apart s text place (omega (arith, two))) is
+    let two = eqb-true n 2 (and_parts (n == 2) _ time).0 in short_apart s text place (omega (arith, two))) is
 cut_mend s text place expected replacement (Some Zero) p why is =
     let same : record { start = place; end = place; suggestion = name_alone Second } ≡ replacement = cc in
     rw (← same) (cut_at_place s text place expected (name_alone Second) p)
