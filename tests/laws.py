@@ -34,9 +34,9 @@ def weaken(crates):
         for path, names in re.findall(r"^use ([\w.]+)\.\{(.*)\}$", head, re.M):
             imports.setdefault(path, {}).update(dict.fromkeys(names.split(", ")))
         definitions += [(f"{crate}.specs.{file}", item) for item in items]
-    units = "Rattle.duration_str_units.specs.declared.unit.TimeUnit.TheVariants"
+    units = "Rattle.duration_str_base.specs.declared.unit.TimeUnit.TheVariants"
     imports.setdefault(units, {})["Second"] = None
-    rules = imports.setdefault("Rattle.duration_str_units.specs.Rules", {})
+    rules = imports.setdefault("Rattle.duration_str_base.specs.Rules", {})
     rules |= dict.fromkeys(("rules_of", "rules_with"))
     imports.setdefault("Rattle.std.specs.Prelude", {}).update(dict.fromkeys(("⊤", "Some", "◌≡◌")))
     for module, (of_rules, of_unit) in FEWER.items():

@@ -15,7 +15,7 @@ from reference_parser import HELP_WORDS
 ROOT = pathlib.Path(__file__).resolve().parent.parent
 # The library and the crates below it
 LAYERS = (
-    "duration_str_units",
+    "duration_str_base",
     "duration_str_printing",
     "duration_str_reading",
     "duration_str_help",

@@ -1,11 +1,11 @@
-"""Reads the table of units in crates/duration_str_units/specs/Units.antt, and the names in
+"""Reads the table of units in crates/duration_str_base/specs/Units.antt, and the names in
 MoreNames.antt.
 """
 import pathlib
 import re
 import typing
 
-CRATE = pathlib.Path(__file__).resolve().parent.parent / "crates/duration_str_units"
+CRATE = pathlib.Path(__file__).resolve().parent.parent / "crates/duration_str_base"
 ROW = re.compile(
     r'^row_of (\w+) = record \{ nanos = (\w+); printed = codes "(.*?)"; names = (.*?); chinese = (.*?) \}$',
     re.M,

@@ -4,25 +4,25 @@ use Rattle.std.specs.Prelude.{◌≡◌, ℕ, ◌*◌, ◌+◌, ◌^◌, ◌≤�
 use Rattle.std.specs.List.{list_all}
 use Rattle.duration_str.specs.Laws.{OlderTexts}
 use Rattle.duration_str.specs.Mended.{FractionsAreMended, IsBareFraction, IsExactly, HasTokensOf, IsFraction, JoinsNumbers, MendedFractions, MendedTexts, MendedTokens, MendedValues, RefusedTokens, said, terms_around, WrittenIsSaid}
-use Rattle.duration_str_units.specs.Options.{off}
+use Rattle.duration_str_base.specs.Options.{off}
 use Rattle.duration_str_reading.specs.Reading.{IsRead, IsRefused}
 use Rattle.duration_str_reading.specs.Grammar.{IsSentenceOf, number, terminal_of, word}
 use Rattle.duration_str_reading.specs.Place.{terminals_of}
 use Rattle.duration_str_reading.specs.Tokens.{tokens_from, tokens_of}
 use Rattle.duration_str_reading.specs.Value.{terms_of, value_of}
-use Rattle.duration_str_units.specs.Text.{is_digit, number_of}
+use Rattle.duration_str_base.specs.Text.{is_digit, number_of}
 use Rattle.duration_str.specs.Older.{older_rules}
-use Rattle.duration_str_units.specs.Rules.{rules_of}
+use Rattle.duration_str_base.specs.Rules.{rules_of}
 use Rattle.std.proofs.Common.{arith, inl, inr, refl}
-use Rattle.duration_str_units.specs.Meaning.{meaning_of}
+use Rattle.duration_str_base.specs.Meaning.{meaning_of}
 use Rattle.duration_str_help.specs.Mends.{mend_of, Pieces, suggestion_of}
-use Rattle.duration_str_units.specs.declared.cause.Cause.{Cause}
-use Rattle.duration_str_units.specs.declared.cause.Cause.TheVariants.{Syntax}
-use Rattle.duration_str_units.specs.declared.cause.Expected.{Expected}
-use Rattle.duration_str_units.specs.declared.rules.Rules.{Rules as CodeRules}
-use Rattle.duration_str_units.specs.declared.table.UnitTable.TheVariants.{Own}
-use Rattle.duration_str_units.specs.declared.unit.TimeUnit.TheVariants.{Hour, MilliSecond, Minute, Second}
-use Rattle.duration_str_units.specs.declared.unit.TimeUnit.{TimeUnit}
+use Rattle.duration_str_base.specs.declared.cause.Cause.{Cause}
+use Rattle.duration_str_base.specs.declared.cause.Cause.TheVariants.{Syntax}
+use Rattle.duration_str_base.specs.declared.cause.Expected.{Expected}
+use Rattle.duration_str_base.specs.declared.rules.Rules.{Rules as CodeRules}
+use Rattle.duration_str_base.specs.declared.table.UnitTable.TheVariants.{Own}
+use Rattle.duration_str_base.specs.declared.unit.TimeUnit.TheVariants.{Hour, MilliSecond, Minute, Second}
+use Rattle.duration_str_base.specs.declared.unit.TimeUnit.{TimeUnit}
 use Rattle.std.specs.Str.{chars}
 use lib.Utf8.{encode}
 

@@ -12,10 +12,10 @@ use Rattle.duration_str.specs.Configuration.{IsOptional, IsRequired}
 use Rattle.duration_str.specs.Dates.{IsCivilDay, IsDated, IsDateFault, IsInRange, last_instant}
 use Rattle.duration_str.specs.OtherResults.{IsValueOrFault}
 use Rattle.duration_str_refusals.specs.declared.fault.Fault.{Fault}
-use Rattle.duration_str_units.specs.Options.{off}
+use Rattle.duration_str_base.specs.Options.{off}
 use Rattle.duration_str_reading.specs.Reading.{IsRead, IsRefused}
-use Rattle.duration_str_units.specs.Rules.{rules_of}
-use Rattle.duration_str_units.specs.declared.cause.Cause.TheVariants.{NotText, OutOfRange}
+use Rattle.duration_str_base.specs.Rules.{rules_of}
+use Rattle.duration_str_base.specs.declared.cause.Cause.TheVariants.{NotText, OutOfRange}
 
 pub first_day_of_1970 : (date : Date) → IsCivilDay (pos 0) date → epoch_day date ≡ pos 0
 first_day_of_1970 date (at, civil, same) =

@@ -2,12 +2,12 @@
 -- causes for which others are refused, and the texts of durations.
 use Rattle.duration_str.proofs.Common.{[], ALL, answer, arith, Bool, Cause, codes, Compact, counts_of, Empty, encode_utf8_all, Err, Expected, false, flat_map, if◌then◌else◌, inl, inr, length, List, Long, map, MAX_LONG_LEN, MAX_PRINTED_LEN, message_of, Mixed, nanos_of, nat_lt, None, nonzero, NumberTooLarge, off, Ok, older_row_of, older_rules, Option, Options, OutOfRange, Overflow, Plus, printed_counts, Quarter, refl, replicate, Result, row_of, rules_of, rules_with, Short, Some, Star, Style, Syntax, TimeUnit, true, unit_lengths, unit_of_word, units, units_within, ℕ, ◌++◌, ◌∷◌, ◌≡◌, more_names, more_row_of, more_rules, NotText}
 use Rattle.duration_str_printing.specs.declared.format.Format.{Format}
-use Rattle.duration_str_units.specs.declared.unit.TimeUnit.TheVariants.{Day, Hour, MicroSecond, MilliSecond, Minute, Month, NanoSecond, Second, Week, Year}
+use Rattle.duration_str_base.specs.declared.unit.TimeUnit.TheVariants.{Day, Hour, MicroSecond, MilliSecond, Minute, Month, NanoSecond, Second, Week, Year}
 use Rattle.duration_str_printing.proofs.RoundingLemmas.{near_own, nearest_up, none_above, only_zero, rounded_down, rounded_up, zero_above}
 use Rattle.duration_str_printing.specs.Breakdown.{sum_of_parts}
 use Rattle.duration_str_printing.specs.Rounding.{IsNearest, IsRoundedDown, IsRoundedUp, NoneAbove}
 use Rattle.duration_str_printing.specs.Format.{chosen, intersection, counts_within, down_to, is_in, lengths_within, set_of, shorter_units, text_within, up_to, whole_format, without_unit}
-use Rattle.duration_str_units.specs.Humantime.{humantime_row_of, humantime_rules}
+use Rattle.duration_str_base.specs.Humantime.{humantime_row_of, humantime_rules}
 use Rattle.duration_str_help.specs.Help.{help_number, is_letter}
 use Rattle.duration_str_help.specs.Quotes.{is_clear, is_plain}
 use Rattle.duration_str_help.specs.Mends.{mend_of, Pieces}
@@ -15,8 +15,8 @@ use Rattle.duration_str_refusals.specs.OneLine.{one_line_of}
 use Rattle.duration_str_help.specs.declared.help.Help.{Help}
 use Rattle.duration_str_help.specs.declared.help.Help.TheVariants.{Brackets, ClockTime, DidYouMean, DigitsOnly, Division, Fraction, Iso8601, LargeNumber, LeadingPlus, MissingUnit, Negative, NoPoint, OneDuration, QuotationMarks, Units as UnitsHelp, Zero}
 use Rattle.duration_str_refusals.specs.Report.{is_wide, report_of}
-use Rattle.duration_str_units.proofs.UnitLemmas.{Each, each_unit}
-use Rattle.duration_str_units.specs.Text.{width}
+use Rattle.duration_str_base.proofs.UnitLemmas.{Each, each_unit}
+use Rattle.duration_str_base.specs.Text.{width}
 use Rattle.std.specs.Fmt.{digits}
 use Rattle.std.specs.List.{count_by, list_all, list_any}
 use Rattle.std.specs.Option.{option_map_or}

@@ -2,11 +2,11 @@
 -- off.
 use Rattle.std.specs.Prelude.{◌≡◌, ℕ, ℤ, pos, [], ◌∷◌, Bool, true, false, Option, None, IsSomeAnd, Result, Ok, chars}
 use Rattle.serde_json.specs.Data.{Data, null, string}
-use Rattle.duration_str_units.specs.declared.cause.Cause.TheVariants.{NotText}
+use Rattle.duration_str_base.specs.declared.cause.Cause.TheVariants.{NotText}
 use Rattle.duration_str_refusals.specs.declared.fault.Fault.{Fault}
-use Rattle.duration_str_units.specs.Text.{Bytes}
-use Rattle.duration_str_units.specs.Options.{off}
-use Rattle.duration_str_units.specs.Rules.{rules_of}
+use Rattle.duration_str_base.specs.Text.{Bytes}
+use Rattle.duration_str_base.specs.Options.{off}
+use Rattle.duration_str_base.specs.Rules.{rules_of}
 use Rattle.duration_str.specs.OtherResults.{IsValueOrFault}
 use Rattle.duration_str_reading.specs.Reading.{IsRead, IsRefused}
 

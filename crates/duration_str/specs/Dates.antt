@@ -2,14 +2,14 @@
 use Rattle.std.specs.Prelude.{◌≡◌, ℕ, ℤ, pos, ◌≤ℤ◌, neg_ℤ, ◌⊎◌, Result, chars}
 use Rattle.jiff.specs.Types.{Date, DateTime}
 use Rattle.jiff.specs.Words.{civil_nanos}
-use Rattle.duration_str_units.specs.declared.cause.Cause.{Cause}
-use Rattle.duration_str_units.specs.declared.cause.Cause.TheVariants.{OutOfRange}
+use Rattle.duration_str_base.specs.declared.cause.Cause.{Cause}
+use Rattle.duration_str_base.specs.declared.cause.Cause.TheVariants.{OutOfRange}
 use Rattle.duration_str_refusals.specs.declared.fault.Fault.{Fault}
-use Rattle.duration_str_units.specs.Text.{Bytes}
-use Rattle.duration_str_units.specs.Options.{off}
+use Rattle.duration_str_base.specs.Text.{Bytes}
+use Rattle.duration_str_base.specs.Options.{off}
 use Rattle.duration_str.specs.OtherResults.{IsValueOrFault}
 use Rattle.duration_str_reading.specs.Reading.{IsRead, IsRefused}
-use Rattle.duration_str_units.specs.Rules.{rules_of}
+use Rattle.duration_str_base.specs.Rules.{rules_of}
 
 -- This is the date and time, in UTC, of the instant, in nanoseconds since 1970-01-01T00:00:00Z.
 -- `civil_nanos` counts them on a clock whose days have 24 hours.

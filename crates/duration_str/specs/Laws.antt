@@ -1,15 +1,15 @@
 -- The laws, each as one statement about the definitions.
 use Rattle.std.specs.Prelude.{◌≡◌, ℕ, ◌*◌, ◌^◌, ◌<◌, ◌≤◌, List, Option, Some, None, map, ◌↔◌}
 use Rattle.std.specs.Duration.{FitsDuration}
-use Rattle.duration_str_units.specs.declared.options.Options.{Options}
-use Rattle.duration_str_units.specs.declared.unit.TimeUnit.{TimeUnit}
-use Rattle.duration_str_units.specs.declared.unit.TimeUnit.TheVariants.{Year}
-use Rattle.duration_str_units.specs.declared.cause.Cause.{Cause}
-use Rattle.duration_str_units.specs.declared.cause.Cause.TheVariants.{Overflow}
-use Rattle.duration_str_units.specs.Text.{Characters}
-use Rattle.duration_str_units.specs.Units.{UnitRow, row_of, nanos_of, long_name}
-use Rattle.duration_str_units.specs.Rules.{rules_of, rules_with, unit_of_word}
-use Rattle.duration_str_units.specs.MoreNames.{more_row_of, more_rules}
+use Rattle.duration_str_base.specs.declared.options.Options.{Options}
+use Rattle.duration_str_base.specs.declared.unit.TimeUnit.{TimeUnit}
+use Rattle.duration_str_base.specs.declared.unit.TimeUnit.TheVariants.{Year}
+use Rattle.duration_str_base.specs.declared.cause.Cause.{Cause}
+use Rattle.duration_str_base.specs.declared.cause.Cause.TheVariants.{Overflow}
+use Rattle.duration_str_base.specs.Text.{Characters}
+use Rattle.duration_str_base.specs.Units.{UnitRow, row_of, nanos_of, long_name}
+use Rattle.duration_str_base.specs.Rules.{rules_of, rules_with, unit_of_word}
+use Rattle.duration_str_base.specs.MoreNames.{more_row_of, more_rules}
 use Rattle.duration_str_help.specs.Help.{near_name, near_unit}
 use Rattle.duration_str_reading.specs.Grammar.{IsSentenceOf, terminal_of}
 use Rattle.duration_str_reading.specs.Reading.{IsRead, IsRefused}

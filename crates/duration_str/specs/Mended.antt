@@ -1,15 +1,15 @@
 -- The laws of mends: what is known of a refused text with its suggestion.
 use Rattle.std.specs.Prelude.{◌≡◌, ℕ, ◌+◌, ◌*◌, ◌^◌, ◌≤◌, ◌++◌, ◌<◌, ◌⊎◌, List, [], ◌∷◌, Option, Some, None, IsUtf8, chars, codes, length, IsTrue}
 use Rattle.std.specs.List.{list_all}
-use Rattle.duration_str_units.specs.declared.cause.Cause.{Cause}
-use Rattle.duration_str_units.specs.declared.cause.Cause.TheVariants.{Syntax}
-use Rattle.duration_str_units.specs.declared.cause.Expected.{Expected}
-use Rattle.duration_str_units.specs.declared.options.Options.{Options}
-use Rattle.duration_str_units.specs.declared.rules.Rules.{Rules as CodeRules}
-use Rattle.duration_str_units.specs.declared.unit.TimeUnit.{TimeUnit}
-use Rattle.duration_str_units.specs.Meaning.{meaning_of}
-use Rattle.duration_str_units.specs.Rules.{Rules}
-use Rattle.duration_str_units.specs.Term.{Term}
+use Rattle.duration_str_base.specs.declared.cause.Cause.{Cause}
+use Rattle.duration_str_base.specs.declared.cause.Cause.TheVariants.{Syntax}
+use Rattle.duration_str_base.specs.declared.cause.Expected.{Expected}
+use Rattle.duration_str_base.specs.declared.options.Options.{Options}
+use Rattle.duration_str_base.specs.declared.rules.Rules.{Rules as CodeRules}
+use Rattle.duration_str_base.specs.declared.unit.TimeUnit.{TimeUnit}
+use Rattle.duration_str_base.specs.Meaning.{meaning_of}
+use Rattle.duration_str_base.specs.Rules.{Rules}
+use Rattle.duration_str_base.specs.Term.{Term}
 use Rattle.duration_str_help.specs.declared.suggestion.Suggestion.{Suggestion}
 use Rattle.duration_str_help.specs.Mends.{meant_unit, mend_of, Pieces, suggestion_of}
 use Rattle.duration_str_reading.specs.Grammar.{Terminal, number, word}
@@ -17,7 +17,7 @@ use Rattle.duration_str_reading.specs.Place.{terminals_of}
 use Rattle.duration_str_reading.specs.Reading.{IsRead, IsRefused}
 use Rattle.duration_str_reading.specs.Tokens.{Token, tokens_from, tokens_of}
 use Rattle.duration_str_reading.specs.Value.{terms_of, value_of}
-use Rattle.duration_str_units.specs.Text.{Bytes, Characters, IsBlank, is_digit, number_of}
+use Rattle.duration_str_base.specs.Text.{Bytes, Characters, IsBlank, is_digit, number_of}
 
 -- the text with the suggestion, in place of the part that it replaces
 abbrev pub mended_text : Pieces → Bytes

@@ -1,15 +1,15 @@
 -- The table of units from before the quarter was added, and what a text was read as with that
 -- table.
 use Rattle.std.specs.Prelude.{◌≡◌, List, [], ◌∷◌, Option, Some, None, if◌then◌else◌, unwrap_or, codes}
-use Rattle.duration_str_units.specs.declared.options.Options.{Options}
-use Rattle.duration_str_units.specs.declared.unit.TimeUnit.{TimeUnit}
-use Rattle.duration_str_units.specs.declared.unit.TimeUnit.TheVariants.{Year, Quarter, Month, Week, Day, Hour, Minute, Second, MilliSecond, MicroSecond, NanoSecond}
-use Rattle.duration_str_units.specs.declared.cause.Cause.{Cause}
-use Rattle.duration_str_units.specs.Text.{Characters}
-use Rattle.duration_str_units.specs.Units.{UnitRow}
-use Rattle.duration_str_units.specs.Rules.{Rules}
+use Rattle.duration_str_base.specs.declared.options.Options.{Options}
+use Rattle.duration_str_base.specs.declared.unit.TimeUnit.{TimeUnit}
+use Rattle.duration_str_base.specs.declared.unit.TimeUnit.TheVariants.{Year, Quarter, Month, Week, Day, Hour, Minute, Second, MilliSecond, MicroSecond, NanoSecond}
+use Rattle.duration_str_base.specs.declared.cause.Cause.{Cause}
+use Rattle.duration_str_base.specs.Text.{Characters}
+use Rattle.duration_str_base.specs.Units.{UnitRow}
+use Rattle.duration_str_base.specs.Rules.{Rules}
 use Rattle.duration_str_reading.specs.Grammar.{IsSentenceOf}
-use Rattle.duration_str_units.specs.Term.{Term, or_else}
+use Rattle.duration_str_base.specs.Term.{Term, or_else}
 use Rattle.duration_str_reading.specs.Value.{written_terms, evaluation_fault}
 use Rattle.duration_str_reading.specs.Reading.{first_fault, running_fault}
 

@@ -1,9 +1,9 @@
 -- Results of calls that read a text: a value of any type, nanoseconds, or the number of looks.
 use Rattle.std.specs.Prelude.{◌≡◌, ℕ, Result, Ok, Err, IfOk, IfErr, IsOk, chars}
-use Rattle.duration_str_units.specs.declared.cause.Cause.{Cause}
+use Rattle.duration_str_base.specs.declared.cause.Cause.{Cause}
 use Rattle.duration_str_refusals.specs.declared.fault.Fault.{Fault}
-use Rattle.duration_str_units.specs.Text.{Bytes}
-use Rattle.duration_str_units.specs.Rules.{Rules}
+use Rattle.duration_str_base.specs.Text.{Bytes}
+use Rattle.duration_str_base.specs.Rules.{Rules}
 use Rattle.duration_str_reading.specs.Reading.{IsRead, IsRefused}
 
 -- The result is a value for which `reads` holds, or a fault with exactly these bytes, and `refuses`

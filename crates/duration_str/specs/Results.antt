@@ -3,8 +3,8 @@ use Rattle.std.specs.Prelude.{◌≡◌, ℕ, ◌^◌, ◌<◌, Result, IfOk, If
 use Rattle.std.specs.Duration.{as_nanos}
 use Rattle.std.specs.declared.time.Duration.{Duration}
 use Rattle.duration_str_refusals.specs.declared.fault.Fault.{Fault}
-use Rattle.duration_str_units.specs.Text.{Bytes}
-use Rattle.duration_str_units.specs.Rules.{Rules}
+use Rattle.duration_str_base.specs.Text.{Bytes}
+use Rattle.duration_str_base.specs.Rules.{Rules}
 use Rattle.duration_str_reading.specs.Reading.{IsRead, IsRefused}
 
 -- By these rules the bytes are read as the value in `Ok`, which is below 2^64 nanoseconds, or

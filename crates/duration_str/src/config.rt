@@ -6,13 +6,13 @@ ghost use Rattle.serde_json.specs.Data.{Data, null, string};
 ghost use Rattle.serde_json.specs.Find.{as_str};
 ghost use Rattle.serde_json.specs.View.{view};
 ghost use Rattle.duration_str.specs.Configuration.{IsRequired, IsOptional};
-ghost use Rattle.duration_str_units.specs.declared.cause.Cause.TheVariants.{NotText};
+ghost use Rattle.duration_str_base.specs.declared.cause.Cause.TheVariants.{NotText};
 ghost use Rattle.duration_str_refusals.specs.declared.fault.Fault.{Fault as PlainFault};
 
 use crate::parser::parse;
 use crate::signed::parse_chrono;
 use duration_str_refusals::fault::Fault;
-use duration_str_units::cause::Cause;
+use duration_str_base::cause::Cause;
 use jiff::SignedDuration;
 use serde_json::Value;
 use std::time::Duration;

@@ -2,11 +2,11 @@
 ghost use Rattle.std.specs.Prelude.{◌≡◌, ◌↔◌, pos, ◌+ℤ◌, ◌-ℤ◌, IsSome, IfSome, IfNone, IsErrAnd, Ok};
 ghost use Rattle.std.specs.Duration.{as_nanos};
 ghost use Rattle.duration_str.specs.Dates.{IsCivil, IsCivilDay, IsDated, IsInRange};
-ghost use Rattle.duration_str_units.specs.declared.cause.Cause.TheVariants.{OutOfRange};
+ghost use Rattle.duration_str_base.specs.declared.cause.Cause.TheVariants.{OutOfRange};
 
 use crate::parser::parse;
 use duration_str_refusals::fault::Fault;
-use duration_str_units::cause::Cause;
+use duration_str_base::cause::Cause;
 use jiff::Timestamp;
 use jiff::civil::{Date, DateTime};
 use jiff::tz::Offset;

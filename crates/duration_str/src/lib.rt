@@ -21,7 +21,7 @@ pub use duration_str_printing::format::{Format, Style, Units};
 pub use duration_str_printing::rounding::{Rounding, round_to};
 pub use duration_str_refusals::one_line::{MAX_ONE_LINE_LEN, ONE_LINE_BUFFER_SIZE};
 pub use duration_str_refusals::report::REPORT_BUFFER_SIZE;
-pub use duration_str_units::rules::Rules;
+pub use duration_str_base::rules::Rules;
 pub use error::{DError, DResult};
 pub use ext::HumanFormat;
 pub use parser::{

@@ -1,23 +1,23 @@
 //! Reading: the duration that a text means, or why it means none.
 ghost use Rattle.std.specs.Prelude.{◌≡◌, ◌≤◌, length, Some, None, IfErr, OnOk};
 ghost use Rattle.std.specs.Str.{chars};
-ghost use Rattle.duration_str_units.specs.Rules.{rules_of, rules_with};
+ghost use Rattle.duration_str_base.specs.Rules.{rules_of, rules_with};
 ghost use Rattle.duration_str.specs.Results.{Parses};
 ghost use Rattle.duration_str.specs.OtherResults.{Reads};
 ghost use Rattle.duration_str_reading.specs.Place.{ReachesPlace};
-ghost use Rattle.duration_str_units.specs.Humantime.{humantime_rules};
-ghost use Rattle.duration_str_units.specs.MoreNames.{more_rules};
-ghost use Rattle.duration_str_units.specs.Meaning.{meaning_of};
-ghost use Rattle.duration_str_units.specs.Options.{off};
+ghost use Rattle.duration_str_base.specs.Humantime.{humantime_rules};
+ghost use Rattle.duration_str_base.specs.MoreNames.{more_rules};
+ghost use Rattle.duration_str_base.specs.Meaning.{meaning_of};
+ghost use Rattle.duration_str_base.specs.Options.{off};
 
 use duration_str_reading::reader::read;
 use duration_str_reading::token::Tokens;
 pub use duration_str_refusals::fault::Fault;
-pub use duration_str_units::cause::{Cause, Expected};
-use duration_str_units::options::Options;
-use duration_str_units::rules::Rules;
-use duration_str_units::table::UnitTable;
-use duration_str_units::unit::TimeUnit;
+pub use duration_str_base::cause::{Cause, Expected};
+use duration_str_base::options::Options;
+use duration_str_base::rules::Rules;
+use duration_str_base::table::UnitTable;
+use duration_str_base::unit::TimeUnit;
 use std::time::Duration;
 
 /// Reads a text with all options off, and returns the duration that it means.

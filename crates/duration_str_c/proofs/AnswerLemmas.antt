@@ -2,10 +2,10 @@
 use Rattle.std.proofs.Common.{ap, arith, inl, inr, IsUtf8, length, List, None, Option, refl, slice_get, slice_index_or, Some, subst, suc, zero, [], ℕ, ◌∷◌, ◌≡◌, ◌<◌, ◌≤◌, Bor}
 use Rattle.std.specs.Option.{option_copied}
 use Rattle.std.specs.Slice.{IsItemAt}
-use Rattle.duration_str_units.specs.declared.unit.TimeUnit.{TimeUnit}
+use Rattle.duration_str_base.specs.declared.unit.TimeUnit.{TimeUnit}
 use Rattle.std.specs.Str.{chars}
-use Rattle.duration_str_units.specs.declared.options.Options.{Options}
-use Rattle.duration_str_units.specs.declared.cause.Cause.{Cause}
+use Rattle.duration_str_base.specs.declared.options.Options.{Options}
+use Rattle.duration_str_base.specs.declared.cause.Cause.{Cause}
 use Rattle.duration_str_reading.specs.Reading.{IsRead, IsRefused}
 use Rattle.duration_str_c.specs.declared.answer.Answer.{Answer}
 use Rattle.duration_str_c.specs.Answers.{AreOptions, IsAnswerTo, options_of_bits, rules_of_bits, TellsFault, value_answer}

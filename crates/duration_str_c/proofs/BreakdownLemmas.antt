@@ -6,13 +6,13 @@ use Rattle.std.specs.Prelude.{Any, count_by, ⊤}
 use Rattle.duration_str_printing.specs.Breakdown.{AreParts, ArePartsRounded, parts_left, sum_of_parts}
 use Rattle.duration_str_printing.specs.Format.{chosen, counts_within, units_of}
 use Rattle.duration_str_printing.specs.Printing.{nonzero, weighted_sum}
-use Rattle.duration_str_units.specs.Units.{nanos_of, rank_of, units}
+use Rattle.duration_str_base.specs.Units.{nanos_of, rank_of, units}
 use Rattle.duration_str_printing.specs.declared.breakdown.Breakdown.{Breakdown}
 use Rattle.duration_str_printing.specs.declared.format.Format.{Format}
 use Rattle.duration_str_printing.specs.declared.format.Units.{Units}
 use Rattle.duration_str_printing.specs.declared.rounding.Rounding.{Rounding}
-use Rattle.duration_str_units.specs.declared.unit.TimeUnit.{TimeUnit}
-use Rattle.duration_str_units.specs.declared.unit.TimeUnit.TheVariants.{Year, Quarter, Month, Week, Day, Hour, Minute, Second, MilliSecond, MicroSecond, NanoSecond}
+use Rattle.duration_str_base.specs.declared.unit.TimeUnit.{TimeUnit}
+use Rattle.duration_str_base.specs.declared.unit.TimeUnit.TheVariants.{Year, Quarter, Month, Week, Day, Hour, Minute, Second, MilliSecond, MicroSecond, NanoSecond}
 use Rattle.duration_str_c.specs.Breakdown.{count_of, counts_of, IsTooLarge}
 
 -- ---- The parts come in the order of their units

@@ -11,14 +11,14 @@ use Rattle.duration_str_printing.specs.Format.{IsPrintedWithin, whole_format}
 use Rattle.duration_str_help.specs.Mends.{Pieces}
 use Rattle.duration_str_reading.specs.Reading.{IsRead, IsRefused}
 use Rattle.duration_str_printing.specs.Rounding.{NoneAbove}
-use Rattle.duration_str_units.specs.declared.cause.Cause.{Cause}
-use Rattle.duration_str_units.specs.declared.cause.Cause.TheVariants.{Mixed, Syntax}
-use Rattle.duration_str_units.specs.declared.cause.Expected.{Expected}
+use Rattle.duration_str_base.specs.declared.cause.Cause.{Cause}
+use Rattle.duration_str_base.specs.declared.cause.Cause.TheVariants.{Mixed, Syntax}
+use Rattle.duration_str_base.specs.declared.cause.Expected.{Expected}
 use Rattle.duration_str_printing.specs.declared.format.Format.{Format}
-use Rattle.duration_str_units.specs.Options.{off}
+use Rattle.duration_str_base.specs.Options.{off}
 use Rattle.duration_str_help.specs.declared.help.Help.TheVariants.{DidYouMean}
-use Rattle.duration_str_units.specs.declared.operator.CondUnit.TheVariants.{Plus, Star}
-use Rattle.duration_str_units.specs.declared.unit.TimeUnit.TheVariants.{Minute}
+use Rattle.duration_str_base.specs.declared.operator.CondUnit.TheVariants.{Plus, Star}
+use Rattle.duration_str_base.specs.declared.unit.TimeUnit.TheVariants.{Minute}
 use Rattle.duration_str_c.specs.Answers.{IsAnswerTo, IsTold, rules_of_bits, TellsFault}
 use Rattle.duration_str_c.specs.declared.answer.Answer.{Answer}
 use Rattle.duration_str_c.specs.Breakdown.{counts_of, IsBrokenDown, IsTooLarge}

@@ -1,16 +1,16 @@
 -- Examples that are computed, such as which bits are options, and the counts of units.
 use Rattle.std.proofs.Common.{◌≡◌, ◌+◌, ◌∷◌, [], codes, false, map, negsuc, None, pos, Some, true}
-use Rattle.duration_str_units.specs.Options.{off}
-use Rattle.duration_str_units.specs.declared.cause.Cause.TheVariants.{Empty, Mixed, NotText, NumberTooLarge, OutOfRange, Overflow, Syntax}
-use Rattle.duration_str_units.specs.declared.cause.Expected.{Expected}
+use Rattle.duration_str_base.specs.Options.{off}
+use Rattle.duration_str_base.specs.declared.cause.Cause.TheVariants.{Empty, Mixed, NotText, NumberTooLarge, OutOfRange, Overflow, Syntax}
+use Rattle.duration_str_base.specs.declared.cause.Expected.{Expected}
 use Rattle.duration_str_printing.specs.declared.format.Style.TheVariants.{Compact, Long, Short}
-use Rattle.duration_str_units.specs.declared.operator.CondUnit.TheVariants.{Plus, Star}
+use Rattle.duration_str_base.specs.declared.operator.CondUnit.TheVariants.{Plus, Star}
 use Rattle.duration_str_printing.specs.declared.rounding.Rounding.TheVariants.{Down, Nearest, Up}
-use Rattle.duration_str_units.specs.declared.unit.TimeUnit.TheVariants.{Day, Hour, MilliSecond, Minute, NanoSecond, Second, Year}
+use Rattle.duration_str_base.specs.declared.unit.TimeUnit.TheVariants.{Day, Hour, MilliSecond, Minute, NanoSecond, Second, Year}
 use Rattle.duration_str_printing.specs.Breakdown.{parts_in, sum_of_parts}
-use Rattle.duration_str_units.specs.MoreNames.{more_row_of}
-use Rattle.duration_str_units.specs.Rules.{rules_of, unit_of_word}
-use Rattle.duration_str_units.specs.Units.{row_of, units}
+use Rattle.duration_str_base.specs.MoreNames.{more_row_of}
+use Rattle.duration_str_base.specs.Rules.{rules_of, unit_of_word}
+use Rattle.duration_str_base.specs.Units.{row_of, units}
 use Rattle.duration_str_c.specs.Answers.{are_options, bits_of, cause_number, default_unit_of_bits, first_sign, later_sign, options_of_bits, rules_of_bits}
 use Rattle.duration_str_c.specs.Breakdown.{counts_of}
 use Rattle.duration_str_c.specs.Format.{style_numbered}

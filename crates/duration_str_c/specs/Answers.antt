@@ -3,21 +3,21 @@ use Rattle.std.specs.Prelude.{◌≡◌, ℕ, ◌+◌, ◌-◌, ◌/◌, ◌^◌
 use Rattle.std.specs.Int.Bits.{bit_and}
 use Rattle.std.specs.Option.{ForSome}
 use Rattle.std.specs.Str.{chars, IsCharBoundary}
-use Rattle.duration_str_units.specs.declared.options.Options.{Options}
-use Rattle.duration_str_units.specs.declared.operator.CondUnit.{CondUnit}
-use Rattle.duration_str_units.specs.declared.operator.CondUnit.TheVariants.{Plus, Star}
-use Rattle.duration_str_units.specs.declared.cause.Cause.{Cause}
-use Rattle.duration_str_units.specs.declared.cause.Cause.TheVariants.{Empty, Syntax, NumberTooLarge, Overflow, Mixed, OutOfRange, NotText}
-use Rattle.duration_str_units.specs.declared.cause.Expected.{Expected}
-use Rattle.duration_str_units.specs.Text.{byte_len}
+use Rattle.duration_str_base.specs.declared.options.Options.{Options}
+use Rattle.duration_str_base.specs.declared.operator.CondUnit.{CondUnit}
+use Rattle.duration_str_base.specs.declared.operator.CondUnit.TheVariants.{Plus, Star}
+use Rattle.duration_str_base.specs.declared.cause.Cause.{Cause}
+use Rattle.duration_str_base.specs.declared.cause.Cause.TheVariants.{Empty, Syntax, NumberTooLarge, Overflow, Mixed, OutOfRange, NotText}
+use Rattle.duration_str_base.specs.declared.cause.Expected.{Expected}
+use Rattle.duration_str_base.specs.Text.{byte_len}
 use Rattle.duration_str_reading.specs.Tokens.{Token}
-use Rattle.duration_str_units.specs.Causes.{place_of}
+use Rattle.duration_str_base.specs.Causes.{place_of}
 use Rattle.duration_str_refusals.specs.Faults.{found_token}
-use Rattle.duration_str_units.specs.declared.unit.TimeUnit.{TimeUnit}
-use Rattle.duration_str_units.specs.declared.unit.TimeUnit.TheVariants.{Second}
-use Rattle.duration_str_units.specs.Units.{units}
-use Rattle.duration_str_units.specs.MoreNames.{more_rules}
-use Rattle.duration_str_units.specs.Rules.{Rules, rules_with}
+use Rattle.duration_str_base.specs.declared.unit.TimeUnit.{TimeUnit}
+use Rattle.duration_str_base.specs.declared.unit.TimeUnit.TheVariants.{Second}
+use Rattle.duration_str_base.specs.Units.{units}
+use Rattle.duration_str_base.specs.MoreNames.{more_rules}
+use Rattle.duration_str_base.specs.Rules.{Rules, rules_with}
 use Rattle.duration_str_reading.specs.Reading.{IsRead, IsRefused}
 use Rattle.duration_str_c.specs.declared.answer.Answer.{Answer}
 

@@ -2,9 +2,9 @@
 use Rattle.std.specs.Prelude.{◌≡◌, ℕ, ◌+◌, ◌^◌, ◌≤◌, ◌==◌, ◌⊎◌, Any, List, [], ◌∷◌, if◌then◌else◌, map, Option}
 use Rattle.duration_str_printing.specs.declared.format.Format.{Format}
 use Rattle.duration_str_printing.specs.declared.rounding.Rounding.{Rounding}
-use Rattle.duration_str_units.specs.declared.unit.TimeUnit.{TimeUnit}
+use Rattle.duration_str_base.specs.declared.unit.TimeUnit.{TimeUnit}
 use Rattle.duration_str_printing.specs.Breakdown.{ArePartsRounded, sum_of_parts}
-use Rattle.duration_str_units.specs.Units.{nanos_of, units}
+use Rattle.duration_str_base.specs.Units.{nanos_of, units}
 
 abbrev pub count_of : List (TimeUnit × ℕ) → TimeUnit → ℕ
 count_of [] u = 0

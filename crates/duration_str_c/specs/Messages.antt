@@ -1,6 +1,6 @@
 -- The message about a refused text, in a caller's buffer.
 use Rattle.std.specs.Prelude.{◌≡◌, ℕ, ◌+◌, ◌^◌, ◌-◌, ◌<◌, ◌≤◌, List, [], ◌∷◌, ◌++◌, length, drop, min, codes}
-use Rattle.duration_str_units.specs.declared.cause.Cause.{Cause}
+use Rattle.duration_str_base.specs.declared.cause.Cause.{Cause}
 use Rattle.duration_str_c.specs.Answers.{IsTold}
 
 -- `len` is the number of the bytes, but at most 2^64 - 1. If there is room for the bytes and a

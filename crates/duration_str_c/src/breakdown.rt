@@ -2,7 +2,7 @@
 ghost use Rattle.std.specs.Prelude.{◌≡◌, ℕ, ◌+◌, ◌*◌, ◌^◌, ◌<◌, ◌≤◌, ◌⊎◌, Any, IfNone, IfSome, IsFalse, IsTrue};
 ghost use Rattle.duration_str_printing.specs.Breakdown.{nanos_left, parts_left, sum_of_parts};
 ghost use Rattle.duration_str_printing.specs.declared.format.Style.TheVariants.{Short};
-ghost use Rattle.duration_str_units.specs.Units.{rank_of};
+ghost use Rattle.duration_str_base.specs.Units.{rank_of};
 ghost use Rattle.duration_str_c.specs.Breakdown.{counts_of, IsBrokenDown, IsTooLarge};
 ghost use Rattle.duration_str_c.specs.Format.{format_of};
 ghost use Rattle.duration_str_c.specs.Rounding.{AreRight, NoneRounded, rounding_numbered};

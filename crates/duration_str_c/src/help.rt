@@ -1,6 +1,6 @@
 //! The help for a refused text, and what to write instead.
 ghost use Rattle.std.specs.Prelude.{◌≡◌, None};
-ghost use Rattle.duration_str_units.specs.Meaning.{meaning_of};
+ghost use Rattle.duration_str_base.specs.Meaning.{meaning_of};
 ghost use Rattle.duration_str_help.specs.Help.{help_of};
 ghost use Rattle.duration_str_help.specs.Mends.{mend_of};
 ghost use Rattle.duration_str_c.specs.Help.{number_of, IsHelpShown, ShowsHelp};

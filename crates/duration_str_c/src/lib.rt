@@ -6,10 +6,10 @@
 ghost use Rattle.std.specs.Prelude.{◌≡◌, ℕ, ◌+◌, ◌<◌, ◌≤◌, ◌==◌, ◌∷◌, length, IsTrue, IsFalse, IfSome, IfNone, IsUtf8, take, drop};
 ghost use Rattle.std.specs.Bool.{MatchBool};
 ghost use Rattle.std.specs.Str.{chars};
-ghost use Rattle.duration_str_units.specs.Options.{off};
+ghost use Rattle.duration_str_base.specs.Options.{off};
 ghost use Rattle.duration_str.specs.OtherResults.{Reads};
-ghost use Rattle.duration_str_units.specs.Meaning.{meaning_of};
-ghost use Rattle.duration_str_units.specs.Rules.{rules_of};
+ghost use Rattle.duration_str_base.specs.Meaning.{meaning_of};
+ghost use Rattle.duration_str_base.specs.Rules.{rules_of};
 ghost use Rattle.duration_str_reading.specs.Reading.{IsRead};
 ghost use Rattle.duration_str_printing.specs.Printing.{IsPrinted};
 ghost use Rattle.duration_str_printing.specs.declared.printing.TheConstants.{MAX_PRINTED_LEN};

@@ -3,7 +3,7 @@ ghost use Rattle.std.specs.Prelude.{◌≡◌, ◌+◌, ◌<◌, ◌≤◌, ◌�
 ghost use Rattle.std.specs.Str.{chars};
 ghost use Rattle.duration_str_refusals.specs.declared.one_line.TheConstants.{MAX_ONE_LINE_LEN};
 ghost use Rattle.duration_str_refusals.specs.declared.report.TheConstants.{REPORT_BUFFER_SIZE};
-ghost use Rattle.duration_str_units.specs.Meaning.{meaning_of};
+ghost use Rattle.duration_str_base.specs.Meaning.{meaning_of};
 ghost use Rattle.duration_str_refusals.specs.OneLine.{one_line_of};
 ghost use Rattle.duration_str_refusals.specs.Report.{report_of};
 ghost use Rattle.duration_str_reading.specs.Reading.{IsRefused};

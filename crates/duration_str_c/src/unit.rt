@@ -1,8 +1,8 @@
 //! A unit by its name.
 ghost use Rattle.std.specs.Prelude.{◌≡◌, IsUtf8, None};
 ghost use Rattle.std.specs.Str.{chars};
-ghost use Rattle.duration_str_units.specs.Options.{off};
-ghost use Rattle.duration_str_units.specs.Rules.{rules_of, unit_of_word};
+ghost use Rattle.duration_str_base.specs.Options.{off};
+ghost use Rattle.duration_str_base.specs.Rules.{rules_of, unit_of_word};
 ghost use Rattle.duration_str_c.specs.Units.{number_of};
 
 use crate::text_of;

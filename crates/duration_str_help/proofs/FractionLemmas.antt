@@ -11,7 +11,7 @@ use Rattle.std.proofs.lemmas.Nat.{div-add-mod', pow-add}
 use Rattle.std.specs.List.{prefix_len}
 use Rattle.duration_str_help.specs.Fraction.{end_run, is_whole_in, nanos_of_fraction, Table, whole_quotient}
 use Rattle.duration_str_help.proofs.MendedBytes.{EndParts, end_parts}
-use Rattle.duration_str_units.proofs.NumberLemmas.{decimal_digits, number_after-append, number_after-is}
+use Rattle.duration_str_base.proofs.NumberLemmas.{decimal_digits, number_after-append, number_after-is}
 
 -- ---- Runs of bytes
 

@@ -4,7 +4,7 @@ use Rattle.duration_str_help.specs.Help.{is_letter}
 use Rattle.duration_str_help.proofs.Common.{[], and_from, and_parts, ap, append-nil, arith, Bool, byte_len, cases_Bool, chars, chars-append, chars-encodes, chars_past_char, drop, encode, encode_ascii, encodes, encodes-chars, false, false_from_ne_true, get_or, inl, inr, is_ascii_alphabetic, is_blank, is_digit, IsCharBoundary-at_seam, IsUtf8, IsUtf8-past_char, IsUtf8-take, len_utf8_bounds, length, length-append, length-encode, List, list_all, ltb, ltb-true, nat_le, nat_tests, refl, scalar, scalars, Stops, suc, sym, take, true, zero, ℕ, ◌++◌, ◌-◌, ◌∙◌, ◌∷◌, ◌≡◌, ◌≢◌, ◌≤◌}
 use Rattle.std.proofs.Math.Seq.{take-append_seam}
 use Rattle.std.specs.Prelude.{slice_index}
-use Rattle.duration_str_units.proofs.CharacterLemmas.{all_weaker, byte_count}
+use Rattle.duration_str_base.proofs.CharacterLemmas.{all_weaker, byte_count}
 use Rattle.duration_str_help.specs.Fraction.{end_run}
 
 -- whether the last character passes the test

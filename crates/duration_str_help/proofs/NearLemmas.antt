@@ -1,7 +1,7 @@
 -- Lemmas about words that are near a unit.
 use Rattle.duration_str_help.proofs.Common.{bytes_eq, bytes_eq-Decides, cases_Bool, codes, encode_utf8_all, encodes-chars, false, find, inl, inr, is_named, IsUtf8, List, list_any, map, None, off, Option, packed_word, refl, Some, sym, TimeUnit, to_ascii_lowercase, true, units, unit_of_word, with_micro, Bool, if◌then◌else◌, Month, [], ℕ, ◌∙◌, ◌∷◌, ◌≡◌, ◌==◌, more_names}
-use Rattle.duration_str_units.proofs.PackedLemmas.{added_rules, added_word_none, more_off, more_word_none}
-use Rattle.duration_str_units.proofs.UnitLemmas.{bytes_eq-encodes}
+use Rattle.duration_str_base.proofs.PackedLemmas.{added_rules, added_word_none, more_off, more_word_none}
+use Rattle.duration_str_base.proofs.UnitLemmas.{bytes_eq-encodes}
 use Rattle.std.specs.Str.{chars}
 use Rattle.duration_str_help.specs.Help.{near_unit, small_words}
 

@@ -3,11 +3,11 @@
 use Rattle.std.specs.Prelude.{ℕ, ◌*◌, ◌/◌, ◌%◌, ◌^◌, ◌==◌, Bool, ◌&&◌, [], ◌∷◌, ◌++◌, Option, Some, None, unwrap_or, if◌then◌else◌, nat_le, length}
 use Rattle.std.specs.List.{find, list_all}
 use Rattle.duration_str_help.specs.declared.suggestion.Suggestion.{Suggestion}
-use Rattle.duration_str_units.specs.declared.unit.TimeUnit.{TimeUnit}
-use Rattle.duration_str_units.specs.declared.unit.TimeUnit.TheVariants.{NanoSecond}
-use Rattle.duration_str_units.specs.Text.{Bytes, number_of}
-use Rattle.duration_str_units.specs.Units.{UnitRow, units}
-use Rattle.duration_str_units.specs.Term.{fits}
+use Rattle.duration_str_base.specs.declared.unit.TimeUnit.{TimeUnit}
+use Rattle.duration_str_base.specs.declared.unit.TimeUnit.TheVariants.{NanoSecond}
+use Rattle.duration_str_base.specs.Text.{Bytes, number_of}
+use Rattle.duration_str_base.specs.Units.{UnitRow, units}
+use Rattle.duration_str_base.specs.Term.{fits}
 
 -- the longest end of the bytes in which all pass the test
 abbrev pub end_run : (ℕ → Bool) → Bytes → Bytes

@@ -3,18 +3,18 @@ use Rattle.std.specs.Prelude.{ℕ, ◌+◌, ◌-◌, Bool, false, not, ◌&&◌,
 use Rattle.std.specs.Char.{is_ascii_alphabetic, to_ascii_lowercase}
 use Rattle.std.specs.Int.{is_in_range}
 use Rattle.std.specs.List.{list_any, list_all, find, take_while}
-use Rattle.duration_str_units.specs.declared.cause.Expected.{Expected}
-use Rattle.duration_str_units.specs.declared.cause.Cause.{Cause}
-use Rattle.duration_str_units.specs.declared.cause.Cause.TheVariants.{Syntax, Overflow}
+use Rattle.duration_str_base.specs.declared.cause.Expected.{Expected}
+use Rattle.duration_str_base.specs.declared.cause.Cause.{Cause}
+use Rattle.duration_str_base.specs.declared.cause.Cause.TheVariants.{Syntax, Overflow}
 use Rattle.duration_str_help.specs.declared.help.Help.{Help}
 use Rattle.duration_str_help.specs.declared.help.Help.TheVariants.{DidYouMean, Units, Fraction, DigitsOnly, ClockTime, Negative, LeadingPlus, Iso8601, OneDuration, NoPoint, Brackets, Division, QuotationMarks, MissingUnit, Zero, LargeNumber}
-use Rattle.duration_str_units.specs.declared.unit.TimeUnit.{TimeUnit}
-use Rattle.duration_str_units.specs.declared.unit.TimeUnit.TheVariants.{Month, MicroSecond}
-use Rattle.duration_str_units.specs.Text.{Bytes, Characters, is_blank, is_digit}
-use Rattle.duration_str_units.specs.Units.{units, row_of}
-use Rattle.duration_str_units.specs.MoreNames.{more_names, more_rules}
-use Rattle.duration_str_units.specs.Options.{off}
-use Rattle.duration_str_units.specs.Rules.{unit_of_word}
+use Rattle.duration_str_base.specs.declared.unit.TimeUnit.{TimeUnit}
+use Rattle.duration_str_base.specs.declared.unit.TimeUnit.TheVariants.{Month, MicroSecond}
+use Rattle.duration_str_base.specs.Text.{Bytes, Characters, is_blank, is_digit}
+use Rattle.duration_str_base.specs.Units.{units, row_of}
+use Rattle.duration_str_base.specs.MoreNames.{more_names, more_rules}
+use Rattle.duration_str_base.specs.Options.{off}
+use Rattle.duration_str_base.specs.Rules.{unit_of_word}
 use Rattle.duration_str_help.specs.Quotes.{is_plain}
 
 -- whether a character is an ASCII letter, or a plain character beyond ASCII that is no sign. Signs

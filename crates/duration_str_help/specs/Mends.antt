@@ -3,19 +3,19 @@ use Rattle.std.specs.Prelude.{◌≡◌, ℕ, ◌+◌, ◌-◌, Bool, true, fals
 use Rattle.std.specs.Char.{is_ascii_alphabetic}
 use Rattle.std.specs.List.{list_all, prefix_len}
 use Rattle.std.specs.Option.{option_or}
-use Rattle.duration_str_units.specs.declared.cause.Expected.{Expected}
-use Rattle.duration_str_units.specs.declared.cause.Cause.{Cause}
-use Rattle.duration_str_units.specs.declared.cause.Cause.TheVariants.{Syntax}
+use Rattle.duration_str_base.specs.declared.cause.Expected.{Expected}
+use Rattle.duration_str_base.specs.declared.cause.Cause.{Cause}
+use Rattle.duration_str_base.specs.declared.cause.Cause.TheVariants.{Syntax}
 use Rattle.duration_str_help.specs.declared.help.Help.{Help}
 use Rattle.duration_str_help.specs.declared.help.Help.TheVariants.{DidYouMean, Fraction, DigitsOnly, LeadingPlus, Iso8601, NoPoint, Zero}
 use Rattle.duration_str_help.specs.declared.suggestion.Replacement.{Replacement}
 use Rattle.duration_str_help.specs.declared.mend.Mend.{Mend}
 use Rattle.duration_str_help.specs.declared.suggestion.Suggestion.{Suggestion}
-use Rattle.duration_str_units.specs.declared.unit.TimeUnit.{TimeUnit}
-use Rattle.duration_str_units.specs.declared.unit.TimeUnit.TheVariants.{Second}
+use Rattle.duration_str_base.specs.declared.unit.TimeUnit.{TimeUnit}
+use Rattle.duration_str_base.specs.declared.unit.TimeUnit.TheVariants.{Second}
 use Rattle.duration_str_help.specs.Fraction.{as_term, end_run, nanos_of_fraction}
-use Rattle.duration_str_units.specs.Text.{Bytes, Characters, is_blank, is_digit, operator_of}
-use Rattle.duration_str_units.specs.Rules.{Rules, unit_of_word}
+use Rattle.duration_str_base.specs.Text.{Bytes, Characters, is_blank, is_digit, operator_of}
+use Rattle.duration_str_base.specs.Rules.{Rules, unit_of_word}
 use Rattle.duration_str_help.specs.Help.{begins_with_letter, first_piece, help_name, is_letter, near_unit, syntax_help}
 
 -- the digits of a count, if there is one

@@ -3,7 +3,7 @@ use Rattle.std.specs.Prelude.{ℕ, ◌-◌, Bool, not, ◌&&◌, ◌||◌, [], �
 use Rattle.std.specs.Char.{is_control}
 use Rattle.std.specs.Char.Escape.{escape_default}
 use Rattle.std.specs.Int.{is_in_range}
-use Rattle.duration_str_units.specs.Text.{Bytes, Characters}
+use Rattle.duration_str_base.specs.Text.{Bytes, Characters}
 
 -- whether a character is plain. Control characters and white space other than the space are not
 -- plain. Nor are some others that can't be seen, such as marks of direction, tags and the soft

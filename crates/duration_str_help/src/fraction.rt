@@ -4,23 +4,23 @@ ghost use Rattle.std.specs.List.{list_all, prefix_len};
 ghost use Rattle.std.specs.Str.{chars, IsCharBoundary};
 ghost use Rattle.duration_str_help.specs.Fraction.{as_term, end_run, longest_whole, nanos_of_fraction};
 ghost use Rattle.duration_str_help.specs.Internal.Mends.{IsCutOut, offered_unit};
-ghost use Rattle.duration_str_units.specs.Internal.Numbers.{u64_from};
-ghost use Rattle.duration_str_units.specs.Meaning.{meaning_of, table_of};
+ghost use Rattle.duration_str_base.specs.Internal.Numbers.{u64_from};
+ghost use Rattle.duration_str_base.specs.Meaning.{meaning_of, table_of};
 ghost use Rattle.duration_str_help.specs.Mends.{can_end_number, fraction_replacement, meant_unit, unit_ahead};
 ghost use Rattle.duration_str_help.specs.Help.{near_unit};
-ghost use Rattle.duration_str_units.specs.Rules.{unit_of_word};
-ghost use Rattle.duration_str_units.specs.Text.{is_blank, is_digit, number_of};
+ghost use Rattle.duration_str_base.specs.Rules.{unit_of_word};
+ghost use Rattle.duration_str_base.specs.Text.{is_blank, is_digit, number_of};
 
 use crate::help::{Help, found_at};
 use crate::suggestion::{Replacement, Suggestion};
-use duration_str_units::blank::is_blank;
-use duration_str_units::cause::Expected;
-use duration_str_units::operator::CondUnit;
-use duration_str_units::packed::packed_word;
-use duration_str_units::rules::Rules;
-use duration_str_units::slice::range_from;
-use duration_str_units::table::UnitTable;
-use duration_str_units::unit::{TimeUnit, UNITS};
+use duration_str_base::blank::is_blank;
+use duration_str_base::cause::Expected;
+use duration_str_base::operator::CondUnit;
+use duration_str_base::packed::packed_word;
+use duration_str_base::rules::Rules;
+use duration_str_base::slice::range_from;
+use duration_str_base::table::UnitTable;
+use duration_str_base::unit::{TimeUnit, UNITS};
 
 /// Returns what to replace for the number whose point is at the place.
 pub fn fraction_replacement(

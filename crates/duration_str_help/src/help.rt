@@ -3,20 +3,20 @@ ghost use Rattle.std.specs.Prelude.{◌≡◌, ◌≤◌, ◌+◌, ◌-◌, ◌=
 ghost use Rattle.std.specs.Char.{to_ascii_lowercase};
 ghost use Rattle.std.specs.List.{list_all};
 ghost use Rattle.std.specs.Str.{chars, bytes_eq, IsCharBoundary};
-ghost use Rattle.duration_str_units.specs.Text.{is_blank, is_digit};
-ghost use Rattle.duration_str_units.specs.Internal.Positions.{ahead};
+ghost use Rattle.duration_str_base.specs.Text.{is_blank, is_digit};
+ghost use Rattle.duration_str_base.specs.Internal.Positions.{ahead};
 ghost use Rattle.duration_str_help.specs.Help.{is_letter, is_like, first_piece, begins_with_letter, near_unit, unit_help, first_help, digit_help, sign_help, help_at, help_name, missing_unit_help, is_unknown_unit, syntax_help, overflow_help, help_number, help_words};
 ghost use Rattle.duration_str_help.specs.declared.help.Help.TheVariants.{DidYouMean};
 
 use crate::characters::is_letter;
-use duration_str_units::blank::is_blank;
-use duration_str_units::cause::Expected;
-use duration_str_units::more_names;
-use duration_str_units::more_names::added_unit;
-use duration_str_units::options::Options;
-use duration_str_units::packed::packed_word;
-use duration_str_units::slice::{range_from, range_to};
-use duration_str_units::unit::TimeUnit;
+use duration_str_base::blank::is_blank;
+use duration_str_base::cause::Expected;
+use duration_str_base::more_names;
+use duration_str_base::more_names::added_unit;
+use duration_str_base::options::Options;
+use duration_str_base::packed::packed_word;
+use duration_str_base::slice::{range_from, range_to};
+use duration_str_base::unit::TimeUnit;
 
 /// What a user may have meant by a refused text, or should write instead. The fault's line ends
 /// with the words of its help.

@@ -1,9 +1,9 @@
 //! Which part of a refused text to replace, and by what.
 ghost use Rattle.std.specs.Prelude.{◌≡◌, ℕ, ◌^◌, ◌<◌, ◌≤◌, ◌+◌, ◌++◌, ◌==◌, ◌||◌, not, length, take, encode_utf8_all, option_map, IfSome, Some};
 ghost use Rattle.std.specs.Str.{chars, IsCharBoundary};
-ghost use Rattle.duration_str_units.specs.Internal.Positions.{ahead};
+ghost use Rattle.duration_str_base.specs.Internal.Positions.{ahead};
 ghost use Rattle.duration_str_help.specs.Internal.Mends.{IsCutOut};
-ghost use Rattle.duration_str_units.specs.Meaning.{meaning_of};
+ghost use Rattle.duration_str_base.specs.Meaning.{meaning_of};
 ghost use Rattle.duration_str_help.specs.Mends.{HasPieces, ends_unit, ends_with_letter, replacement_for, pieces_of, removed_if, separates_thousands};
 ghost use Rattle.duration_str_help.specs.Help.{first_piece};
 
@@ -11,11 +11,11 @@ use crate::characters::is_letter;
 use crate::fraction::{first_digits, fraction_replacement};
 use crate::help::{Found, Help};
 use crate::suggestion::{Replacement, Suggestion};
-use duration_str_units::blank::is_blank;
-use duration_str_units::cause::Expected;
-use duration_str_units::rules::Rules;
-use duration_str_units::slice::{range_from, range_to};
-use duration_str_units::unit::TimeUnit;
+use duration_str_base::blank::is_blank;
+use duration_str_base::cause::Expected;
+use duration_str_base::rules::Rules;
+use duration_str_base::slice::{range_from, range_to};
+use duration_str_base::unit::TimeUnit;
 
 /// A suggestion and its place in a refused text. The refused text is `front`, `replaced` and
 /// `rest`, one after the other. With the suggestion it is `front`, the suggestion and `rest`.

@@ -6,7 +6,7 @@ ghost use Rattle.duration_str_help.specs.declared.suggestion.TheConstants.{MAX_S
 
 use crate::buffer::{put, put_decimal};
 use crate::help::help_name;
-use duration_str_units::unit::TimeUnit;
+use duration_str_base::unit::TimeUnit;
 
 /// No text that `Suggestion::write` returns has more bytes than this.
 pub const MAX_SUGGESTION_LEN: usize = 23;

@@ -8,9 +8,9 @@ use Rattle.duration_str_printing.specs.Breakdown.{ArePartsRounded, sum_of_parts}
 use Rattle.duration_str_printing.specs.Format.{set_of, whole_format}
 use Rattle.duration_str_reading.specs.Reading.{IsRefused}
 use Rattle.duration_str_refusals.specs.Report.{report_of}
-use Rattle.duration_str_units.specs.declared.cause.Cause.{Cause}
-use Rattle.duration_str_units.specs.declared.cause.Cause.TheVariants.{Overflow, Syntax}
-use Rattle.duration_str_units.specs.declared.cause.Expected.{Expected}
+use Rattle.duration_str_base.specs.declared.cause.Cause.{Cause}
+use Rattle.duration_str_base.specs.declared.cause.Cause.TheVariants.{Overflow, Syntax}
+use Rattle.duration_str_base.specs.declared.cause.Expected.{Expected}
 use Rattle.duration_str_printing.specs.declared.format.Units.{Units}
 use Rattle.duration_str_js.specs.Printing.{IsCounted, units_among, with_counts}
 use Rattle.duration_str_js.specs.Reading.{IsReported, rules_of_bits}

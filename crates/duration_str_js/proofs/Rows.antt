@@ -1,17 +1,17 @@
 -- Examples that are computed, such as the rules that bits stand for, and the counts of parts.
 use Rattle.std.proofs.Common.{◌≡◌, ◌∷◌, [], false, map, negsuc, None, Option, Some, true}
-use Rattle.duration_str_units.specs.Options.{off}
-use Rattle.duration_str_units.specs.declared.cause.Cause.TheVariants.{Empty, Mixed, NotText, NumberTooLarge, OutOfRange, Overflow, Syntax}
-use Rattle.duration_str_units.specs.declared.cause.Expected.{Expected}
+use Rattle.duration_str_base.specs.Options.{off}
+use Rattle.duration_str_base.specs.declared.cause.Cause.TheVariants.{Empty, Mixed, NotText, NumberTooLarge, OutOfRange, Overflow, Syntax}
+use Rattle.duration_str_base.specs.declared.cause.Expected.{Expected}
 use Rattle.duration_str_printing.specs.declared.format.Style.TheVariants.{Compact, Long, Short}
 use Rattle.duration_str_help.specs.declared.suggestion.Suggestion.{Suggestion}
-use Rattle.duration_str_units.specs.declared.operator.CondUnit.TheVariants.{Plus, Star}
+use Rattle.duration_str_base.specs.declared.operator.CondUnit.TheVariants.{Plus, Star}
 use Rattle.duration_str_printing.specs.declared.format.TheConstants.Units.{ALL}
 use Rattle.duration_str_printing.specs.declared.rounding.Rounding.TheVariants.{Down, Nearest, Up}
-use Rattle.duration_str_units.specs.declared.unit.TimeUnit.TheVariants.{Day, Hour, MilliSecond, Minute, NanoSecond, Second, Year}
+use Rattle.duration_str_base.specs.declared.unit.TimeUnit.TheVariants.{Day, Hour, MilliSecond, Minute, NanoSecond, Second, Year}
 use Rattle.duration_str_printing.specs.Format.{set_of}
-use Rattle.duration_str_units.specs.MoreNames.{more_row_of}
-use Rattle.duration_str_units.specs.Units.{row_of}
+use Rattle.duration_str_base.specs.MoreNames.{more_row_of}
+use Rattle.duration_str_base.specs.Units.{row_of}
 use Rattle.duration_str_js.specs.Printing.{rounding_numbered, style_numbered, units_among, units_of, with_counts}
 use Rattle.duration_str_js.specs.Reading.{bits_of, cause_number, count_of, default_unit_of_bits, has_count, length_of, number_of, options_of_bits, place_number, rules_of_bits, start_number, unit_number}
 

@@ -2,7 +2,7 @@
 use Rattle.std.proofs.Common.{ap, arith, Bor, length, List, None, Option, refl, slice_get, slice_index_or, Some, suc, zero, [], ℕ, ◌∷◌, ◌≡◌, ◌<◌, ◌≤◌}
 use Rattle.std.specs.Option.{option_copied}
 use Rattle.std.specs.Slice.{IsItemAt}
-use Rattle.duration_str_units.specs.declared.unit.TimeUnit.{TimeUnit}
+use Rattle.duration_str_base.specs.declared.unit.TimeUnit.{TimeUnit}
 
 none_at : (us : List TimeUnit) (i : ℕ) → length us ≤ i → None ≡ slice_get us i
 none_at [] i beyond = refl

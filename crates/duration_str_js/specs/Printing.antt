@@ -7,10 +7,10 @@ use Rattle.duration_str_printing.specs.declared.format.TheConstants.Units.{ALL}
 use Rattle.duration_str_printing.specs.declared.format.Units.{Units}
 use Rattle.duration_str_printing.specs.declared.rounding.Rounding.{Rounding}
 use Rattle.duration_str_printing.specs.declared.rounding.Rounding.TheVariants.{Down, Nearest, Up}
-use Rattle.duration_str_units.specs.declared.unit.TimeUnit.{TimeUnit}
+use Rattle.duration_str_base.specs.declared.unit.TimeUnit.{TimeUnit}
 use Rattle.duration_str_printing.specs.Breakdown.{ArePartsRounded, sum_of_parts}
 use Rattle.duration_str_printing.specs.Format.{set_of}
-use Rattle.duration_str_units.specs.Units.{rank_of}
+use Rattle.duration_str_base.specs.Units.{rank_of}
 
 abbrev pub style_numbered : ℕ → Style
 style_numbered number = if number == 0 then Short else if number == 1 then Compact else Long

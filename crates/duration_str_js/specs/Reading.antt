@@ -2,25 +2,25 @@
 use Rattle.std.specs.Prelude.{◌≡◌, ℕ, ◌+◌, ◌-◌, ◌/◌, ◌^◌, ◌==◌, Bool, not, List, length, slice_get, ℤ, pos, negsuc, Option, Some, None, if◌then◌else◌, is_some, unwrap_or}
 use Rattle.std.specs.Int.Bits.{bit_and}
 use Rattle.std.specs.Str.{chars}
-use Rattle.duration_str_units.specs.declared.cause.Cause.{Cause}
-use Rattle.duration_str_units.specs.declared.cause.Cause.TheVariants.{Empty, Syntax, NumberTooLarge, Overflow, Mixed, OutOfRange, NotText}
-use Rattle.duration_str_units.specs.declared.cause.Expected.{Expected}
+use Rattle.duration_str_base.specs.declared.cause.Cause.{Cause}
+use Rattle.duration_str_base.specs.declared.cause.Cause.TheVariants.{Empty, Syntax, NumberTooLarge, Overflow, Mixed, OutOfRange, NotText}
+use Rattle.duration_str_base.specs.declared.cause.Expected.{Expected}
 use Rattle.duration_str_help.specs.declared.help.Help.{Help}
 use Rattle.duration_str_help.specs.declared.suggestion.Suggestion.{Suggestion}
-use Rattle.duration_str_units.specs.declared.options.Options.{Options}
-use Rattle.duration_str_units.specs.declared.unit.TimeUnit.{TimeUnit}
-use Rattle.duration_str_units.specs.declared.unit.TimeUnit.TheVariants.{Second}
+use Rattle.duration_str_base.specs.declared.options.Options.{Options}
+use Rattle.duration_str_base.specs.declared.unit.TimeUnit.{TimeUnit}
+use Rattle.duration_str_base.specs.declared.unit.TimeUnit.TheVariants.{Second}
 use Rattle.duration_str_refusals.specs.Faults.{found_token}
-use Rattle.duration_str_units.specs.Causes.{place_of}
-use Rattle.duration_str_units.specs.MoreNames.{more_rules}
+use Rattle.duration_str_base.specs.Causes.{place_of}
+use Rattle.duration_str_base.specs.MoreNames.{more_rules}
 use Rattle.duration_str_help.specs.Help.{help_number, help_of}
 use Rattle.duration_str_help.specs.Mends.{mend_of, Pieces, suggestion_of}
 use Rattle.duration_str_reading.specs.Reading.{IsRefused}
 use Rattle.duration_str_refusals.specs.Report.{report_of}
-use Rattle.duration_str_units.specs.Rules.{Rules, rules_with}
-use Rattle.duration_str_units.specs.Text.{byte_len}
+use Rattle.duration_str_base.specs.Rules.{Rules, rules_with}
+use Rattle.duration_str_base.specs.Text.{byte_len}
 use Rattle.duration_str_reading.specs.Tokens.{Token}
-use Rattle.duration_str_units.specs.Units.{rank_of, units}
+use Rattle.duration_str_base.specs.Units.{rank_of, units}
 use Rattle.duration_str_js.specs.declared.reading.Refusal.{Refusal}
 
 abbrev pub has_flag : ℕ → ℕ → Bool

@@ -5,7 +5,7 @@ ghost use Rattle.duration_str_printing.specs.Breakdown.{nanos_left, parts_left, 
 ghost use Rattle.duration_str_printing.specs.Format.{set_of};
 ghost use Rattle.duration_str_printing.specs.declared.format.Style.TheVariants.{Short};
 ghost use Rattle.duration_str_printing.specs.Rounding.{IsPrintedRounded, NoneShown};
-ghost use Rattle.duration_str_units.specs.Units.{rank_of};
+ghost use Rattle.duration_str_base.specs.Units.{rank_of};
 ghost use Rattle.duration_str_js.specs.declared.printing.TheConstants.{UNIT_COUNT};
 ghost use Rattle.duration_str_js.specs.Printing.{IsCounted, format_of, rounding_numbered, style_numbered, units_of, units_among, with_counts};
 

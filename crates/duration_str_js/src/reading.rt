@@ -2,8 +2,8 @@
 ghost use Rattle.std.specs.Prelude.{◌≡◌, IfErr, IfOk};
 ghost use Rattle.std.specs.Str.{chars};
 ghost use Rattle.duration_str_refusals.specs.Faults.{found_token};
-ghost use Rattle.duration_str_units.specs.Causes.{place_of};
-ghost use Rattle.duration_str_units.specs.Meaning.{meaning_of};
+ghost use Rattle.duration_str_base.specs.Causes.{place_of};
+ghost use Rattle.duration_str_base.specs.Meaning.{meaning_of};
 ghost use Rattle.duration_str_reading.specs.Reading.{IsRead};
 ghost use Rattle.duration_str_help.specs.Mends.{mend_of, suggestion_of};
 ghost use Rattle.duration_str_js.specs.Reading.{IsReported, bits_of, cause_number, count_of, default_unit_of_bits, expected_bits, has_count, length_of, number_of, options_of_bits, place_number, refusal_of, rules_of_bits, start_number, token_length, unit_number};

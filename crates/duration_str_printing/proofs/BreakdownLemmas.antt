@@ -1,5 +1,5 @@
 use Rattle.duration_str_printing.proofs.Common.{ap, arith, cases_Bool, cases_lt, common_steps, counts_within, div-add-mod', eqb-true, inl, inr, length, List, map, nanos_of, nat_tests, nonzero, refl, rules, Style, sym, TimeUnit, with_counts, with_part, with_parts, zero-div, [], ℕ, ◌%◌, ◌*◌, ◌+◌, ◌-◌, ◌∙◌, ◌/◌, ◌<◌, ◌==◌, ◌^◌, ◌∷◌, ◌≡◌, ◌≤◌, length-append}
-use Rattle.duration_str_units.proofs.UnitLemmas.{each_short, some_length}
+use Rattle.duration_str_base.proofs.UnitLemmas.{each_short, some_length}
 use Rattle.duration_str_printing.specs.Breakdown.{parts_in}
 use Rattle.duration_str_printing.specs.Internal.PrintedBytes.{with_each}
 

@@ -3,9 +3,9 @@ use Rattle.duration_str_printing.proofs.Common.{append_assoc, ap, arith, between
 use Rattle.duration_str_printing.proofs.SetLemmas.{chosen_in, chosen_none, chosen_out, hours_chosen}
 use Rattle.duration_str_printing.specs.Format.{chosen, is_in, up_to}
 use Rattle.std.specs.Prelude.{max}
-use Rattle.duration_str_units.proofs.UnitLemmas.{all_units, each_short, each_unit, length_name, some_length}
+use Rattle.duration_str_base.proofs.UnitLemmas.{all_units, each_short, each_unit, length_name, some_length}
 use Rattle.duration_str_printing.proofs.PrintedBytesLemmas.{length_part, name_len, AreShort, ended, ended_parts, IsUtf8-joined, no_gap}
-use Rattle.duration_str_units.proofs.DigitLemmas.{length_smaller}
+use Rattle.duration_str_base.proofs.DigitLemmas.{length_smaller}
 use Rattle.duration_str_printing.proofs.GreatestWithin.{greatest_within}
 use Rattle.duration_str_printing.specs.Internal.PrintedBytes.{digits}
 use borrow.Rule.Slice.PartMut.{put_mid}

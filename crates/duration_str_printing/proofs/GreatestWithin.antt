@@ -1,5 +1,5 @@
 use Rattle.duration_str_printing.proofs.Common.{[], arith, cases_Bool, cases_lt, common_steps, counts_within, div-add-mod', false, Format, inl, inr, IsBefore, IsGreatestWithin, length, lengths_within, List, map, nanos_of, nat_tests, part_count, refl, rules, TimeUnit, weighted_sum, ℕ, ⊤, ◌%◌, ◌*◌, ◌+◌, ◌-◌, ◌/◌, ◌==◌, ◌∷◌, ◌≡◌, ◌≤◌, ◌⊎◌}
-use Rattle.duration_str_units.proofs.UnitLemmas.{some_length}
+use Rattle.duration_str_base.proofs.UnitLemmas.{some_length}
 use Rattle.duration_str_printing.proofs.GreatestBreakdown.{not_before_each_other}
 
 abbrev pub ArePositive : List ℕ → Type 0

@@ -1,8 +1,8 @@
 -- The bytes built unit by unit are the UTF-8 of the printed text.
 use Rattle.duration_str_printing.proofs.Common.{append-nil, append_assoc, arith, between, codes, Compact, decimal, encode_utf8_all, encodes-append, encodes-IsAscii, flat_map, IsAscii-decimal_wide, IsUtf8, IsUtf8-append, IsUtf8-from_ascii, IsUtf8-nil, joined_parts, length, length-append, List, Long, part_bytes, printed_part, printed_parts, rules, Short, Style, sym, TimeUnit, with_counts, with_gap, [], ℕ, ⊤, ◌++◌, ◌<◌, ◌^◌, ◌∷◌, ◌≡◌, Bool, byte_len, false, leb-true, name_part, ◌≤◌}
-use Rattle.duration_str_units.proofs.DigitLemmas.{some_decimal}
+use Rattle.duration_str_base.proofs.DigitLemmas.{some_decimal}
 use lib.Utf8.{encode}
-use Rattle.duration_str_units.proofs.UnitLemmas.{all_units}
+use Rattle.duration_str_base.proofs.UnitLemmas.{all_units}
 
 pub encode_part : (style : Style) (n : ℕ) (u : TimeUnit) → n < 10 ^ 64
     → encode_utf8_all (printed_part style n u) ≡ part_bytes style n u

@@ -10,8 +10,8 @@ use Rattle.duration_str_printing.specs.declared.breakdown.Breakdown.{Breakdown}
 use Rattle.duration_str_printing.specs.declared.format.Format.{Format}
 use Rattle.duration_str_printing.specs.declared.rounding.Rounding.{Rounding}
 use Rattle.duration_str_printing.specs.declared.rounding.Rounding.TheVariants.{Up}
-use Rattle.duration_str_units.specs.declared.unit.TimeUnit.{TimeUnit}
-use Rattle.duration_str_units.specs.declared.unit.TimeUnit.TheVariants.{Hour}
+use Rattle.duration_str_base.specs.declared.unit.TimeUnit.{TimeUnit}
+use Rattle.duration_str_base.specs.declared.unit.TimeUnit.TheVariants.{Hour}
 
 pub hours_leave_less_than_one : (old new : Breakdown) (count : ℕ) → YieldsPart old (Some (Hour, count)) new
     → nanos_left new < 3_600_000_000_000

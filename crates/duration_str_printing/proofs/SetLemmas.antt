@@ -1,6 +1,6 @@
 -- Lemmas about sets of units and their bits.
 use Rattle.duration_str_printing.proofs.Common.{drop, drop_all, drop_more, last_unit, length, slice_index_or, units_of, ALL, add-zero, and_parts, ap, Bool, suc, ℕ, zero, arith, cases_Bool, Day, div-add-mod', eqb, eqb-true, false, inl, inr, leb, Hour, leb-true, length-drop, List, map, not-true, Printed, printed_row, nanos_of, nat_tests, not, rank_of, refl, rules, sym, TimeUnit, true, Units, Year, units, [], ◌%◌, ◌&&◌, ◌||◌, ◌*◌, ◌+◌, ◌/◌, ◌<◌, ◌^◌, ◌∙◌, ◌∷◌, ◌≡◌, ◌≢◌, ◌≤◌}
-use Rattle.duration_str_units.proofs.UnitLemmas.{Each, each_unit}
+use Rattle.duration_str_base.proofs.UnitLemmas.{Each, each_unit}
 use Rattle.duration_str_printing.specs.Format.{chosen, intersection, down_to, is_in, is_one_of, up_to, with_each, with_unit}
 use Rattle.std.proofs.lemmas.Nat.{one_shl}
 use lib.Count.{count_trailing_zeros}

@@ -1,6 +1,6 @@
 -- Lemmas about a text with a space after each of its parts, and about the counts of a duration.
 use Rattle.duration_str_printing.proofs.Common.{add_assoc, append_assoc, arith, counts_of, decimal, encode_utf8_all, length, length-append, length-decimal-le_wide, length-take-le, List, take-append_seam, refl, row_of, rules, Short, sym, take, TimeUnit, unit_lengths, with_gap, with_part, [], ℕ, ◌%◌, ◌*◌, ◌++◌, ◌+◌, ◌-◌, ◌/◌, ◌<◌, ◌^◌, ◌∙◌, ◌∷◌, ◌≡◌, ◌≤◌, ap, drop, drop_more, get_or, with_counts, Year}
-use Rattle.duration_str_units.proofs.DigitLemmas.{some_decimal}
+use Rattle.duration_str_base.proofs.DigitLemmas.{some_decimal}
 use Rattle.std.proofs.lemmas.List.{take-take}
 
 pub three_digits : (n : ℕ) → n < 1000 → length (decimal n) ≤ 3

@@ -1,6 +1,6 @@
 -- The duration that a format prints, and those that fit into it.
 use Rattle.duration_str_printing.proofs.Common.{[], ap, arith, counts_of, counts_within, div-eq_of_lt-le, Format, IsGreatestBreakdown, KeepsWithin, last_unit, le-div_iff_mul-le, length, lengths_within, List, map, map-append, nanos_of, nat_lt, part_count, refl, rules, shorter_units, subst, TimeUnit, units, units_within, weighted_sum, Year, zero-div, ℕ, ◌%◌, ◌*◌, ◌++◌, ◌+◌, ◌/◌, ◌<◌, ◌∙◌, ◌∷◌, ◌≡◌, ◌≤◌}
-use Rattle.duration_str_units.proofs.UnitLemmas.{some_length}
+use Rattle.duration_str_base.proofs.UnitLemmas.{some_length}
 use Rattle.std.specs.Prelude.{filter}
 use Rattle.duration_str_printing.proofs.GreatestBreakdown.{breakdown_of, EndInOne, one_greatest}
 use Rattle.duration_str_printing.proofs.GreatestWithin.{ArePositive, left_whole, lengths_positive, within_each, within_few, within_sum}

@@ -3,8 +3,8 @@ use Rattle.std.specs.Prelude.{◌≡◌, ℕ, ◌+◌, ◌*◌, ◌<◌, IfSome,
 use Rattle.std.specs.Iterator.{YieldsFirst}
 use Rattle.duration_str_printing.specs.declared.breakdown.Breakdown.{Breakdown}
 use Rattle.duration_str_printing.specs.declared.format.Format.{Format}
-use Rattle.duration_str_units.specs.declared.unit.TimeUnit.{TimeUnit}
-use Rattle.duration_str_units.specs.Units.{nanos_of}
+use Rattle.duration_str_base.specs.declared.unit.TimeUnit.{TimeUnit}
+use Rattle.duration_str_base.specs.Units.{nanos_of}
 use Rattle.duration_str_printing.specs.Format.{IsGreatestWithin, counts_within, lengths_within, units_within, units_of}
 use Rattle.duration_str_printing.specs.Printing.{nonzero}
 use Rattle.duration_str_printing.specs.Rounding.{IsShown}

@@ -4,12 +4,12 @@ use Rattle.std.specs.Prelude.{◌≡◌, ℕ, ◌+◌, ◌-◌, ◌/◌, ◌%◌
 use Rattle.std.specs.Int.{bit_at, bit_not, w16}
 use Rattle.std.specs.List.{list_any}
 use Rattle.duration_str_printing.specs.declared.format.Format.{Format}
-use Rattle.duration_str_units.specs.declared.unit.TimeUnit.{TimeUnit}
-use Rattle.duration_str_units.specs.declared.unit.TimeUnit.TheVariants.{Second}
+use Rattle.duration_str_base.specs.declared.unit.TimeUnit.{TimeUnit}
+use Rattle.duration_str_base.specs.declared.unit.TimeUnit.TheVariants.{Second}
 use Rattle.duration_str_printing.specs.declared.format.Units.{Units}
 use Rattle.duration_str_printing.specs.declared.format.TheConstants.Units.{ALL}
-use Rattle.duration_str_units.specs.Text.{Characters}
-use Rattle.duration_str_units.specs.Units.{units, nanos_of, rank_of}
+use Rattle.duration_str_base.specs.Text.{Characters}
+use Rattle.duration_str_base.specs.Units.{units, nanos_of, rank_of}
 use Rattle.duration_str_printing.specs.declared.format.Style.{Style}
 use Rattle.duration_str_printing.specs.declared.format.Style.TheVariants.{Long, Short}
 use Rattle.duration_str_printing.specs.declared.printing.TheConstants.{MAX_LONG_LEN, MAX_PRINTED_LEN}

@@ -1,11 +1,11 @@
 -- The breakdown of a duration, and its printed text.
 use Rattle.std.specs.Prelude.{◌≡◌, ℕ, Bool, ◌+◌, ◌*◌, ◌<◌, List, [], ◌∷◌, ◌++◌, if◌then◌else◌, length, ◌⊎◌, ◌==◌, codes, decimal, flat_map, map}
-use Rattle.duration_str_units.specs.declared.unit.TimeUnit.{TimeUnit}
-use Rattle.duration_str_units.specs.declared.unit.TimeUnit.TheVariants.{Second}
+use Rattle.duration_str_base.specs.declared.unit.TimeUnit.{TimeUnit}
+use Rattle.duration_str_base.specs.declared.unit.TimeUnit.TheVariants.{Second}
 use Rattle.duration_str_printing.specs.declared.format.Style.{Style}
 use Rattle.duration_str_printing.specs.declared.format.Style.TheVariants.{Short, Compact, Long}
-use Rattle.duration_str_units.specs.Text.{Characters}
-use Rattle.duration_str_units.specs.Units.{units, row_of, unit_lengths, long_name}
+use Rattle.duration_str_base.specs.Text.{Characters}
+use Rattle.duration_str_base.specs.Units.{units, row_of, unit_lengths, long_name}
 
 -- the sum of the counts, each multiplied by its length. If one list is longer, its end is left out
 abbrev pub weighted_sum : List ℕ → List ℕ → ℕ

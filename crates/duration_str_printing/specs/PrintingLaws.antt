@@ -2,9 +2,9 @@
 use Rattle.std.specs.Prelude.{◌≡◌, ℕ, ◌+◌, ◌/◌, ◌<◌, ◌≤◌, List, [], ◌∷◌, ◌++◌, ◌%◌, ◌↔◌, length}
 use Rattle.std.specs.Duration.{FitsDuration}
 use Rattle.std.specs.Iterator.{Yields}
-use Rattle.duration_str_units.specs.declared.unit.TimeUnit.{TimeUnit}
-use Rattle.duration_str_units.specs.Text.{Characters}
-use Rattle.duration_str_units.specs.Units.{unit_lengths, units}
+use Rattle.duration_str_base.specs.declared.unit.TimeUnit.{TimeUnit}
+use Rattle.duration_str_base.specs.Text.{Characters}
+use Rattle.duration_str_base.specs.Units.{unit_lengths, units}
 use Rattle.duration_str_printing.specs.Printing.{IsPrintedIn, IsGreatestBreakdown, weighted_sum}
 use Rattle.duration_str_printing.specs.Breakdown.{YieldsPart, nanos_left, parts_left, sum_of_parts}
 use Rattle.duration_str_printing.specs.declared.breakdown.Breakdown.{Breakdown}

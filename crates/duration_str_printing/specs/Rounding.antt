@@ -4,8 +4,8 @@ use Rattle.std.specs.Duration.{FitsDuration}
 use Rattle.duration_str_printing.specs.declared.format.Format.{Format}
 use Rattle.duration_str_printing.specs.declared.rounding.Rounding.{Rounding}
 use Rattle.duration_str_printing.specs.declared.rounding.Rounding.TheVariants.{Down, Nearest, Up}
-use Rattle.duration_str_units.specs.Text.{Characters}
-use Rattle.duration_str_units.specs.Units.{nanos_of}
+use Rattle.duration_str_base.specs.Text.{Characters}
+use Rattle.duration_str_base.specs.Units.{nanos_of}
 use Rattle.duration_str_printing.specs.Printing.{IsGreatestBreakdown, weighted_sum}
 use Rattle.duration_str_printing.specs.Format.{IsPrintedWithin, lengths_within, part_count, shorter_units, units_within}
 

@@ -4,12 +4,12 @@ ghost use Rattle.std.specs.Duration.{as_nanos};
 ghost use Rattle.std.specs.Iterator.{YieldsFirstBy, item_count};
 ghost use Rattle.duration_str_printing.specs.Breakdown.{AreParts, ArePartsRounded, YieldsPart, nanos_left, parts_left};
 ghost use Rattle.duration_str_printing.specs.Rounding.{NoneShown};
-ghost use Rattle.duration_str_units.specs.Units.{nanos_of};
-ghost use Rattle.duration_str_units.specs.Internal.UnitTable.{printed_row};
+ghost use Rattle.duration_str_base.specs.Units.{nanos_of};
+ghost use Rattle.duration_str_base.specs.Internal.UnitTable.{printed_row};
 
 use crate::format::{Format, Units, longest};
 use crate::rounding::{Rounding, shown};
-use duration_str_units::unit::{Printed, TimeUnit, UNITS};
+use duration_str_base::unit::{Printed, TimeUnit, UNITS};
 use std::time::Duration;
 
 /// The breakdown of a duration in a format: an iterator over its parts, which are units with their

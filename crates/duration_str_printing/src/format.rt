@@ -1,12 +1,12 @@
 //! How a duration is printed: its units, the greatest number of parts, and the style.
 ghost use Rattle.std.specs.Prelude.{◌≡◌, ◌==◌, ◌&&◌, ◌||◌, ◌<◌, ◌≤◌, [], ◌∷◌, IfNone, IfSome, None, Some, nat_le, not};
-ghost use Rattle.duration_str_units.specs.declared.unit.TimeUnit.{TimeUnit};
-ghost use Rattle.duration_str_units.specs.Internal.UnitTable.{printed_row};
+ghost use Rattle.duration_str_base.specs.declared.unit.TimeUnit.{TimeUnit};
+ghost use Rattle.duration_str_base.specs.Internal.UnitTable.{printed_row};
 ghost use Rattle.duration_str_printing.specs.Format.{units_of};
-ghost use Rattle.duration_str_units.specs.Units.{nanos_of};
+ghost use Rattle.duration_str_base.specs.Units.{nanos_of};
 ghost use Rattle.duration_str_printing.specs.Format.{down_to, intersection, is_in, is_one_of, set_of, up_to, whole_format, with_unit, without_unit, units_within, zero_unit};
 
-use duration_str_units::unit::{PRINTED, Printed, TimeUnit, UNITS};
+use duration_str_base::unit::{PRINTED, Printed, TimeUnit, UNITS};
 
 /// How a duration is printed: the units, the greatest number of parts, and the style. A part is a
 /// count with its unit, such as `3min`.

@@ -1,5 +1,5 @@
 //! Durations printed, broken down into parts, and rounded. Of the library's other crates, this one
-//! uses only `duration_str_units`.
+//! uses only `duration_str_base`.
 //!
 //! Programs call `duration_str`. What that crate doesn't export is for the library's own crates,
 //! and may change.

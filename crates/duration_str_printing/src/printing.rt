@@ -7,21 +7,21 @@ ghost use Rattle.std.specs.Duration.{as_nanos};
 ghost use Rattle.duration_str_printing.specs.declared.format.Style.{Style};
 ghost use Rattle.duration_str_printing.specs.declared.format.Units.{Units};
 ghost use Rattle.duration_str_printing.specs.declared.format.Style.TheVariants.{Long, Short};
-ghost use Rattle.duration_str_units.specs.declared.unit.TimeUnit.{TimeUnit};
-ghost use Rattle.duration_str_units.specs.declared.unit.TimeUnit.TheVariants.{Year};
+ghost use Rattle.duration_str_base.specs.declared.unit.TimeUnit.{TimeUnit};
+ghost use Rattle.duration_str_base.specs.declared.unit.TimeUnit.TheVariants.{Year};
 ghost use Rattle.duration_str_printing.specs.declared.printing.TheConstants.{MAX_PRINTED_LEN};
-ghost use Rattle.duration_str_units.specs.Units.{nanos_of, row_of, unit_lengths, units};
+ghost use Rattle.duration_str_base.specs.Units.{nanos_of, row_of, unit_lengths, units};
 ghost use Rattle.duration_str_printing.specs.Printing.{IsPrinted};
 ghost use Rattle.duration_str_printing.specs.Rounding.{IsPrintedRounded, NoneShown};
 ghost use Rattle.duration_str_printing.specs.PrintingLaws.{counts_of};
 ghost use Rattle.duration_str_printing.specs.Format.{IsPrintedWithin, chosen, counts_within, lengths_within, most_len, text_within, units_within};
 ghost use Rattle.duration_str_printing.specs.Internal.PrintedBytes.{name_part, part_bytes, with_counts, with_gap, with_part, with_parts};
-ghost use Rattle.duration_str_units.specs.Internal.UnitTable.{printed_row};
+ghost use Rattle.duration_str_base.specs.Internal.UnitTable.{printed_row};
 
 use crate::breakdown::Breakdown;
 use crate::format::{Format, Style, Units};
 use crate::rounding::{Rounding, shown};
-use duration_str_units::unit::{Printed, TimeUnit, UNITS};
+use duration_str_base::unit::{Printed, TimeUnit, UNITS};
 use std::time::Duration;
 
 /// The greatest length in bytes of a printed duration, except in the long style. The text
@@ -115,7 +115,7 @@ pub fn write_format<'b>(
 }
 
 #[inline(always)]
-#[tactic(auto, using(duration_str_units::proofs::DigitLemmas::put_steps))]
+#[tactic(auto, using(duration_str_base::proofs::DigitLemmas::put_steps))]
 fn put_digit(buffer: &mut [u8], at: usize, digit: u64) -> usize
     requires room { at + 1 ≤ length buffer.old }
     requires digit { digit < 10 }
@@ -126,7 +126,7 @@ fn put_digit(buffer: &mut [u8], at: usize, digit: u64) -> usize
     at + 1
 }
 
-#[tactic(auto, using(duration_str_units::proofs::DigitLemmas::put_steps))]
+#[tactic(auto, using(duration_str_base::proofs::DigitLemmas::put_steps))]
 pub(crate) fn put_number(buffer: &mut [u8], at: usize, n: u64) -> usize
     requires room { at + length (decimal n) ≤ length buffer.old }
     ensures text { take result buffer.new ≡ take at buffer.old ++ decimal n }
@@ -142,7 +142,7 @@ pub(crate) fn put_number(buffer: &mut [u8], at: usize, n: u64) -> usize
 /// Writes a number below 100. A single digit is written over a `0`, so that no branch on the number
 /// of digits is needed. (Such a branch is hard to predict.)
 #[inline(always)]
-#[tactic(auto, using(duration_str_units::proofs::DigitLemmas::put_steps))]
+#[tactic(auto, using(duration_str_base::proofs::DigitLemmas::put_steps))]
 fn put_tens(buffer: &mut [u8], at: usize, n: u64) -> usize
     requires room { at + length (decimal n) ≤ length buffer.old }
     requires short { n < 100 }
@@ -156,7 +156,7 @@ fn put_tens(buffer: &mut [u8], at: usize, n: u64) -> usize
 }
 
 #[inline(always)]
-#[tactic(auto, using(duration_str_units::proofs::DigitLemmas::put_steps))]
+#[tactic(auto, using(duration_str_base::proofs::DigitLemmas::put_steps))]
 fn put_hundreds(buffer: &mut [u8], at: usize, n: u64) -> usize
     requires room { at + length (decimal n) ≤ length buffer.old }
     requires short { n < 1000 }
@@ -171,7 +171,7 @@ fn put_hundreds(buffer: &mut [u8], at: usize, n: u64) -> usize
 
 /// Writes a count. Most counts have up to three digits, and take no call.
 #[inline(always)]
-#[tactic(auto, using(duration_str_units::proofs::DigitLemmas::put_steps))]
+#[tactic(auto, using(duration_str_base::proofs::DigitLemmas::put_steps))]
 fn put_count(buffer: &mut [u8], at: usize, n: u64) -> usize
     requires room { at + length (decimal n) ≤ length buffer.old }
     ensures text { take result buffer.new ≡ take at buffer.old ++ decimal n }
@@ -212,7 +212,7 @@ fn put_gap(buffer: &mut [u8], at: usize, style: Style) -> usize
     put_str(buffer, at, " ")
 }
 
-#[tactic(auto, using(duration_str_units::proofs::DigitLemmas::put_steps))]
+#[tactic(auto, using(duration_str_base::proofs::DigitLemmas::put_steps))]
 fn put_wide(buffer: &mut [u8], at: usize, n: u128) -> usize
     requires room { at + length (decimal n) ≤ length buffer.old }
     ensures text { take result buffer.new ≡ take at buffer.old ++ decimal n }

@@ -4,12 +4,12 @@ ghost use Rattle.std.specs.Prelude.{◌≡◌, ◌+◌, ◌-◌, ◌<◌, ◌≤
 ghost use Rattle.std.specs.Duration.{as_nanos};
 ghost use Rattle.duration_str_printing.specs.Format.{is_in, up_to};
 ghost use Rattle.duration_str_printing.specs.Rounding.{IsRounded, IsRoundedDown, IsRoundedUp, IsShown, NoneAbove, NoneShown, OnlyZero};
-ghost use Rattle.duration_str_units.specs.Units.{nanos_of};
+ghost use Rattle.duration_str_base.specs.Units.{nanos_of};
 ghost use Rattle.duration_str_printing.specs.declared.rounding.Rounding.TheVariants.{Up};
-ghost use Rattle.duration_str_units.specs.declared.unit.TimeUnit.TheVariants.{Day};
+ghost use Rattle.duration_str_base.specs.declared.unit.TimeUnit.TheVariants.{Day};
 
 use crate::format::{Format, Units, longest};
-use duration_str_units::unit::TimeUnit;
+use duration_str_base::unit::TimeUnit;
 use std::time::Duration;
 
 /// To which duration another one is rounded. The result always prints whole: it fits into the units

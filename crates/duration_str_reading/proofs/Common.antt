@@ -15,43 +15,43 @@ pub use Rattle.std.specs.Option.{ForSome}
 pub use Rattle.std.specs.Prelude.{All, cond, IfErr, IsOkAnd, MatchResult, slice_index_or, ⊤}
 pub use Rattle.std.specs.Result.{result_err}
 pub use lib.Utf8.{encode, encodes, scalar, scalar_cases, scalars}
-pub use Rattle.duration_str_units.specs.declared.cause.Cause.{Cause}
-pub use Rattle.duration_str_units.specs.declared.cause.Cause.TheVariants.{Empty, Mixed, NotText, NumberTooLarge, OutOfRange, Overflow, Syntax}
-pub use Rattle.duration_str_units.specs.declared.cause.Expected.{Expected}
-pub use Rattle.duration_str_units.specs.declared.operator.CondUnit.{CondUnit}
-pub use Rattle.duration_str_units.specs.declared.operator.CondUnit.TheVariants.{Plus, Star}
-pub use Rattle.duration_str_units.specs.declared.options.Options.{Options}
+pub use Rattle.duration_str_base.specs.declared.cause.Cause.{Cause}
+pub use Rattle.duration_str_base.specs.declared.cause.Cause.TheVariants.{Empty, Mixed, NotText, NumberTooLarge, OutOfRange, Overflow, Syntax}
+pub use Rattle.duration_str_base.specs.declared.cause.Expected.{Expected}
+pub use Rattle.duration_str_base.specs.declared.operator.CondUnit.{CondUnit}
+pub use Rattle.duration_str_base.specs.declared.operator.CondUnit.TheVariants.{Plus, Star}
+pub use Rattle.duration_str_base.specs.declared.options.Options.{Options}
 pub use Rattle.duration_str_reading.specs.declared.token.TokenStart.{TokenStart}
 pub use Rattle.duration_str_reading.specs.declared.token.TokenStart.TheVariants.{Number, Operator, Other, Word}
 pub use Rattle.duration_str_reading.specs.declared.token.Tokens.{Tokens}
-pub use Rattle.duration_str_units.specs.declared.unit.TimeUnit.{TimeUnit}
-pub use Rattle.duration_str_units.specs.declared.unit.TimeUnit.TheVariants.{Day, Hour, MicroSecond, MilliSecond, Minute, Month, NanoSecond, Quarter, Second, Week, Year}
+pub use Rattle.duration_str_base.specs.declared.unit.TimeUnit.{TimeUnit}
+pub use Rattle.duration_str_base.specs.declared.unit.TimeUnit.TheVariants.{Day, Hour, MicroSecond, MilliSecond, Minute, Month, NanoSecond, Quarter, Second, Week, Year}
 pub use Rattle.duration_str_reading.specs.Answer.{allows, answer, answer_at, expected_after, expected_at_start, front_after, front_of, is_whole, last_of, late_answer}
-pub use Rattle.duration_str_units.specs.Causes.{line_of, place_of}
+pub use Rattle.duration_str_base.specs.Causes.{line_of, place_of}
 pub use Rattle.duration_str_reading.specs.Grammar.{BeginsWith, IsSentence, IsSentenceOf, number, operator, operator_or_other, other, sign_terminal, Spells, Terminal, terminal_of, word}
 pub use Rattle.duration_str_reading.specs.ReadingLaws.{with_lowercase, with_no_calc, AnswerIsReading, BlanksFree, HasNoCapital, HasNoChinese, HasNoOperator, HasNoStar, is_operator, IsIdle, NoCalcAgrees, OneCut, OneReading, OneSentence, OptionsIdle, PlaceAndKinds, Reorder, SumOfTexts, times_in, TwoFactors, AllPlus, AreTokens, EndsRun, IsLexeme}
 pub use Rattle.duration_str_reading.specs.Place.{BeginsSentence, CanFollow, IsFront, start_after, terminals_of}
-pub use Rattle.duration_str_units.specs.Units.{long_name, nanos_of, rank_of, row_of, unit_lengths, UnitRow, units}
-pub use Rattle.duration_str_units.specs.Term.{fault_or, term_of, IsNumber, fits, or_else, Term, term_fault, unless, value_of_term}
-pub use Rattle.duration_str_units.specs.Internal.Positions.{ahead, Between, letter_number, number_in, packed_number, packed_number_after, Passes, Stands, StandsAt, Stops, TakesDigits, TakesLetters, wide_number}
-pub use Rattle.duration_str_units.specs.Options.{off}
+pub use Rattle.duration_str_base.specs.Units.{long_name, nanos_of, rank_of, row_of, unit_lengths, UnitRow, units}
+pub use Rattle.duration_str_base.specs.Term.{fault_or, term_of, IsNumber, fits, or_else, Term, term_fault, unless, value_of_term}
+pub use Rattle.duration_str_base.specs.Internal.Positions.{ahead, Between, letter_number, number_in, packed_number, packed_number_after, Passes, Stands, StandsAt, Stops, TakesDigits, TakesLetters, wide_number}
+pub use Rattle.duration_str_base.specs.Options.{off}
 pub use Rattle.duration_str_reading.specs.Reading.{complete_terminals, complete_terms, early, early_fault, first_fault, IsRead, IsRefused, IsRefusedAt, late, late_fault, place_after, running_fault, syntax_fault, without_last_number}
 pub use Rattle.duration_str_reading.specs.Value.{combination, Evaluates, evaluation_fault, fault_of_terms, is_same_operator, later_total, one_second, sum_of, terms_after, terms_of, value_of, written_terms}
-pub use Rattle.duration_str_units.specs.Text.{byte_len, chinese_letters, is_blank, is_chinese, is_digit, is_unit_letter, IsBlank, number_after, number_of, operator_of, width}
+pub use Rattle.duration_str_base.specs.Text.{byte_len, chinese_letters, is_blank, is_chinese, is_digit, is_unit_letter, IsBlank, number_after, number_of, operator_of, width}
 pub use Rattle.duration_str_reading.specs.Iteration.{cut_place, KeepsInput, options_of, source, tokens_left, what_of, YieldsNextToken}
 pub use Rattle.duration_str_reading.specs.Tokens.{are_of_one_run, goes_on, lexemes_of, Token, tokens_from, tokens_of, with_first_character}
-pub use Rattle.duration_str_units.specs.Meaning.{meaning_of, table_of}
-pub use Rattle.duration_str_units.specs.MoreNames.{more_names, more_row_of, more_rules}
-pub use Rattle.duration_str_units.specs.Humantime.{humantime_row_of}
-pub use Rattle.duration_str_units.specs.Rules.{comparison_form, is_in_row, is_named, Rules, rules_of, rules_with, unit_of_word}
-pub use Rattle.duration_str_units.specs.Internal.Numbers.{checked_term, u64_from}
-pub use Rattle.duration_str_units.specs.Internal.UnitTable.{added_row_of, all_names, all_names_in, is_greek_mu, micro_if, packed_word, packs_to, Table, unit_of_packed, printed_row, with_micro}
-pub use Rattle.duration_str_units.specs.declared.table.UnitTable.{UnitTable}
-pub use Rattle.duration_str_units.specs.declared.table.UnitTable.TheVariants.{Humantime, More, Own}
+pub use Rattle.duration_str_base.specs.Meaning.{meaning_of, table_of}
+pub use Rattle.duration_str_base.specs.MoreNames.{more_names, more_row_of, more_rules}
+pub use Rattle.duration_str_base.specs.Humantime.{humantime_row_of}
+pub use Rattle.duration_str_base.specs.Rules.{comparison_form, is_in_row, is_named, Rules, rules_of, rules_with, unit_of_word}
+pub use Rattle.duration_str_base.specs.Internal.Numbers.{checked_term, u64_from}
+pub use Rattle.duration_str_base.specs.Internal.UnitTable.{added_row_of, all_names, all_names_in, is_greek_mu, micro_if, packed_word, packs_to, Table, unit_of_packed, printed_row, with_micro}
+pub use Rattle.duration_str_base.specs.declared.table.UnitTable.{UnitTable}
+pub use Rattle.duration_str_base.specs.declared.table.UnitTable.TheVariants.{Humantime, More, Own}
 pub use Rattle.duration_str_reading.specs.Internal.Rest.{answer_left, by_operator, checked_combination, end_at, IsPlaceless, leaving, number_fault, operator_read, ReadItem, Rest, rest_from, rest_of, start_left, terminal_at, terminals_left, total_with, unit_read, with_term}
 pub use Rattle.duration_str_reading.specs.Internal.Steps.{is_number, IsAhead, IsSign, LooksAhead, rules_at, sign_sort, sort_at, sort_of, TakesNumber, TakesSign, TakesToken, TakesTokenWith}
 pub use Rattle.std.proofs.lemmas.Grind.{common_steps, get_or_default_zero}
 pub use Rattle.std.proofs.Math.Seq.{drop-nil, take-add, take-append-add, take-append_seam, take-nil}
-pub use Rattle.duration_str_units.specs.declared.unit.Printed.{Printed}
+pub use Rattle.duration_str_base.specs.declared.unit.Printed.{Printed}
 pub use Rattle.std.proofs.lemmas.List.Sums.{fold-append, sum_by-cons, take_while-cons}
 pub use Rattle.std.specs.Str.Iter.{chars_rest}

@@ -2,13 +2,13 @@
 -- clause that said less would be refused here.
 use Rattle.std.specs.Prelude.{◌≡◌, ◌≢◌, List, [], ◌∷◌, None, Some, codes, true}
 use Rattle.duration_str_reading.specs.ReadingLaws.{HasNoChinese, OptionsIdle, PlaceAndKinds}
-use Rattle.duration_str_units.specs.Options.{off}
+use Rattle.duration_str_base.specs.Options.{off}
 use Rattle.duration_str_reading.specs.Reading.{IsRead}
 use Rattle.duration_str_reading.specs.Answer.{last_of}
 use Rattle.duration_str_reading.specs.Grammar.{operator, Terminal}
 use Rattle.duration_str_reading.specs.Place.{BeginsSentence, IsFront}
-use Rattle.duration_str_units.specs.Rules.{Rules, rules_of, rules_with}
-use Rattle.duration_str_units.specs.declared.operator.CondUnit.TheVariants.{Plus, Star}
+use Rattle.duration_str_base.specs.Rules.{Rules, rules_of, rules_with}
+use Rattle.duration_str_base.specs.declared.operator.CondUnit.TheVariants.{Plus, Star}
 
 pub no_star_is_last : (r : Rules) (front : List Terminal) → PlaceAndKinds → r.options.no_calc ≡ true
     → BeginsSentence r front → last_of None front ≢ Some (operator Star)

@@ -4,10 +4,10 @@ use Rattle.std.specs.Prelude.{◌≡◌, ℕ, ◌+◌, ◌≤◌, None, codes, l
 use Rattle.std.specs.Str.{chars}
 use Rattle.std.proofs.Common.{ap, refl, sym, ◌∙◌}
 use Rattle.duration_str_reading.specs.Iteration.{cut_place, IsCutAt, source, YieldsNextToken}
-use Rattle.duration_str_units.specs.Options.{off}
+use Rattle.duration_str_base.specs.Options.{off}
 use Rattle.duration_str_reading.specs.Place.{ReachesPlace}
-use Rattle.duration_str_units.specs.declared.cause.Cause.TheVariants.{Syntax}
-use Rattle.duration_str_units.specs.declared.cause.Expected.{Expected}
+use Rattle.duration_str_base.specs.declared.cause.Cause.TheVariants.{Syntax}
+use Rattle.duration_str_base.specs.declared.cause.Expected.{Expected}
 use Rattle.duration_str_reading.specs.declared.token.Token.{Token}
 use Rattle.duration_str_reading.specs.declared.token.Tokens.{Tokens}
 

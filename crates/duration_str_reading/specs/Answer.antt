@@ -1,15 +1,15 @@
 -- The answer to a text, computed by a table of what can follow each terminal.
 use Rattle.std.specs.Prelude.{ℕ, suc, true, false, Bool, ◌&&◌, not, List, [], ◌∷◌, Option, Some, None, is_some, Result, Ok, Err, take, drop, if◌then◌else◌, unwrap_or}
-use Rattle.duration_str_units.specs.declared.cause.Cause.{Cause}
-use Rattle.duration_str_units.specs.declared.cause.Cause.TheVariants.{Empty, Syntax}
-use Rattle.duration_str_units.specs.declared.cause.Expected.{Expected}
-use Rattle.duration_str_units.specs.Text.{Characters, byte_len}
-use Rattle.duration_str_units.specs.Rules.{Rules}
+use Rattle.duration_str_base.specs.declared.cause.Cause.{Cause}
+use Rattle.duration_str_base.specs.declared.cause.Cause.TheVariants.{Empty, Syntax}
+use Rattle.duration_str_base.specs.declared.cause.Expected.{Expected}
+use Rattle.duration_str_base.specs.Text.{Characters, byte_len}
+use Rattle.duration_str_base.specs.Rules.{Rules}
 use Rattle.duration_str_reading.specs.Grammar.{Terminal, number, word, operator, other}
 use Rattle.duration_str_reading.specs.Tokens.{tokens_of}
 use Rattle.duration_str_reading.specs.Place.{start_after, terminals_of}
 use Rattle.duration_str_reading.specs.Value.{terms_of, value_of}
-use Rattle.duration_str_units.specs.Term.{fault_or}
+use Rattle.duration_str_base.specs.Term.{fault_or}
 use Rattle.duration_str_reading.specs.Reading.{early_fault, late_fault}
 
 abbrev pub expected_at_start : Expected

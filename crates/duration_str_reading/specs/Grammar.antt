@@ -1,10 +1,10 @@
 -- Terminals, sentences, and the texts that a sentence spells.
 use Rattle.std.specs.Prelude.{◌≡◌, ℕ, false, List, [], ◌∷◌, ◌++◌, Option, Some, None, IsSome, if◌then◌else◌, map, ⊤}
 use Rattle.std.specs.List.{list_all}
-use Rattle.duration_str_units.specs.declared.unit.TimeUnit.{TimeUnit}
-use Rattle.duration_str_units.specs.declared.operator.CondUnit.{CondUnit}
-use Rattle.duration_str_units.specs.Text.{Characters, is_digit, is_unit_letter, operator_of, IsBlank, number_of}
-use Rattle.duration_str_units.specs.Rules.{Rules, unit_of_word}
+use Rattle.duration_str_base.specs.declared.unit.TimeUnit.{TimeUnit}
+use Rattle.duration_str_base.specs.declared.operator.CondUnit.{CondUnit}
+use Rattle.duration_str_base.specs.Text.{Characters, is_digit, is_unit_letter, operator_of, IsBlank, number_of}
+use Rattle.duration_str_base.specs.Rules.{Rules, unit_of_word}
 
 -- A symbol of the grammar. No sentence contains `other`, or a word that names no unit.
 pub data Terminal : Type 0 where

@@ -1,13 +1,13 @@
 -- Definitions for the iterator `Tokens`, such as the tokens that are left.
 use Rattle.std.specs.Prelude.{◌≡◌, ℕ, ◌+◌, List, length, Option, IfSome, IfNone, slice_range, chars, drop}
 use Rattle.std.specs.Iterator.{YieldsFirstBy}
-use Rattle.duration_str_units.specs.declared.options.Options.{Options}
+use Rattle.duration_str_base.specs.declared.options.Options.{Options}
 use Rattle.duration_str_reading.specs.declared.token.What.{What}
 use Rattle.duration_str_reading.specs.declared.token.What.TheVariants as whats
 use Rattle.duration_str_reading.specs.declared.token.Token.{Token as RustToken}
 use Rattle.duration_str_reading.specs.declared.token.Tokens.{Tokens}
-use Rattle.duration_str_units.specs.Text.{Bytes}
-use Rattle.duration_str_units.specs.Rules.{rules_of}
+use Rattle.duration_str_base.specs.Text.{Bytes}
+use Rattle.duration_str_base.specs.Rules.{rules_of}
 use Rattle.duration_str_reading.specs.Grammar.{Terminal, number, word, operator, other, terminal_of}
 use Rattle.duration_str_reading.specs.Tokens.{Token, tokens_from}
 

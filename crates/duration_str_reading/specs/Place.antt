@@ -1,14 +1,14 @@
 -- The place of a syntax fault, and what could stand there.
 use Rattle.std.specs.Prelude.{◌≡◌, ℕ, ◌≤◌, List, [], ◌∷◌, ◌++◌, Some, map, length, take, drop, IsTrue, ◌↔◌, chars}
-use Rattle.duration_str_units.specs.declared.unit.TimeUnit.{TimeUnit}
-use Rattle.duration_str_units.specs.declared.operator.CondUnit.{CondUnit}
-use Rattle.duration_str_units.specs.declared.cause.Expected.{Expected}
-use Rattle.duration_str_units.specs.Text.{Characters, Bytes}
-use Rattle.duration_str_units.specs.Rules.{Rules}
+use Rattle.duration_str_base.specs.declared.unit.TimeUnit.{TimeUnit}
+use Rattle.duration_str_base.specs.declared.operator.CondUnit.{CondUnit}
+use Rattle.duration_str_base.specs.declared.cause.Expected.{Expected}
+use Rattle.duration_str_base.specs.Text.{Characters, Bytes}
+use Rattle.duration_str_base.specs.Rules.{Rules}
 use Rattle.duration_str_reading.specs.Grammar.{Terminal, terminal_of, IsSentence, number, word, operator}
 use Rattle.duration_str_reading.specs.Tokens.{Token, tokens_of, lexemes_of}
-use Rattle.duration_str_units.specs.declared.cause.Cause.{Cause}
-use Rattle.duration_str_units.specs.declared.cause.Cause.TheVariants.{Syntax}
+use Rattle.duration_str_base.specs.declared.cause.Cause.{Cause}
+use Rattle.duration_str_base.specs.declared.cause.Cause.TheVariants.{Syntax}
 
 -- the terminals of a text: what its tokens stand for
 abbrev pub terminals_of : Rules → Characters → List Terminal

@@ -1,14 +1,14 @@
 -- When a text is read as a value, and when it is refused for a cause.
 use Rattle.std.specs.Prelude.{◌≡◌, ℕ, List, [], ◌∷◌, ◌++◌, Option, Some, None, if◌then◌else◌, is_some, length}
-use Rattle.duration_str_units.specs.declared.cause.Cause.{Cause}
-use Rattle.duration_str_units.specs.declared.cause.Cause.TheVariants.{Empty, Syntax, Overflow}
-use Rattle.duration_str_units.specs.declared.cause.Expected.{Expected}
-use Rattle.duration_str_units.specs.Text.{Characters, byte_len}
-use Rattle.duration_str_units.specs.Rules.{Rules}
+use Rattle.duration_str_base.specs.declared.cause.Cause.{Cause}
+use Rattle.duration_str_base.specs.declared.cause.Cause.TheVariants.{Empty, Syntax, Overflow}
+use Rattle.duration_str_base.specs.declared.cause.Expected.{Expected}
+use Rattle.duration_str_base.specs.Text.{Characters, byte_len}
+use Rattle.duration_str_base.specs.Rules.{Rules}
 use Rattle.duration_str_reading.specs.Grammar.{Terminal, IsSentence, IsSentenceOf, number}
 use Rattle.duration_str_reading.specs.Tokens.{tokens_of}
 use Rattle.duration_str_reading.specs.Place.{IsFront, CanFollow, start_after, terminals_of}
-use Rattle.duration_str_units.specs.Term.{Term, term_fault, fits, or_else, unless}
+use Rattle.duration_str_base.specs.Term.{Term, term_fault, fits, or_else, unless}
 use Rattle.duration_str_reading.specs.Value.{sum_of, terms_of, written_terms, value_of, evaluation_fault, Evaluates}
 
 -- Some sentence spells the text, and its evaluation has no fault and gives this value in

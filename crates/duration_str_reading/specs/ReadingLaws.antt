@@ -2,19 +2,19 @@
 use Rattle.std.specs.Prelude.{◌≡◌, ℕ, ◌+◌, ◌*◌, ◌/◌, ◌^◌, ◌<◌, ◌≤◌, Bool, true, false, if◌then◌else◌, List, [], ◌∷◌, ◌++◌, Option, Some, None, is_some, map, ⊤, ◌↔◌, ◌≢◌, take, drop, codes, Ok, Err, ◌⊎◌, IsTrue, not, ◌==◌}
 use Rattle.std.specs.Char.{is_ascii_uppercase}
 use Rattle.std.specs.List.{list_all}
-use Rattle.duration_str_units.specs.declared.options.Options.{Options}
-use Rattle.duration_str_units.specs.declared.operator.CondUnit.{CondUnit}
-use Rattle.duration_str_units.specs.declared.operator.CondUnit.TheVariants.{Plus, Star}
-use Rattle.duration_str_units.specs.declared.unit.TimeUnit.{TimeUnit}
-use Rattle.duration_str_units.specs.declared.cause.Cause.{Cause}
-use Rattle.duration_str_units.specs.declared.cause.Cause.TheVariants.{Overflow}
-use Rattle.duration_str_units.specs.declared.cause.Expected.{Expected}
-use Rattle.duration_str_units.specs.Text.{Characters, operator_of, is_chinese, IsBlank, is_blank, byte_len}
-use Rattle.duration_str_units.specs.Rules.{Rules, rules_with}
+use Rattle.duration_str_base.specs.declared.options.Options.{Options}
+use Rattle.duration_str_base.specs.declared.operator.CondUnit.{CondUnit}
+use Rattle.duration_str_base.specs.declared.operator.CondUnit.TheVariants.{Plus, Star}
+use Rattle.duration_str_base.specs.declared.unit.TimeUnit.{TimeUnit}
+use Rattle.duration_str_base.specs.declared.cause.Cause.{Cause}
+use Rattle.duration_str_base.specs.declared.cause.Cause.TheVariants.{Overflow}
+use Rattle.duration_str_base.specs.declared.cause.Expected.{Expected}
+use Rattle.duration_str_base.specs.Text.{Characters, operator_of, is_chinese, IsBlank, is_blank, byte_len}
+use Rattle.duration_str_base.specs.Rules.{Rules, rules_with}
 use Rattle.duration_str_reading.specs.Grammar.{Terminal, operator, IsSentence, IsSentenceOf, Spells, terminal_of}
 use Rattle.duration_str_reading.specs.Tokens.{Token, tokens_of, lexemes_of, are_of_one_run, goes_on}
 use Rattle.duration_str_reading.specs.Place.{BeginsSentence, CanFollow, IsFront}
-use Rattle.duration_str_units.specs.Term.{Term, value_of_term}
+use Rattle.duration_str_base.specs.Term.{Term, value_of_term}
 use Rattle.duration_str_reading.specs.Value.{written_terms, one_second}
 use Rattle.duration_str_reading.specs.Reading.{IsRead, IsRefused}
 use Rattle.duration_str_reading.specs.Answer.{answer, expected_after, last_of, front_of}

@@ -1,8 +1,8 @@
 -- The tokens of a text: the longest runs of digits and of unit letters, and other single characters
 -- except blanks.
 use Rattle.std.specs.Prelude.{ℕ, ◌+◌, Bool, false, ◌&&◌, ◌||◌, List, [], ◌∷◌, if◌then◌else◌, map}
-use Rattle.duration_str_units.specs.declared.options.Options.{Options}
-use Rattle.duration_str_units.specs.Text.{Characters, width, is_blank, is_digit, is_unit_letter}
+use Rattle.duration_str_base.specs.declared.options.Options.{Options}
+use Rattle.duration_str_base.specs.Text.{Characters, width, is_blank, is_digit, is_unit_letter}
 
 -- a token: the byte at which it starts, and its characters
 pub record Token : Type 0 where

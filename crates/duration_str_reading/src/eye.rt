@@ -1,10 +1,10 @@
 //! A text that is taken one character after another, with a count of the looks.
 ghost use Rattle.std.specs.Prelude.{◌≡◌, ◌+◌, ◌<◌, ◌≤◌, ◌^◌, [], is_some, IfSome, IfNone, if◌then◌else◌, slice_range, IsUtf8, length};
 ghost use Rattle.std.specs.Str.{IsCharBoundary};
-ghost use Rattle.duration_str_units.specs.Internal.Positions.{Stands, ahead};
-ghost use Rattle.duration_str_units.specs.Text.{width};
+ghost use Rattle.duration_str_base.specs.Internal.Positions.{Stands, ahead};
+ghost use Rattle.duration_str_base.specs.Text.{width};
 
-use duration_str_units::slice::range_from;
+use duration_str_base::slice::range_from;
 
 #[derive(Drop)]
 pub(crate) struct Eye<'a> {
@@ -91,7 +91,7 @@ impl<'a> Eye<'a> {
     }
 }
 
-#[tactic(auto, using(duration_str_units::proofs::CharacterLemmas::end_ahead, duration_str_units::proofs::CharacterLemmas::ascii_stands))]
+#[tactic(auto, using(duration_str_base::proofs::CharacterLemmas::end_ahead, duration_str_base::proofs::CharacterLemmas::ascii_stands))]
 #[inline]
 fn character_at(text: &str, place: usize) -> Option<char>
     requires { IsCharBoundary text.now place }
@@ -106,7 +106,7 @@ fn character_at(text: &str, place: usize) -> Option<char>
     }
 }
 
-#[tactic(auto, using(duration_str_units::proofs::CharacterLemmas::stands_char))]
+#[tactic(auto, using(duration_str_base::proofs::CharacterLemmas::stands_char))]
 #[cold]
 #[inline(never)]
 fn decoded_at(text: &str, place: usize) -> char

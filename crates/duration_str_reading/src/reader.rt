@@ -7,17 +7,17 @@ ghost use Rattle.duration_str_reading.specs.Iteration.{source, cut_place};
 ghost use Rattle.duration_str_reading.specs.Internal.Steps.{IsAhead};
 ghost use Rattle.duration_str_reading.specs.Value.{combination};
 ghost use Rattle.duration_str_reading.specs.Answer.{expected_at_start, expected_after_number, expected_after_unit};
-ghost use Rattle.duration_str_units.specs.declared.cause.Cause.TheVariants.{Syntax};
-ghost use Rattle.duration_str_units.specs.Rules.{Rules as AnyRules};
-ghost use Rattle.duration_str_units.specs.Meaning.{meaning_of, table_of};
-ghost use Rattle.duration_str_units.specs.Internal.Numbers.{u64_from};
+ghost use Rattle.duration_str_base.specs.declared.cause.Cause.TheVariants.{Syntax};
+ghost use Rattle.duration_str_base.specs.Rules.{Rules as AnyRules};
+ghost use Rattle.duration_str_base.specs.Meaning.{meaning_of, table_of};
+ghost use Rattle.duration_str_base.specs.Internal.Numbers.{u64_from};
 ghost use Rattle.duration_str_reading.specs.declared.token.TokenStart.TheVariants.{Number as a_number};
 
 use crate::token::{TokenStart, Tokens};
-use duration_str_units::cause::{Cause, Expected};
-use duration_str_units::operator::CondUnit;
-use duration_str_units::rules::Rules;
-use duration_str_units::unit::TimeUnit;
+use duration_str_base::cause::{Cause, Expected};
+use duration_str_base::operator::CondUnit;
+use duration_str_base::rules::Rules;
+use duration_str_base::unit::TimeUnit;
 
 /// The operator and the total of the later terms so far, or `None` if there are none, or their
 /// first fault. Under `no_calc` the first term is counted among them.

@@ -4,24 +4,24 @@ ghost use Rattle.std.specs.List.{list_all};
 ghost use Rattle.std.specs.Option.{ForSome, ForNone};
 ghost use Rattle.std.specs.Str.{chars};
 ghost use Rattle.std.specs.Iterator.{item_count};
-ghost use Rattle.duration_str_units.specs.Text.{is_blank, is_digit, is_unit_letter, number_of};
-ghost use Rattle.duration_str_units.specs.Internal.Positions.{ahead, Stands, StandsAt, Passes, Stops, TakesDigits, TakesLetters};
+ghost use Rattle.duration_str_base.specs.Text.{is_blank, is_digit, is_unit_letter, number_of};
+ghost use Rattle.duration_str_base.specs.Internal.Positions.{ahead, Stands, StandsAt, Passes, Stops, TakesDigits, TakesLetters};
 ghost use Rattle.duration_str_reading.specs.Tokens.{tokens_of};
-ghost use Rattle.duration_str_units.specs.Term.{fits};
-ghost use Rattle.duration_str_units.specs.Rules.{rules_of};
-ghost use Rattle.duration_str_units.specs.Meaning.{meaning_of};
+ghost use Rattle.duration_str_base.specs.Term.{fits};
+ghost use Rattle.duration_str_base.specs.Rules.{rules_of};
+ghost use Rattle.duration_str_base.specs.Meaning.{meaning_of};
 ghost use Rattle.duration_str_reading.specs.declared.token.TokenStart.{TokenStart};
 ghost use Rattle.duration_str_reading.specs.declared.token.TokenStart.TheVariants.{Number as a_number, Word as a_word};
 
 use crate::eye::Eye;
-use duration_str_units::blank::is_blank;
-use duration_str_units::operator::CondUnit;
-use duration_str_units::options::Options;
-use duration_str_units::packed::{
+use duration_str_base::blank::is_blank;
+use duration_str_base::operator::CondUnit;
+use duration_str_base::options::Options;
+use duration_str_base::packed::{
     MODULUS, MOST_BYTES, first_number, is_unit_letter, letter_number, with_letter,
 };
-use duration_str_units::rules::Rules;
-use duration_str_units::unit::TimeUnit;
+use duration_str_base::rules::Rules;
+use duration_str_base::unit::TimeUnit;
 
 /// What a token is: a number, a word with the unit that it names, if any, an operator, or another
 /// character.

@@ -1,7 +1,7 @@
 -- Lemmas about finding the token at a place without cutting the whole text.
 use Rattle.duration_str_refusals.proofs.Common.{[], add-zero, add_assoc, ap, arith, Bor, byte_len, cases_Bool, chars, chars-append, common_steps, drop, drop-drop, false, goes_on, IsCharBoundary, IsSliceOf, IsUtf8, IsUtf8-take, length-take-le, List, map, nat_tests, None, Option, option_map, Options, refl, rules, rules_of, Some, sym, take, take-append-drop, Token, token_at, tokens_from, tokens_of, true, width, with_first_character, ℕ, ◌++◌, ◌+◌, ◌-◌, ◌<◌, ◌==◌, ◌∙◌, ◌∷◌, ◌≡◌, ◌≤◌, AreTokens, Cause, drop-nil, eq-eqb, found_token, IsMissingAtEnd, IsNone, length, ne_eqb, start_after, suc, Syntax, zero, ◌↔◌}
 use Rattle.duration_str_reading.proofs.Cutting.RunLemmas.{run-not_blank}
-use Rattle.duration_str_units.proofs.CharacterLemmas.{width_some, byte_count, byte_len-append}
+use Rattle.duration_str_base.proofs.CharacterLemmas.{width_some, byte_count, byte_len-append}
 use Rattle.duration_str_reading.proofs.Cutting.SortLemmas.{first_token}
 use Rattle.duration_str_reading.proofs.Cutting.TokenLemmas.{tokens_are}
 use Rattle.duration_str_reading.proofs.OnePass.PlaceLemmas.{refused_stands}

@@ -14,7 +14,7 @@ use Rattle.duration_str_help.specs.Quotes.{is_clear, is_plain, quoted, quoted_en
 use Rattle.std.specs.Char.Escape.{escape_default, escape_unicode, hex_digit_at, short_escape}
 use Rattle.std.specs.Prelude.{not}
 use Rattle.std.specs.Int.{is_in_range}
-use Rattle.duration_str_units.proofs.CharacterLemmas.{chars_of_none}
+use Rattle.duration_str_base.proofs.CharacterLemmas.{chars_of_none}
 use Rattle.duration_str_help.proofs.ShortLemmas.{IsShort, less, joined, chosen, is_plain_byte, bytes_good, literal, decimal_short, name_short, suggestion_short}
 
 found_chars : (cs bytes : List ℕ) → encode_utf8_all cs ≡ bytes → (length bytes == 0) ≡ false

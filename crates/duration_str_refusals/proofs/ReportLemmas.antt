@@ -1,5 +1,5 @@
 use Rattle.duration_str_refusals.proofs.Common.{and_parts, ap, arith, caret_text, cases_Bool, Cause, chars, chars-append, common_steps, drop, encode_utf8, encode_utf8_all, encodes-chars, ForSome, inl, inr, IsCharBoundary, IsUtf8, IsUtf8-take, leb-true, len_utf8_bounds, length, length-append, length-encode, length-le-encodes, List, place_of, refl, Rules, Syntax, take, take-append-drop, ℕ, [], ◌*◌, ◌+◌, ◌<◌, ◌^◌, ◌∷◌, ◌≡◌, ◌≤◌, rules}
-use Rattle.duration_str_units.proofs.CharacterLemmas.{chars_of_none}
+use Rattle.duration_str_base.proofs.CharacterLemmas.{chars_of_none}
 use Rattle.duration_str_refusals.proofs.OneLineLemmas.{one_line_short}
 use Rattle.duration_str_refusals.specs.OneLine.{one_line_of}
 use Rattle.std.proofs.lemmas.List.Sums.{count_by-le-length}

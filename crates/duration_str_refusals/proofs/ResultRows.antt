@@ -8,8 +8,8 @@ use Rattle.std.proofs.lemmas.Option.{same_Some}
 use Rattle.duration_str_refusals.specs.Errors.{IsErrorOf}
 use Rattle.duration_str_refusals.specs.Faults.{IsSliceOf}
 use Rattle.duration_str_reading.specs.Tokens.{Token}
-use Rattle.duration_str_units.specs.Text.{Bytes}
-use Rattle.duration_str_units.specs.declared.cause.Cause.TheVariants.{Overflow}
+use Rattle.duration_str_base.specs.Text.{Bytes}
+use Rattle.duration_str_base.specs.declared.cause.Cause.TheVariants.{Overflow}
 use Rattle.duration_str_refusals.specs.declared.error.DError.TheVariants.{OverflowError}
 
 pub overflow_has_no_line : {A : Type 0} → IsErrorOf {A = A} (Overflow None) OverflowError

@@ -1,11 +1,11 @@
 -- The error made from a fault.
 use Rattle.std.specs.Prelude.{encode_utf8_all, string_bytes, ◌≡◌}
-use Rattle.duration_str_units.specs.declared.cause.Cause.{Cause}
-use Rattle.duration_str_units.specs.declared.cause.Cause.TheVariants.{Overflow}
+use Rattle.duration_str_base.specs.declared.cause.Cause.{Cause}
+use Rattle.duration_str_base.specs.declared.cause.Cause.TheVariants.{Overflow}
 use Rattle.duration_str_refusals.specs.declared.error.DError.{DError}
 use Rattle.duration_str_refusals.specs.declared.error.DError.TheVariants.{ParseError, OverflowError}
-use Rattle.duration_str_units.specs.Text.{Characters}
-use Rattle.duration_str_units.specs.Causes.{line_of}
+use Rattle.duration_str_base.specs.Text.{Characters}
+use Rattle.duration_str_base.specs.Causes.{line_of}
 
 abbrev pub IsParseError : {A : Type 0} → Characters → DError A → Type 0
 IsParseError line (ParseError text) = string_bytes text ≡ encode_utf8_all line

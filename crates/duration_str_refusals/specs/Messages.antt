@@ -1,11 +1,11 @@
 -- The messages of faults, and a law about their ends.
 use Rattle.std.specs.Prelude.{◌≢◌, ℕ, Bool, ◌++◌, Option, Some, None, if◌then◌else◌, chars, codes, length, take, replicate, decimal, encode_utf8_all, ◌==◌}
 use Rattle.std.specs.List.{list_any, last_or}
-use Rattle.duration_str_units.specs.declared.cause.Cause.{Cause}
+use Rattle.duration_str_base.specs.declared.cause.Cause.{Cause}
 use Rattle.duration_str_refusals.specs.declared.message.Layout.{Layout}
 use Rattle.duration_str_refusals.specs.declared.message.Layout.TheVariants.{Line, Byte, Caret}
-use Rattle.duration_str_units.specs.Text.{Bytes}
-use Rattle.duration_str_units.specs.Causes.{place_of, line_of}
+use Rattle.duration_str_base.specs.Text.{Bytes}
+use Rattle.duration_str_base.specs.Causes.{place_of, line_of}
 
 -- the text, below it a caret after this many spaces, and below that the line
 abbrev pub caret_text : Bytes → ℕ → Bytes → Bytes

@@ -2,16 +2,16 @@
 -- and then the words of its help.
 use Rattle.std.specs.Prelude.{ℕ, ◌+◌, [], ◌∷◌, ◌++◌, Option, Some, None, if◌then◌else◌, ◌==◌, decimal, encode_utf8_all, drop, chars, codes}
 use Rattle.std.specs.List.{list_any}
-use Rattle.duration_str_units.specs.declared.cause.Expected.{Expected}
-use Rattle.duration_str_units.specs.declared.cause.Cause.{Cause}
-use Rattle.duration_str_units.specs.declared.cause.Cause.TheVariants.{Empty, Syntax, NumberTooLarge, Overflow, Mixed}
+use Rattle.duration_str_base.specs.declared.cause.Expected.{Expected}
+use Rattle.duration_str_base.specs.declared.cause.Cause.{Cause}
+use Rattle.duration_str_base.specs.declared.cause.Cause.TheVariants.{Empty, Syntax, NumberTooLarge, Overflow, Mixed}
 use Rattle.duration_str_help.specs.declared.help.Help.{Help}
 use Rattle.duration_str_help.specs.declared.help.Help.TheVariants.{Fraction}
 use Rattle.duration_str_help.specs.declared.suggestion.Replacement.{Replacement}
 use Rattle.duration_str_help.specs.declared.suggestion.Suggestion.{Suggestion}
-use Rattle.duration_str_units.specs.Text.{Bytes, Characters}
-use Rattle.duration_str_units.specs.Rules.{Rules}
-use Rattle.duration_str_units.specs.Causes.{line_of}
+use Rattle.duration_str_base.specs.Text.{Bytes, Characters}
+use Rattle.duration_str_base.specs.Rules.{Rules}
+use Rattle.duration_str_base.specs.Causes.{line_of}
 use Rattle.duration_str_refusals.specs.Messages.{chars_before}
 use Rattle.duration_str_help.specs.Quotes.{quoted}
 use Rattle.duration_str_help.specs.Help.{first_piece, help_words, is_unknown_unit, help_of}

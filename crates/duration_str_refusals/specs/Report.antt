@@ -1,13 +1,13 @@
 -- The report of a fault: its line, or the text, a caret and its line.
 use Rattle.std.specs.Prelude.{ℕ, ◌+◌, Bool, ◌&&◌, if◌then◌else◌, nat_le, length, take, chars}
 use Rattle.std.specs.List.{list_all, count_by}
-use Rattle.duration_str_units.specs.declared.cause.Cause.{Cause}
-use Rattle.duration_str_units.specs.declared.cause.Cause.TheVariants.{Syntax}
-use Rattle.duration_str_units.specs.Text.{Bytes, Characters}
+use Rattle.duration_str_base.specs.declared.cause.Cause.{Cause}
+use Rattle.duration_str_base.specs.declared.cause.Cause.TheVariants.{Syntax}
+use Rattle.duration_str_base.specs.Text.{Bytes, Characters}
 use Rattle.duration_str_refusals.specs.Messages.{caret_text}
 use Rattle.duration_str_help.specs.Quotes.{is_clear}
 use Rattle.duration_str_refusals.specs.OneLine.{one_line_of}
-use Rattle.duration_str_units.specs.Rules.{Rules}
+use Rattle.duration_str_base.specs.Rules.{Rules}
 
 -- whether a text can stand above a caret: it has at most 80 characters, and none of them is escaped
 abbrev pub is_clear_text : Characters → Bool

@@ -4,7 +4,7 @@ ghost use Rattle.duration_str_refusals.specs.Errors.{IsErrorOf};
 ghost use Rattle.duration_str_refusals.specs.declared.error.DError.TheVariants.{OverflowError};
 
 use crate::fault::Fault;
-use duration_str_units::cause::Cause;
+use duration_str_base::cause::Cause;
 use std::alloc::{AllocError, Allocator, Global};
 use thiserror::Error;
 

@@ -6,18 +6,18 @@ ghost use Rattle.duration_str_refusals.specs.Faults.{IsSliceOf, found_token, tok
 ghost use Rattle.duration_str_help.specs.Help.{help_of};
 ghost use Rattle.duration_str_help.specs.Internal.Mends.{IsCutOut};
 ghost use Rattle.duration_str_help.specs.Mends.{HasPieces, replacement_of, mend_of, suggestion_of};
-ghost use Rattle.duration_str_units.specs.Causes.{place_of};
-ghost use Rattle.duration_str_units.specs.Meaning.{meaning_of};
+ghost use Rattle.duration_str_base.specs.Causes.{place_of};
+ghost use Rattle.duration_str_base.specs.Meaning.{meaning_of};
 ghost use Rattle.duration_str_reading.specs.Iteration.{tokens_left, source};
 
 use duration_str_help::help::{Help, found_at, overflow_help};
 use duration_str_help::mend::{Mend, cut_out, replacement_for};
 use duration_str_help::suggestion::Replacement;
 use duration_str_reading::token::Tokens;
-use duration_str_units::cause::Cause;
-use duration_str_units::options::Options;
-use duration_str_units::rules::Rules;
-use duration_str_units::slice::range_from;
+use duration_str_base::cause::Cause;
+use duration_str_base::options::Options;
+use duration_str_base::rules::Rules;
+use duration_str_base::slice::range_from;
 
 /// A refusal: the text that was read, and the cause. It prints as a message for people.
 ///

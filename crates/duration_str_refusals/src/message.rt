@@ -4,11 +4,11 @@ ghost use Rattle.std.specs.Fmt.{DisplaysOnOk, DisplaysStyledOnOk, HasWritten, Is
 ghost use Rattle.std.specs.Str.{IsCharBoundary};
 ghost use Rattle.duration_str_help.specs.Buffers.{IsInFront};
 ghost use Rattle.duration_str_refusals.specs.Messages.{byte_text, caret_text, chars_before, message_of, laid_out};
-ghost use Rattle.duration_str_units.specs.Causes.{line_of};
+ghost use Rattle.duration_str_base.specs.Causes.{line_of};
 
 use crate::fault::Fault;
 use duration_str_help::buffer::{put, put_decimal};
-use duration_str_units::slice::range_to;
+use duration_str_base::slice::range_to;
 use std::fmt;
 
 impl Fault<'_> {

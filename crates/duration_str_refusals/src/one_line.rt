@@ -11,8 +11,8 @@ ghost use Rattle.std.specs.List.{list_all, list_any};
 ghost use Rattle.std.specs.Str.{chars, IsCharBoundary};
 ghost use Rattle.duration_str_help.specs.Buffers.{IsInFront};
 ghost use Rattle.duration_str_refusals.specs.Internal.Escapes.{hex_digits};
-ghost use Rattle.duration_str_units.specs.Internal.Positions.{ahead};
-ghost use Rattle.duration_str_units.specs.Causes.{place_of};
+ghost use Rattle.duration_str_base.specs.Internal.Positions.{ahead};
+ghost use Rattle.duration_str_base.specs.Causes.{place_of};
 ghost use Rattle.duration_str_refusals.specs.Messages.{chars_before};
 ghost use Rattle.std.specs.Option.{ForSome};
 ghost use Rattle.std.specs.Int.{is_in_range};
@@ -22,8 +22,8 @@ ghost use Rattle.duration_str_help.specs.Help.{help_words};
 ghost use Rattle.duration_str_help.specs.Quotes.{is_plain, is_clear, shown, quoted};
 ghost use Rattle.duration_str_help.specs.Help.{first_piece, is_unknown_unit, overflow_help, syntax_help};
 ghost use Rattle.duration_str_help.specs.Mends.{replacement_of};
-ghost use Rattle.duration_str_units.specs.Meaning.{meaning_of};
-ghost use Rattle.duration_str_units.specs.declared.cause.Cause.TheVariants.{Syntax};
+ghost use Rattle.duration_str_base.specs.Meaning.{meaning_of};
+ghost use Rattle.duration_str_base.specs.declared.cause.Cause.TheVariants.{Syntax};
 ghost use Rattle.duration_str_refusals.specs.declared.one_line.TheConstants.{MAX_ONE_LINE_LEN};
 
 use crate::fault::Fault;
@@ -33,8 +33,8 @@ use duration_str_help::characters::is_clear;
 use duration_str_help::fraction::fraction_replacement;
 use duration_str_help::help::{Found, Help, MOST_SHOWN, found_at, help_words, overflow_help};
 use duration_str_help::suggestion::{Suggestion, put_suggestion};
-use duration_str_units::cause::{Cause, Expected};
-use duration_str_units::rules::Rules;
+use duration_str_base::cause::{Cause, Expected};
+use duration_str_base::rules::Rules;
 
 /// No fault's line has more bytes than this.
 ///

@@ -2,21 +2,21 @@
 ghost use Rattle.std.specs.Prelude.{◌≡◌, ◌*◌, ◌<◌, ◌≤◌, length};
 ghost use Rattle.std.specs.List.{list_all};
 ghost use Rattle.std.specs.Str.{chars};
-ghost use Rattle.duration_str_units.specs.Meaning.{meaning_of};
+ghost use Rattle.duration_str_base.specs.Meaning.{meaning_of};
 ghost use Rattle.duration_str_refusals.specs.Messages.{laid_out};
 ghost use Rattle.duration_str_help.specs.Quotes.{is_clear};
 ghost use Rattle.duration_str_refusals.specs.OneLine.{one_line_of};
 ghost use Rattle.duration_str_refusals.specs.Report.{report_of, is_clear_text, columns_of};
-ghost use Rattle.duration_str_units.specs.Rules.{Rules as AnyRules};
+ghost use Rattle.duration_str_base.specs.Rules.{Rules as AnyRules};
 ghost use Rattle.duration_str_refusals.specs.declared.report.TheConstants.{REPORT_BUFFER_SIZE};
 
 use crate::fault::Fault;
 use crate::message::Layout;
 use crate::one_line::ONE_LINE_BUFFER_SIZE;
 use duration_str_help::characters::is_clear;
-use duration_str_units::cause::Cause;
-use duration_str_units::rules::Rules;
-use duration_str_units::slice::range_to;
+use duration_str_base::cause::Cause;
+use duration_str_base::rules::Rules;
+use duration_str_base::slice::range_to;
 
 /// The size of a buffer that has room for every report: 80 characters of four bytes, two spaces for
 /// each of them before the caret, the caret, two line feeds, and a line.

@@ -1,5 +1,5 @@
 ghost use Rattle.std.specs.Prelude.{◌≡◌};
-ghost use Rattle.duration_str_units.specs.declared.cause.Cause.TheVariants.{Syntax};
+ghost use Rattle.duration_str_base.specs.declared.cause.Cause.TheVariants.{Syntax};
 
 use duration_str::{Cause, Expected, Options};
 

@@ -1,6 +1,6 @@
 ghost use Rattle.std.specs.Option.{ForSome};
 ghost use Rattle.std.specs.Str.{IsCharBoundary};
-ghost use Rattle.duration_str_units.specs.Causes.{place_of};
+ghost use Rattle.duration_str_base.specs.Causes.{place_of};
 
 use crate::assertions::{holds, holds_in_memory, is_human_format, prints};
 use crate::shared::{AFTER_NUMBER, syntax};

@@ -1,6 +1,6 @@
 use Rattle.std.proofs.Common.{◌≡◌, ℕ, Bool, true, ◌&&◌, List, [], ◌∷◌, ◌++◌, length, refl, sym, ap, subst, ◌∙◌, append_assoc, append-nil, arith}
 use Rattle.std.proofs.Math.Bool.{and_assoc, and-true}
-use Rattle.duration_str_units.specs.declared.options.Options.{Options}
+use Rattle.duration_str_base.specs.declared.options.Options.{Options}
 use Rattle.durstr_run.specs.Lines.{lines_of}
 use Rattle.durstr_run.specs.Output.{IsLineOutput, AreOutputs, IsOutput}
 

@@ -2,7 +2,7 @@
 -- not known, such as those of standard input.
 use Rattle.std.specs.Prelude.{ℕ, ◌<◌, ◌≤◌, Bool, List, length, take, Option}
 use Rattle.std.specs.Io.KnownBytes.{Keeps, Appends, Consumes, IsAtEnd}
-use Rattle.duration_str_units.specs.declared.options.Options.{Options}
+use Rattle.duration_str_base.specs.declared.options.Options.{Options}
 use Rattle.durstr_run.specs.declared.fault.RunFault.{RunFault}
 use Rattle.durstr_run.specs.declared.fault.RunFault.TheVariants.{Read, Write, TooLong, Memory}
 use Rattle.durstr_run.specs.Output.{IsOutput}

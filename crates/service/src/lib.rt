@@ -2,10 +2,10 @@
 
 ghost use Rattle.std.specs.Prelude.{◌≡◌, ℕ, chars};
 ghost use Rattle.std.specs.Duration.{as_nanos};
-ghost use Rattle.duration_str_units.specs.Options.{off};
+ghost use Rattle.duration_str_base.specs.Options.{off};
 ghost use Rattle.duration_str_reading.specs.Reading.{IsRead, IsRefused};
-ghost use Rattle.duration_str_units.specs.Rules.{rules_of};
-ghost use Rattle.duration_str_units.specs.declared.cause.Cause.{Cause as AnyCause};
+ghost use Rattle.duration_str_base.specs.Rules.{rules_of};
+ghost use Rattle.duration_str_base.specs.declared.cause.Cause.{Cause as AnyCause};
 
 use duration_str::laws::one_sentence;
 use duration_str::{Options, parse_with};

@@ -2,7 +2,7 @@
 use Rattle.std.proofs.Common.{List, Option, refl, ℕ, ◌<◌, ◌^◌}
 use Rattle.duration_str.proofs.Common.{counts_of, EqualTexts, FitsDuration, GreatestBreakdown, IsPrintedIn, IsRead, off, OneReading, ReadsBack, unit_lengths, rules_of, rules_with}
 use Rattle.duration_str_printing.specs.declared.format.Style.{Style}
-use Rattle.duration_str_units.specs.declared.unit.TimeUnit.{TimeUnit}
+use Rattle.duration_str_base.specs.declared.unit.TimeUnit.{TimeUnit}
 use Rattle.uses.proofs.Common.{Options}
 use Rattle.uses.specs.Cache.{canonical_text, IsCanonical, IsKey}
 

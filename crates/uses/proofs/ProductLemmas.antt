@@ -2,8 +2,8 @@
 use Rattle.std.proofs.Common.{arith, inl, inr, List, mul_comm, refl, rules, ℕ, ◌*◌, ◌/◌, ◌<◌, ◌^◌, ◌↔◌, ◌≡◌}
 use Rattle.duration_str.proofs.Common.{IsRead, nanos_of, one_second, Rules, TwoFactors}
 use Rattle.uses.proofs.Common.{MultipliesInEitherOrder, nanos_in, Part, Plus, Star, term_of_part}
-use Rattle.duration_str_units.specs.declared.unit.TimeUnit.{TimeUnit}
-use Rattle.duration_str_units.specs.declared.unit.TimeUnit.TheVariants.{Year}
+use Rattle.duration_str_base.specs.declared.unit.TimeUnit.{TimeUnit}
+use Rattle.duration_str_base.specs.declared.unit.TimeUnit.TheVariants.{Year}
 use Rattle.uses.specs.Product.{Multiplies}
 
 number_below : (n : ℕ) (u : TimeUnit) → n * nanos_of u < 2 ^ 64 → n < 2 ^ 64

@@ -7,9 +7,9 @@ use Rattle.duration_str.specs.Results.{Parses}
 use Rattle.uses.specs.Common.{as_nanos, Duration, Fault}
 use Rattle.uses.proofs.Common.{Cause, Expected, Syntax}
 use Rattle.duration_str_help.specs.declared.mend.Mend.{Mend}
-use Rattle.duration_str_units.specs.declared.rules.Rules.{Rules as CodeRules}
-use Rattle.duration_str_units.specs.Meaning.{meaning_of}
-use Rattle.duration_str_units.specs.declared.unit.TimeUnit.{TimeUnit}
+use Rattle.duration_str_base.specs.declared.rules.Rules.{Rules as CodeRules}
+use Rattle.duration_str_base.specs.Meaning.{meaning_of}
+use Rattle.duration_str_base.specs.declared.unit.TimeUnit.{TimeUnit}
 use Rattle.duration_str.specs.Mended.{HasTokensOf, IsFraction, MendedFractions, MendedTexts, RefusedTokens}
 use Rattle.duration_str_help.specs.Mends.{HasPieces, mend_of, suggestion_text}
 

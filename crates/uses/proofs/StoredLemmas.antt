@@ -3,8 +3,8 @@ use Rattle.std.proofs.Common.{ap, Bool, chars, Err, false, IsErrAnd, IsOkAnd, Li
 use Rattle.duration_str.proofs.Common.{as_nanos, HasNoCapital, HasNoOperator, IsRead, IsRefused, nanos_of, NoCalcAgrees, older_row_of, older_rules, OlderTexts, OneReading, OptionsIdle, Parses, Rules, rules_of, unit_of_word}
 use Rattle.duration_str_reading.specs.ReadingLaws.{with_lowercase, with_no_calc}
 use Rattle.duration_str.specs.OtherResults.{Reads}
-use Rattle.duration_str_units.specs.Units.{UnitRow}
-use Rattle.duration_str_units.specs.declared.unit.TimeUnit.{TimeUnit}
+use Rattle.duration_str_base.specs.Units.{UnitRow}
+use Rattle.duration_str_base.specs.declared.unit.TimeUnit.{TimeUnit}
 use Rattle.uses.proofs.Common.{Cause, Duration, Fault, Options}
 
 module _ (law : OneReading) (o : Options) (bytes : List ℕ) where

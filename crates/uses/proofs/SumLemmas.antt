@@ -4,7 +4,7 @@ use Rattle.duration_str.proofs.Common.{IsRead, Reorder, rules_with, times_in, va
 use Rattle.uses.proofs.Common.{IsPermutation, nanos_in, Options, Part, Plus, sum_by-IsPermutation, term_of_part}
 use Rattle.std.proofs.lemmas.List.Sums.{sum_by-cons}
 use Rattle.uses.specs.Sum.{Adds}
-use Rattle.duration_str_units.specs.declared.unit.TimeUnit.{TimeUnit}
+use Rattle.duration_str_base.specs.declared.unit.TimeUnit.{TimeUnit}
 
 abbrev is_times : ℕ → Part → ℕ
 is_times n part = if nanos_in part == n then 1 else 0

@@ -3,7 +3,7 @@ use Rattle.std.specs.Prelude.{◌≡◌, ℕ, List, Option, Result, Ok, Err, cha
 use Rattle.uses.specs.Common.{Duration, as_nanos, Options, Cause, Fault, off, unit_lengths, IsRead, IsRefused, IsGreatestBreakdown, IsPrintedIn, counts_of, printed_counts, Rules, rules_of, rules_with}
 use Rattle.std.specs.Duration.{FitsDuration}
 use Rattle.duration_str_printing.specs.declared.format.Style.{Style}
-use Rattle.duration_str_units.specs.declared.unit.TimeUnit.{TimeUnit}
+use Rattle.duration_str_base.specs.declared.unit.TimeUnit.{TimeUnit}
 
 -- the text of a value whose counts are found by division: what the longer units leave is divided by
 -- the next unit

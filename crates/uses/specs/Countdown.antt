@@ -2,15 +2,15 @@
 use Rattle.std.specs.Prelude.{◌≡◌, ℕ, ◌^◌, ◌<◌, ◌≤◌, List, Option}
 use Rattle.duration_str_printing.specs.declared.format.Format.{Format}
 use Rattle.duration_str_printing.specs.declared.format.TheConstants.Units.{ALL}
-use Rattle.duration_str_units.specs.declared.options.Options.{Options}
-use Rattle.duration_str_units.specs.declared.unit.TimeUnit.{TimeUnit}
-use Rattle.duration_str_units.specs.declared.unit.TimeUnit.TheVariants.{Second}
+use Rattle.duration_str_base.specs.declared.options.Options.{Options}
+use Rattle.duration_str_base.specs.declared.unit.TimeUnit.{TimeUnit}
+use Rattle.duration_str_base.specs.declared.unit.TimeUnit.TheVariants.{Second}
 use Rattle.duration_str_printing.specs.Rounding.{KeepsWithin}
 use Rattle.duration_str_printing.specs.Format.{down_to, IsPrintedWithin, part_count, whole_format}
 use Rattle.duration_str_printing.specs.Printing.{IsGreatestBreakdown}
 use Rattle.duration_str_reading.specs.Reading.{IsRead}
-use Rattle.duration_str_units.specs.Rules.{rules_with}
-use Rattle.duration_str_units.specs.Units.{unit_lengths}
+use Rattle.duration_str_base.specs.Rules.{rules_with}
+use Rattle.duration_str_base.specs.Units.{unit_lengths}
 
 abbrev pub coarse : Format
 coarse = record whole_format { units = down_to Second ALL; parts = 2 }

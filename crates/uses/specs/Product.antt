@@ -1,7 +1,7 @@
 -- Parts, each a number of units, and the texts that multiply two parts.
 use Rattle.std.specs.Prelude.{◌≡◌, ℕ, ◌*◌, List, [], ◌∷◌, ◌⊎◌}
 use Rattle.uses.specs.Common.{Plus, Star, nanos_of, IsSentenceOf, Rules, Term, written_terms}
-use Rattle.duration_str_units.specs.declared.operator.CondUnit.{CondUnit}
+use Rattle.duration_str_base.specs.declared.operator.CondUnit.{CondUnit}
 use Rattle.uses.specs.declared.product.Part.{Part}
 
 abbrev pub nanos_in : Part → ℕ

@@ -5,7 +5,7 @@ ghost use Rattle.std.specs.Prelude.{◌≡◌, ◌↔◌, ◌+◌, ◌≤◌, �
 ghost use Rattle.duration_str_printing.specs.Breakdown.{AreParts, sum_of_parts};
 ghost use Rattle.duration_str_printing.specs.Format.{IsPrintedWithin};
 ghost use Rattle.duration_str_printing.specs.Rounding.{PrintsWhole};
-ghost use Rattle.duration_str_units.specs.declared.unit.TimeUnit.{TimeUnit};
+ghost use Rattle.duration_str_base.specs.declared.unit.TimeUnit.{TimeUnit};
 ghost use Rattle.uses.specs.Common.{as_nanos, IsPrintedIn};
 ghost use Rattle.uses.specs.Countdown.{coarse, IsShown};
 

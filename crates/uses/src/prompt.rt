@@ -3,10 +3,10 @@
 
 ghost use Rattle.std.specs.Prelude.{◌≡◌, ◌↔◌, ◌&&◌, ◌+◌, ◌*◌, ◌^◌, ◌++◌, ◌≤◌, ℕ, List, false, length, IfSome, Some, IsTrue, chars};
 ghost use Rattle.uses.specs.Common.{Syntax, Expected as Kinds, as_nanos, IsRefused, TimeUnit};
-ghost use Rattle.duration_str_units.specs.Meaning.{meaning_of};
+ghost use Rattle.duration_str_base.specs.Meaning.{meaning_of};
 ghost use Rattle.duration_str.specs.Mended.{HasTokensOf, IsFraction};
 ghost use Rattle.duration_str_help.specs.Mends.{suggestion_text};
-ghost use Rattle.duration_str_units.specs.Text.{number_of};
+ghost use Rattle.duration_str_base.specs.Text.{number_of};
 
 use duration_str::laws::{
     mended_fractions, mended_texts, mended_tokens, one_sentence, place_and_kinds,

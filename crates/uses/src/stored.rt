@@ -5,11 +5,11 @@
 ghost use Rattle.std.specs.Prelude.{◌≡◌, ℕ, Some, Ok, IsOkAnd, IsErrAnd, chars};
 ghost use Rattle.uses.specs.Common.{as_nanos, IsRead, Cause as AnyCause, rules_with};
 ghost use Rattle.duration_str_reading.specs.ReadingLaws.{HasNoCapital, HasNoOperator};
-ghost use Rattle.duration_str_units.specs.Meaning.{meaning_of};
+ghost use Rattle.duration_str_base.specs.Meaning.{meaning_of};
 ghost use Rattle.duration_str.specs.Older.{older_row_of, older_rules, WasRefused};
-ghost use Rattle.duration_str_units.specs.Rules.{unit_of_word};
-ghost use Rattle.duration_str_units.specs.Units.{UnitRow};
-ghost use Rattle.duration_str_units.specs.declared.unit.TimeUnit.{TimeUnit as Unit};
+ghost use Rattle.duration_str_base.specs.Rules.{unit_of_word};
+ghost use Rattle.duration_str_base.specs.Units.{UnitRow};
+ghost use Rattle.duration_str_base.specs.declared.unit.TimeUnit.{TimeUnit as Unit};
 
 use duration_str::laws::{more_names, no_calc_agrees, older_texts, one_sentence, options_idle};
 use duration_str::{Fault, Options, Rules, TimeUnit, parse_nanos, parse_with};

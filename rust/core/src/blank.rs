@@ -1,4 +1,4 @@
-// Made by tools/erase of crates/duration_str_units/src/blank.rt.
+// Made by tools/erase of crates/duration_str_base/src/blank.rt.
 //! The blanks between tokens.
 
 /// For each character up to the space, whether it is a blank. A table takes fewer instructions than

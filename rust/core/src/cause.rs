@@ -1,4 +1,4 @@
-// Made by tools/erase of crates/duration_str_units/src/cause.rt.
+// Made by tools/erase of crates/duration_str_base/src/cause.rt.
 //! Why a text is refused: the cause, its line, and what could stand at the place of a syntax fault.
 
 use crate::operator::CondUnit;

@@ -1,4 +1,4 @@
-// Made by tools/erase of crates/duration_str_units/src/humantime.rt.
+// Made by tools/erase of crates/duration_str_base/src/humantime.rt.
 //! The names and lengths of the units of the crate humantime, with the names that the library reads
 //! added.
 

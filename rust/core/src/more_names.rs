@@ -1,4 +1,4 @@
-// Made by tools/erase of crates/duration_str_units/src/more_names.rt.
+// Made by tools/erase of crates/duration_str_base/src/more_names.rt.
 //! More names of the units, which people write and the library's own table lacks.
 
 use crate::packed;

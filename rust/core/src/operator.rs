@@ -1,4 +1,4 @@
-// Made by tools/erase of crates/duration_str_units/src/operator.rt.
+// Made by tools/erase of crates/duration_str_base/src/operator.rt.
 //! The operators.
 
 use core::fmt;

@@ -1,4 +1,4 @@
-// Made by tools/erase of crates/duration_str_units/src/options.rt.
+// Made by tools/erase of crates/duration_str_base/src/options.rt.
 //! The options for reading.
 
 /// Options for reading: which grammar is read, and which words name units.

@@ -1,4 +1,4 @@
-// Made by tools/erase of crates/duration_str_units/src/packed.rt.
+// Made by tools/erase of crates/duration_str_base/src/packed.rt.
 //! A word's letters packed into one number, and the unit that such a number names. The letters are
 //! its digits, to the base 40:
 //!

@@ -1,4 +1,4 @@
-// Made by tools/erase of crates/duration_str_units/src/rules.rt.
+// Made by tools/erase of crates/duration_str_base/src/rules.rt.
 //! The rules by which a text is read.
 
 use crate::options::Options;

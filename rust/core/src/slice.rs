@@ -1,4 +1,4 @@
-// Made by tools/erase of crates/duration_str_units/src/slice.rt.
+// Made by tools/erase of crates/duration_str_base/src/slice.rt.
 //! Slices of a text at a place that is known to be a character boundary. `&text[place..]` would
 //! test that again, and would contain the code that reports a place inside a character.
 

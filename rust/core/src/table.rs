@@ -1,4 +1,4 @@
-// Made by tools/erase of crates/duration_str_units/src/table.rt.
+// Made by tools/erase of crates/duration_str_base/src/table.rt.
 //! The tables of units by which a text can be read.
 
 use crate::cause::Cause;

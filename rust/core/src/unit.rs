@@ -1,4 +1,4 @@
-// Made by tools/erase of crates/duration_str_units/src/unit.rt.
+// Made by tools/erase of crates/duration_str_base/src/unit.rt.
 //! The units of time and their names. The module also exports the options and the operators.
 
 pub use crate::operator::CondUnit;

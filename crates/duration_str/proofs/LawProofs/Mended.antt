@@ -4,7 +4,7 @@ use Rattle.duration_str_help.specs.declared.help.Help.{Help}
 use Rattle.duration_str_help.specs.declared.help.Help.TheVariants.{DidYouMean, DigitsOnly, Fraction, Iso8601, LeadingPlus, NoPoint, Zero}
 use Rattle.duration_str_help.specs.declared.suggestion.Replacement.{Replacement}
 use Rattle.duration_str_help.specs.declared.suggestion.Suggestion.{Suggestion}
-use Rattle.duration_str_units.specs.declared.rules.Rules.{Rules as CodeRules}
+use Rattle.duration_str_base.specs.declared.rules.Rules.{Rules as CodeRules}
 use Rattle.duration_str.specs.Mended.{JoinsNumbers, KeepsTokens, mended_text, MendedTexts, MendedTokens, WrittenIsSaid}
 use Rattle.duration_str_help.specs.Help.{begins_with_letter, first_piece, syntax_help}
 use Rattle.duration_str_help.specs.Mends.{mend_of, replacement_for, replacement_of, name_alone, Pieces, pieces_of, suggestion_of, suggestion_text}
@@ -15,7 +15,7 @@ use Rattle.duration_str.proofs.LawProofs.MendedNames.{near_short}
 use Rattle.duration_str.proofs.LawProofs.MendedNumbers.{apart_unless, number_first, number_last, one_number, seamed_kept, seamed_tokens}
 use Rattle.duration_str.proofs.LawProofs.MendedTerms.{fraction_mended}
 use Rattle.duration_str_help.proofs.MendedLemmas.{after_piece, cut_piece, IsCut, piece_stops}
-use Rattle.duration_str_units.proofs.CharacterLemmas.{byte_count, byte_len-append}
+use Rattle.duration_str_base.proofs.CharacterLemmas.{byte_count, byte_len-append}
 
 abbrev bytes_at : List ℕ → ℕ → List ℕ
 bytes_at text place = encode_utf8_all (first_piece (ahead text place))

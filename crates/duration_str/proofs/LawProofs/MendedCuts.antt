@@ -4,7 +4,7 @@ use Rattle.duration_str_help.specs.declared.help.Help.{Help}
 use Rattle.duration_str_help.specs.declared.help.Help.TheVariants.{DidYouMean, DigitsOnly, Fraction, Iso8601, LeadingPlus, NoPoint, Zero}
 use Rattle.duration_str_help.specs.declared.suggestion.Replacement.{Replacement}
 use Rattle.duration_str_help.specs.declared.suggestion.Suggestion.{Suggestion}
-use Rattle.duration_str_units.specs.declared.rules.Rules.{Rules as CodeRules}
+use Rattle.duration_str_base.specs.declared.rules.Rules.{Rules as CodeRules}
 use Rattle.duration_str.specs.Mended.{HasTokensOf, RefusedTokens}
 use Rattle.duration_str_help.specs.Fraction.{end_run}
 use Rattle.duration_str_help.specs.Help.{begins_with_letter, first_piece, is_letter, is_like, syntax_help}
@@ -20,7 +20,7 @@ use Rattle.duration_str.proofs.LawProofs.MendedPlaces.{after_place, IsPlaced, pl
 use Rattle.duration_str.proofs.LawProofs.MendedTerms.{cut_out, fraction_found, HasUnit, IsFractionAt, scalars_before}
 use Rattle.duration_str.proofs.LawProofs.MendedTokens.{apart_last, apart_nothing, apart_past, cut_before, IsApart}
 use Rattle.duration_str_reading.proofs.Cutting.SortLemmas.{digits_are_lexeme}
-use Rattle.duration_str_units.proofs.CharacterLemmas.{all_weaker, byte_count}
+use Rattle.duration_str_base.proofs.CharacterLemmas.{all_weaker, byte_count}
 use Rattle.std.proofs.Math.Seq.{take-append_seam}
 
 -- ---- The end of a piece

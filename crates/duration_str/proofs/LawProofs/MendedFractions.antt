@@ -8,15 +8,15 @@ use Rattle.std.proofs.lemmas.List.Folds.{list_all_at}
 use Rattle.std.specs.Prelude.{slice_index}
 use Rattle.duration_str_help.specs.declared.help.Help.TheVariants.{Fraction}
 use Rattle.duration_str_help.specs.declared.suggestion.Replacement.{Replacement}
-use Rattle.duration_str_units.specs.declared.rules.Rules.{Rules as CodeRules}
+use Rattle.duration_str_base.specs.declared.rules.Rules.{Rules as CodeRules}
 use Rattle.duration_str_help.specs.Fraction.{as_term, longest_whole, nanos_of_fraction}
 use Rattle.duration_str.specs.Mended.{FractionsAreMended, mended_text, MendedFractions}
 use Rattle.duration_str_help.specs.Help.{begins_with_letter, first_piece, help_name, is_letter, is_like, near_unit, small_words, syntax_help, with_micro_sign}
 use Rattle.duration_str_help.specs.Mends.{fraction_replacement, fraction_with, meant_unit, replacement_of, Pieces, pieces_of, unit_ahead}
-use Rattle.duration_str_units.proofs.CharacterLemmas.{all_weaker, digit-not_blank}
+use Rattle.duration_str_base.proofs.CharacterLemmas.{all_weaker, digit-not_blank}
 use Rattle.duration_str_reading.proofs.Cutting.RunLemmas.{decimal_terminal}
-use Rattle.duration_str_units.proofs.PackedLemmas.{no_name}
-use Rattle.duration_str_units.proofs.UnitLemmas.{all_units, named_passes}
+use Rattle.duration_str_base.proofs.PackedLemmas.{no_name}
+use Rattle.duration_str_base.proofs.UnitLemmas.{all_units, named_passes}
 use Rattle.duration_str_reading.proofs.Cutting.TokenLemmas.{tokens_step}
 use Rattle.duration_str_help.proofs.FractionLemmas.{end_all, quotient_some}
 use Rattle.duration_str_help.proofs.MendedBytes.{blank_no_letter, blank_small, digit_small, first_char, is_small, past_small, plain_no_letter, run_cons, run_stops, small_len}

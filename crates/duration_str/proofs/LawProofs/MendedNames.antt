@@ -1,10 +1,10 @@
 -- The names of units that a mend writes, and the words that it replaces.
 use Rattle.duration_str.proofs.Common.{[], and_parts, arith, Bool, byte_len, bytes_eq, cases_Bool, chinese_letters, comparison_form, EndsRun, eqb-true, false, false_from_ne_true, find, Humantime, if◌then◌else◌, inl, inr, is_ascii_alphabetic, is_chinese, is_unit_letter, IsLexeme, leb, leb-true, length, List, list_all, list_any, map, meaning_of, More, more_names, more_rules, nat_tests, None, off, Options, or_cases, Own, refl, Rules, scalars, Some, table_of, terminal_of, TimeUnit, to_ascii_lowercase, true, unit_of_word, UnitRow, units, UnitTable, word, ℕ, ◌&&◌, ◌==◌, ◌||◌, ◌∙◌, ◌∷◌, ◌≡◌, ◌≤◌}
-use Rattle.duration_str_units.proofs.UnitLemmas.{all_units, each_unit, named_passes}
-use Rattle.duration_str_units.specs.declared.rules.Rules.{Rules as CodeRules}
-use Rattle.duration_str_units.proofs.PackedLemmas.{no_long_name}
+use Rattle.duration_str_base.proofs.UnitLemmas.{all_units, each_unit, named_passes}
+use Rattle.duration_str_base.specs.declared.rules.Rules.{Rules as CodeRules}
+use Rattle.duration_str_base.proofs.PackedLemmas.{no_long_name}
 use Rattle.duration_str.proofs.LawProofs.NearWords.{advised_small, found_among}
-use Rattle.duration_str_units.proofs.CharacterLemmas.{letter-not_digit, width_some}
+use Rattle.duration_str_base.proofs.CharacterLemmas.{letter-not_digit, width_some}
 use Rattle.duration_str_help.specs.Help.{begins_with_letter, help_name, is_letter, near_unit, small_words, with_micro_sign}
 
 -- ---- A suggested name

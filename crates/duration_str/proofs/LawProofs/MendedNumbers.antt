@@ -2,7 +2,7 @@
 use Rattle.duration_str.proofs.Common.{[], add-zero, allows, and_from, and_parts, ap, append-nil, append_assoc, are_of_one_run, AreTokens, arith, BeginsSentence, Bool, byte_len, cases_Bool, EndsRun, Expected, expected_after, false, false_from_ne_true, goes_on, inl, inr, is_blank, is_digit, is_unit_letter, IsLexeme, IsRefused, IsTrue, last_of, length, length-append, List, list_all, list_all-append, map-append, None, not, number, number_of, operator, Option, Options, other, refl, Rules, Some, Stops, sym, Syntax, take, Terminal, terminal_of, terminals_of, TimeUnit, Token, tokens_from, tokens_of, true, unit_of_word, width, with_first_character, word, ℕ, ◌&&◌, ◌++◌, ◌+◌, ◌||◌, ◌==◌, ◌∙◌, ◌∷◌, ◌≡◌, ◌≢◌, ◌≤◌}
 use Rattle.duration_str_help.specs.Help.{begins_with_letter, is_letter}
 use Rattle.duration_str_help.specs.Mends.{ends_unit}
-use Rattle.duration_str_units.proofs.CharacterLemmas.{byte_len-append, digit-not_letter, letter-not_digit}
+use Rattle.duration_str_base.proofs.CharacterLemmas.{byte_len-append, digit-not_letter, letter-not_digit}
 use Rattle.duration_str_reading.proofs.Cutting.RunLemmas.{run-not_blank}
 use Rattle.duration_str_reading.proofs.Cutting.SortLemmas.{digits_are_lexeme, terminal_cases}
 use Rattle.duration_str_reading.proofs.Cutting.TokenLemmas.{tokens_are, tokens_step}

@@ -5,7 +5,7 @@ use Rattle.std.specs.Prelude.{slice_index}
 use Rattle.std.proofs.lemmas.List.{drop-drop}
 use Rattle.duration_str_help.specs.declared.suggestion.Replacement.{Replacement}
 use Rattle.duration_str_help.specs.declared.suggestion.Suggestion.{Suggestion}
-use Rattle.duration_str_units.specs.declared.rules.Rules.{Rules as CodeRules}
+use Rattle.duration_str_base.specs.declared.rules.Rules.{Rules as CodeRules}
 use Rattle.duration_str_help.specs.Fraction.{end_run}
 use Rattle.duration_str_help.specs.Help.{begins_with_letter, help_name}
 use Rattle.duration_str_help.specs.Mends.{name_alone, nothing, Pieces, pieces_of, removed_if, suggestion_text}
@@ -16,7 +16,7 @@ use Rattle.duration_str_help.proofs.MendedBytes.{blank_small, digit_small, end_c
 use Rattle.duration_str.proofs.LawProofs.MendedNames.{name_read, name_scalars, written}
 use Rattle.duration_str.proofs.LawProofs.MendedNumbers.{front_begins, IsSeamed, joined_digits, mends, name_said, nothing_seamed}
 use Rattle.duration_str.proofs.LawProofs.MendedTokens.{apart_blank, IsApart}
-use Rattle.duration_str_units.proofs.CharacterLemmas.{all_weaker, byte_count}
+use Rattle.duration_str_base.proofs.CharacterLemmas.{all_weaker, byte_count}
 use Rattle.duration_str_reading.proofs.OnePass.PlaceLemmas.{fault_placed}
 use Rattle.duration_str_reading.proofs.Sentences.AnswerLemmas.{answer_refused}
 

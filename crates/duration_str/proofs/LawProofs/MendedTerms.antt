@@ -7,13 +7,13 @@ use Rattle.std.proofs.Math.Seq.{drop-append_seam, take-append_seam}
 use Rattle.duration_str.specs.Mended.{IsExactly}
 use Rattle.duration_str_help.specs.declared.suggestion.Suggestion.{Suggestion}
 use Rattle.duration_str_help.specs.declared.suggestion.Replacement.{Replacement}
-use Rattle.duration_str_units.specs.declared.rules.Rules.{Rules as CodeRules}
+use Rattle.duration_str_base.specs.declared.rules.Rules.{Rules as CodeRules}
 use Rattle.duration_str_help.specs.Fraction.{as_term, end_run, is_whole_in, longest_whole, nanos_of_fraction, whole_quotient}
 use Rattle.duration_str_help.specs.Help.{begins_with_letter, first_piece, help_name, is_letter}
 use Rattle.duration_str_help.specs.Mends.{can_end_number, fraction_replacement, fraction_with, meant_unit, unit_ahead}
-use Rattle.duration_str_units.proofs.CharacterLemmas.{all_weaker}
-use Rattle.duration_str_units.proofs.NumberLemmas.{decimal_digits}
-use Rattle.duration_str_units.proofs.PackedLemmas.{no_long_name}
+use Rattle.duration_str_base.proofs.CharacterLemmas.{all_weaker}
+use Rattle.duration_str_base.proofs.NumberLemmas.{decimal_digits}
+use Rattle.duration_str_base.proofs.PackedLemmas.{no_long_name}
 use Rattle.duration_str_help.proofs.MendedBytes.{blank_no_letter, blank_small, digit_small, end_cut, EndCut, first_char, is_small, past_small, plain_no_letter, run_parts, run_stops, RunParts, small_chars, small_utf8}
 use Rattle.duration_str.proofs.LawProofs.MendedNames.{length-le-bytes, name_read, name_scalars, near_short, written}
 use Rattle.duration_str.proofs.LawProofs.MendedNumbers.{term_in_place, term_said}

@@ -1,6 +1,6 @@
 -- Texts that are cut where a syntax fault is.
 use Rattle.duration_str.proofs.Common.{[], and_parts, ap, append-nil, append_assoc, are_of_one_run, AreTokens, arith, BeginsSentence, byte_len, CanFollow, Cause, drop-nil, early, EndsRun, Expected, false, false_from_ne_true, goes_on, is_blank, is_digit, is_unit_letter, IsBlank, IsLexeme, IsRefused, IsRefusedAt, late, length, lexemes_of, List, list_all, map, Options, refl, Rules, rules, Some, start_after, suc, sym, Syntax, syntax_fault, take, Terminal, terminal_of, terminals_of, Token, tokens_of, true, width, zero, ℕ, ⊤, ◌++◌, ◌+◌, ◌∙◌, ◌∷◌, ◌≡◌, ◌≤◌}
-use Rattle.duration_str_units.proofs.CharacterLemmas.{byte_len-append, digit-not_blank, letter-not_blank, width_some}
+use Rattle.duration_str_base.proofs.CharacterLemmas.{byte_len-append, digit-not_blank, letter-not_blank, width_some}
 use Rattle.duration_str_reading.proofs.Cutting.RunLemmas.{run-not_blank}
 use Rattle.duration_str_reading.proofs.Cutting.TokenLemmas.{same_all, same_end, tokens_are, tokens_once}
 use Rattle.duration_str_reading.proofs.OnePass.PlaceLemmas.{early_stands, late_stands}

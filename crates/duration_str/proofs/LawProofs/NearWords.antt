@@ -2,8 +2,8 @@ use Rattle.duration_str.proofs.Common.{[], all_names, arith, bytes_eq, bytes_eq-
 use Rattle.std.specs.Option.{option_map}
 use Rattle.duration_str.specs.Laws.{IsAdvised, NearWords}
 use Rattle.duration_str_help.specs.Help.{help_name, near_unit, small_words}
-use Rattle.duration_str_units.proofs.UnitLemmas.{all_units, each_unit, named_unit}
-use Rattle.duration_str_units.proofs.PackedLemmas.{no_letter_mu, no_letter_name, no_name}
+use Rattle.duration_str_base.proofs.UnitLemmas.{all_units, each_unit, named_unit}
+use Rattle.duration_str_base.proofs.PackedLemmas.{no_letter_mu, no_letter_name, no_name}
 
 lower_twice : (word : List ℕ) → map to_ascii_lowercase (map to_ascii_lowercase word) ≡ map to_ascii_lowercase word
 lower_twice [] = refl

@@ -1,5 +1,5 @@
 use Rattle.duration_str.proofs.Common.{[], allows, ap, append-nil, ap₂, cases_Bool, Cause, CondUnit, expected_after, inl, inr, is_digit, is_unit_letter, IsRead, IsRefused, IsRefusedAt, IsSentence, IsSentenceOf, IsTrue, List, list_all, map, nanos_of, None, number, older_rules, older_table, OlderTexts, operator, Option, Options, Plus, refl, rules, rules_of, sentence_fault, Some, Terminal, terminal_of, terms_after, terms_of, TimeUnit, unit_of_word, WasRefused, word, written_terms, ℕ, ⊤, ◌∙◌, ◌∷◌, ◌≡◌, Rules, rules_with, row_of, Table, MoreNames, more_row_of, sym, unwrap_or, Second}
-use Rattle.duration_str_units.proofs.PackedLemmas.{named_with_more}
+use Rattle.duration_str_base.proofs.PackedLemmas.{named_with_more}
 use Rattle.duration_str_reading.proofs.Sentences.AnswerLemmas.{sentence_refused}
 use Rattle.duration_str_reading.proofs.Sentences.FrontLemmas.{AreAllowed, sentence_allowed}
 

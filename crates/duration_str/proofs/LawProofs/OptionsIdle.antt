@@ -1,5 +1,5 @@
 use Rattle.duration_str.proofs.Common.{[], and_parts, answer, answer_at, arith, Bool, byte_len, bytes_eq, Cause, drop, false, front_of, goes_on, HasNoCapital, HasNoChinese, if◌then◌else◌, is_chinese, is_unit_letter, IsIdle, IsRead, IsRefused, IsTrue, List, list_all, list_any, map, not, not-true, off, Option, Options, OptionsIdle, refl, Result, Rules, rules, rules_with, start_after, sym, take, Terminal, terminal_of, terminals_of, TimeUnit, to_ascii_lowercase, Token, tokens_from, tokens_of, true, unit_of_word, width, with_lowercase, ℕ, ◌+◌, ◌∙◌, ◌∷◌, ◌≡◌}
-use Rattle.duration_str_units.proofs.UnitLemmas.{named_passes}
+use Rattle.duration_str_base.proofs.UnitLemmas.{named_passes}
 use Rattle.duration_str_reading.proofs.Sentences.SpellingLemmas.{EachPasses, lexemes_pass, tokens_spell}
 use Rattle.duration_str_reading.proofs.Sentences.AnswerLemmas.{answer_read, answer_refused}
 

@@ -1,4 +1,4 @@
-use Rattle.duration_str_units.specs.Units.{units}
+use Rattle.duration_str_base.specs.Units.{units}
 use Rattle.duration_str_c.specs.Answers.{unit_field}
 use Rattle.std.proofs.Common.{rules, ◌-◌, ◌∙◌}
 use Rattle.duration_str_c.proofs.AnswerLemmas.{copied_at}

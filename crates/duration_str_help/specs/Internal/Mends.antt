@@ -4,8 +4,8 @@ use Rattle.std.specs.Str.{IsCharBoundary}
 use Rattle.duration_str_help.specs.declared.help.Help.{Help}
 use Rattle.duration_str_help.specs.declared.help.Help.TheVariants.{DidYouMean}
 use Rattle.duration_str_help.specs.declared.suggestion.Replacement.{Replacement}
-use Rattle.duration_str_units.specs.declared.unit.TimeUnit.{TimeUnit}
-use Rattle.duration_str_units.specs.Text.{Bytes}
+use Rattle.duration_str_base.specs.declared.unit.TimeUnit.{TimeUnit}
+use Rattle.duration_str_base.specs.Text.{Bytes}
 
 -- The part starts and ends at character boundaries of the text.
 pub record IsCutOut (text : Bytes) (replacement : Replacement) : Type 0 where

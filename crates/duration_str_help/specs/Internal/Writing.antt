@@ -1,7 +1,7 @@
 -- Bytes written to the start of a buffer.
 use Rattle.std.specs.Prelude.{◌≡◌, ℕ, Option, IsNone}
 use Rattle.duration_str_help.specs.Buffers.{IsInFront}
-use Rattle.duration_str_units.specs.Text.{Bytes}
+use Rattle.duration_str_base.specs.Text.{Bytes}
 
 -- If the result is `Some end`, the new buffer starts with the bytes, which end at `end`. If it is
 -- `None`, the buffer is shorter than the bytes, and is unchanged.

@@ -1,12 +1,12 @@
 -- The bytes of a printed duration, built unit by unit.
 use Rattle.std.specs.Prelude.{ℕ, Bool, List, [], ◌∷◌, ◌++◌, if◌then◌else◌, ◌==◌, decimal, encode_utf8_all, map}
 unfoldable pub use Rattle.std.specs.Fmt.{digits}
-use Rattle.duration_str_units.specs.declared.unit.TimeUnit.{TimeUnit}
+use Rattle.duration_str_base.specs.declared.unit.TimeUnit.{TimeUnit}
 use Rattle.duration_str_printing.specs.declared.format.Style.{Style}
 use Rattle.duration_str_printing.specs.declared.format.Style.TheVariants.{Compact}
-use Rattle.duration_str_units.specs.Text.{Bytes, Characters}
+use Rattle.duration_str_base.specs.Text.{Bytes, Characters}
 use Rattle.duration_str_printing.specs.Printing.{before_name, name_in}
-use Rattle.duration_str_units.specs.Units.{nanos_of}
+use Rattle.duration_str_base.specs.Units.{nanos_of}
 use Rattle.duration_str_printing.specs.Format.{counts_within}
 
 -- the bytes, followed by the space between two parts, unless the bytes are empty or the style is

@@ -2,11 +2,11 @@
 -- number of looks.
 use Rattle.duration_str_reading.proofs.Common.{[], add-zero, ahead, and_from, ap, append_assoc, append_cancel_right, arith, Between, Bool, byte_len, chars, chars-append, drop, drop-drop, encodes-chars, EndsRun, ForSome, if◌then◌else◌, is_digit, is_some, is_unit_letter, IsCharBoundary, IsLexeme, IsUtf8, IsUtf8-drop, IsUtf8-take, length, length-append, length-drop, length-le-encodes, letter_number, List, list_all-append, meaning_of, None, number_after, number_of, Option, Options, Passes, refl, table_of, Rules, slice_range, Some, Stands, StandsAt, sym, take, take-append-drop, TakesDigits, TakesLetters, TimeUnit, tokens_from, true, u64_from, unit_of_packed, unit_of_word, width, ℕ, ◌%◌, ◌*◌, ◌++◌, ◌+◌, ◌-◌, ◌<◌, ◌^◌, ◌∙◌, ◌∷◌, ◌≡◌, ◌≤◌, rules}
 pub use Rattle.duration_str_reading.proofs.Cutting.TokenLemmas.{blanks_no_token, tokens_step}
-use Rattle.duration_str_units.specs.declared.rules.Rules.{Rules as CodeRules}
-use Rattle.duration_str_units.proofs.CharacterLemmas.{byte_len-append}
-use Rattle.duration_str_units.proofs.NumberLemmas.{decimal_digits}
+use Rattle.duration_str_base.specs.declared.rules.Rules.{Rules as CodeRules}
+use Rattle.duration_str_base.proofs.CharacterLemmas.{byte_len-append}
+use Rattle.duration_str_base.proofs.NumberLemmas.{decimal_digits}
 use Rattle.std.proofs.lemmas.Str.Parse.{digits_value_short}
-use Rattle.duration_str_units.proofs.PackedLemmas.{exact, no_long_name, unit_by_number, packed_after-push, length-le-byte_len}
+use Rattle.duration_str_base.proofs.PackedLemmas.{exact, no_long_name, unit_by_number, packed_after-push, length-le-byte_len}
 
 -- ---- looks
 

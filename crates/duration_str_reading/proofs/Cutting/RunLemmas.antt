@@ -1,7 +1,7 @@
 -- Runs of digits and of letters.
 use Rattle.duration_str_reading.proofs.Common.{and_parts, are_of_one_run, arith, Bool, false, is_blank, is_digit, IsTrue, length, List, list_all, Options, or_cases, rules, true, ℕ, ◌&&◌, ◌<◌, ◌||◌, ◌≡◌, cond-true, decimal, decimal_nonempty, digits_decimal, digits_value-decimal, number, number_of, Rules, terminal_of, ◌^◌}
-use Rattle.duration_str_units.proofs.CharacterLemmas.{digit-not_blank, digit-not_letter, letter-not_blank}
-use Rattle.duration_str_units.proofs.NumberLemmas.{decimal_digits}
+use Rattle.duration_str_base.proofs.CharacterLemmas.{digit-not_blank, digit-not_letter, letter-not_blank}
+use Rattle.duration_str_base.proofs.NumberLemmas.{decimal_digits}
 
 -- `a`, `b` and `c` say of three characters whether they are digits, and `p`, `q` and `r` whether
 -- they are unit letters.

@@ -1,6 +1,6 @@
 -- Lemmas about terminals and their sorts, and about tokens by their first character.
 use Rattle.duration_str_reading.proofs.Common.{[], add-zero, ahead, and_from, and_parts, are_of_one_run, AreTokens, arith, Between, Bool, cases_Bool, common_steps, CondUnit, EndsRun, false, goes_on, if◌then◌else◌, inl, inr, is_blank, is_digit, is_number, is_unit_letter, IsLexeme, IsNumber, IsSign, IsTrue, length, List, list_all, None, Number, number, number_of, operator, operator_of, operator_or_other, Option, Options, or_right, other, Passes, refl, Rules, rules, sign_sort, sign_terminal, Some, sort_at, sort_of, StandsAt, Stops, Terminal, terminal_of, TimeUnit, Token, tokens_from, TokenStart, true, unit_of_word, with_first_character, Word, word, ℕ, ◌<◌, ◌∷◌, ◌≡◌}
-use Rattle.duration_str_units.proofs.CharacterLemmas.{all_weaker, digit-not_blank, digit-not_letter, letter-not_blank, letter-not_digit}
+use Rattle.duration_str_base.proofs.CharacterLemmas.{all_weaker, digit-not_blank, digit-not_letter, letter-not_blank, letter-not_digit}
 use Rattle.duration_str_reading.proofs.Cutting.TokenLemmas.{tokens_are}
 use Rattle.duration_str_reading.proofs.Cutting.PositionLemmas.{TakesWord}
 

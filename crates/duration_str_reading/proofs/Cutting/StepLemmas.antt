@@ -1,6 +1,6 @@
 -- Lemmas about the steps of `Tokens`: what is ahead, and the next token.
 use Rattle.duration_str_reading.proofs.Common.{[], ahead, arith, cut_place, ForSome, is_blank, is_digit, is_unit_letter, IsAhead, IsCharBoundary, IsSign, IsUtf8, IsUtf8-had, KeepsInput, length, length-drop, length-take-le, List, LooksAhead, None, Number, number_of, Option, options_of, Other, other, Passes, refl, Rules, rules, rules_at, rules_of, slice_range, Some, sort_of, source, Stands, StandsAt, Stops, sym, TakesDigits, TakesNumber, TakesToken, TakesTokenWith, Terminal, terminal_of, TimeUnit, Token, Tokens, tokens_left, TokenStart, u64_from, what_of, width, Word, word, YieldsNextToken, ℕ, ◌+◌, ◌<◌, ◌∙◌, ◌∷◌, ◌≡◌}
-use Rattle.duration_str_units.proofs.NumberLemmas.{bytes_of_digits}
+use Rattle.duration_str_base.proofs.NumberLemmas.{bytes_of_digits}
 use Rattle.duration_str_reading.proofs.Cutting.PositionLemmas.{chars_between, place_at_end, TakesWord, token_taken}
 use Rattle.duration_str_reading.proofs.Cutting.SortLemmas.{digit_of_sort, first_token, letter_of_sort, number_stands, sign_of_sort, sign_sorts, sign_stands, StandsToken, word_stands}
 use Rattle.duration_str_reading.specs.declared.token.Token.{Token as RustToken}

@@ -2,7 +2,7 @@
 use Rattle.duration_str_reading.proofs.Common.{[], answer, answer_left, ap, append-nil, append_assoc, AreTokens, arith, Bool, byte_len, Cause, chars, chars-append, common_steps, CondUnit, drop, drop-nil, early, early_fault, encodes, encodes-append, encodes-chars, Err, evaluation_fault, false, fault_of_terms, ForSome, IfSome, IsCharBoundary, IsCharBoundary-at_seam, IsCharBoundary-start, IsRefused, IsUtf8, IsUtf8-take, late, late_fault, length, length-append, lexemes_of, List, map, Option, Options, options_of, or_else, place_of, refl, rest_from, rest_of, Result, Rules, running_fault, scalars-chars, source, start_after, start_left, suc, sym, Syntax, syntax_fault, take, take-add, Term, Terminal, terminal_of, terminals_left, Token, Tokens, tokens_left, tokens_of, unless, zero, ℕ, ◌++◌, ◌+◌, ◌-◌, ◌<◌, ◌==◌, ◌∙◌, ◌∷◌, ◌≡◌, ◌≤◌, rules}
 use Rattle.duration_str_reading.specs.Place.{ReachesPlace}
 use Rattle.duration_str_reading.specs.Internal.Rest.{IsPlacedUpTo}
-use Rattle.duration_str_units.proofs.CharacterLemmas.{byte_len-append, encoded_parts, byte_count}
+use Rattle.duration_str_base.proofs.CharacterLemmas.{byte_len-append, encoded_parts, byte_count}
 use Rattle.duration_str_reading.proofs.Cutting.TokenLemmas.{tokens_are}
 use Rattle.duration_str_reading.proofs.Sentences.AnswerLemmas.{answer_refused}
 use Rattle.std.proofs.lemmas.Bool.{eqb-false}

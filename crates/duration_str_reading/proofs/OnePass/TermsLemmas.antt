@@ -4,7 +4,7 @@ use Rattle.duration_str_reading.proofs.Sentences.FrontLemmas.{begins_allowed, wh
 use Rattle.duration_str_reading.proofs.Sentences.SumLemmas.{AreAdded, terms_added}
 use Rattle.duration_str_reading.proofs.Sentences.AnswerLemmas.{allowed_plus}
 use Rattle.duration_str_reading.proofs.OnePass.EvaluationLemmas.{answer_after_first, answer_of, answer_given, one_by_one}
-use Rattle.duration_str_units.proofs.TermLemmas.{checked_term_is}
+use Rattle.duration_str_base.proofs.TermLemmas.{checked_term_is}
 use Rattle.duration_str_reading.proofs.OnePass.ReaderLemmas.{after_token}
 
 abbrev pub fault_at : ℕ → Expected → List Terminal → Option Cause

@@ -1,7 +1,7 @@
 -- A sentence spells a text exactly if its lexemes are those of the text's tokens.
 use Rattle.duration_str_reading.proofs.Common.{[], allows, and_parts, are_of_one_run, AreTokens, BeginsWith, Bool, byte_len, EndsRun, Expected, expected_after, false, false_from_ne_true, goes_on, is_blank, IsBlank, IsLexeme, IsSentenceOf, IsTrue, lexemes_of, List, list_all, list_all-append, map, None, Option, Options, refl, Rules, rules, Some, sort_of, Spells, sym, Terminal, terminal_of, terminals_of, Token, tokens_of, true, ℕ, ⊤, ◌++◌, ◌+◌, ◌∙◌, ◌∷◌, ◌≡◌, or_cases, arith, nat_tests}
 use Rattle.duration_str_reading.proofs.Cutting.RunLemmas.{run-not_blank}
-use Rattle.duration_str_units.proofs.CharacterLemmas.{letter-not_digit}
+use Rattle.duration_str_base.proofs.CharacterLemmas.{letter-not_digit}
 use Rattle.duration_str_reading.proofs.Cutting.TokenLemmas.{tokens_are, tokens_once}
 use Rattle.duration_str_reading.proofs.Cutting.SortLemmas.{digits_are_lexeme, letters_are_lexeme, lexeme_sort, terminal_cases}
 use Rattle.duration_str_reading.proofs.Sentences.FrontLemmas.{AreAllowed, sentence_allowed}

@@ -1,6 +1,6 @@
 -- Lemmas about sums: their value, and when they have no fault.
 use Rattle.duration_str_reading.proofs.Common.{[], AllPlus, ap, append-nil, append_assoc, arith, Bool, cases_lt, Cause, combination, CondUnit, Evaluates, evaluation_fault, fault_of_terms, first_fault, fits, is_same_operator, IsSentence, later_total, le-ltb, length, List, list_all, lt-ltb, ltb-true, Mixed, None, number, operator, Option, Options, or_else, Overflow, place_after, Plus, refl, Rules, rules, rules_with, running_fault, Second, Some, sum_of, Term, term_fault, Terminal, terms_after, terms_of, TimeUnit, true, unless, unwrap_or, value_of, value_of_term, word, ℕ, ⊤, ◌++◌, ◌+◌, ◌<◌, ◌^◌, ◌↔◌, ◌∷◌, ◌≡◌, ◌≤◌}
-use Rattle.duration_str_units.proofs.UnitLemmas.{some_length}
+use Rattle.duration_str_base.proofs.UnitLemmas.{some_length}
 
 -- ---- When there is no fault
 

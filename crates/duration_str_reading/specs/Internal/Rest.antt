@@ -1,21 +1,21 @@
 -- What is left of a text while it is read, and what is read from it.
 use Rattle.std.specs.Prelude.{◌≡◌, ℕ, zero, suc, ◌≤◌, List, [], ◌∷◌, length, take, drop, Option, Some, None, Result, Ok, Err, IfErr, if◌then◌else◌}
 use Rattle.std.specs.Option.{ForSome, ok_or}
-use Rattle.duration_str_units.specs.declared.unit.TimeUnit.{TimeUnit}
-use Rattle.duration_str_units.specs.declared.operator.CondUnit.{CondUnit}
-use Rattle.duration_str_units.specs.declared.operator.CondUnit.TheVariants.{Plus}
-use Rattle.duration_str_units.specs.declared.cause.Cause.{Cause}
-use Rattle.duration_str_units.specs.declared.cause.Cause.TheVariants.{Syntax, Overflow, Mixed}
-use Rattle.duration_str_units.specs.declared.cause.Expected.{Expected}
+use Rattle.duration_str_base.specs.declared.unit.TimeUnit.{TimeUnit}
+use Rattle.duration_str_base.specs.declared.operator.CondUnit.{CondUnit}
+use Rattle.duration_str_base.specs.declared.operator.CondUnit.TheVariants.{Plus}
+use Rattle.duration_str_base.specs.declared.cause.Cause.{Cause}
+use Rattle.duration_str_base.specs.declared.cause.Cause.TheVariants.{Syntax, Overflow, Mixed}
+use Rattle.duration_str_base.specs.declared.cause.Expected.{Expected}
 use Rattle.duration_str_reading.specs.declared.token.Tokens.{Tokens}
-use Rattle.duration_str_units.specs.Rules.{Rules}
+use Rattle.duration_str_base.specs.Rules.{Rules}
 use Rattle.duration_str_reading.specs.Grammar.{Terminal, number, word, operator, terminal_of}
 use Rattle.duration_str_reading.specs.Tokens.{Token}
 use Rattle.duration_str_reading.specs.Value.{combination, is_same_operator}
-use Rattle.duration_str_units.specs.Term.{unless, fault_or}
-use Rattle.duration_str_units.specs.Internal.Numbers.{u64_from, checked_term}
+use Rattle.duration_str_base.specs.Term.{unless, fault_or}
+use Rattle.duration_str_base.specs.Internal.Numbers.{u64_from, checked_term}
 use Rattle.duration_str_reading.specs.Answer.{answer_at, expected_at_start, expected_after_number, expected_after_unit, front_of}
-use Rattle.duration_str_units.specs.Causes.{place_of}
+use Rattle.duration_str_base.specs.Causes.{place_of}
 use Rattle.duration_str_reading.specs.Iteration.{source, cut_place, tokens_left}
 use Rattle.duration_str_reading.specs.Internal.Steps.{IsAhead, rules_at}
 use Rattle.duration_str_reading.specs.declared.token.TokenStart.TheVariants.{Number}

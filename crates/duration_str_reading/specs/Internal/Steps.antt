@@ -1,16 +1,16 @@
 -- What the private calls of `Tokens` do: they look ahead, and take the token ahead.
 use Rattle.std.specs.Prelude.{◌≡◌, ℕ, Bool, true, false, ◌∷◌, Option, Some, None, ⊤, if◌then◌else◌}
-use Rattle.duration_str_units.specs.declared.options.Options.{Options}
-use Rattle.duration_str_units.specs.declared.operator.CondUnit.{CondUnit}
+use Rattle.duration_str_base.specs.declared.options.Options.{Options}
+use Rattle.duration_str_base.specs.declared.operator.CondUnit.{CondUnit}
 use Rattle.duration_str_reading.specs.declared.token.TokenStart.{TokenStart}
 use Rattle.duration_str_reading.specs.declared.token.TokenStart.TheVariants as sorts
 use Rattle.duration_str_reading.specs.declared.token.Tokens.{Tokens}
-use Rattle.duration_str_units.specs.Text.{Characters, is_blank, is_digit, is_unit_letter, operator_of}
-use Rattle.duration_str_units.specs.Rules.{Rules}
+use Rattle.duration_str_base.specs.Text.{Characters, is_blank, is_digit, is_unit_letter, operator_of}
+use Rattle.duration_str_base.specs.Rules.{Rules}
 use Rattle.duration_str_reading.specs.Grammar.{Terminal, number, word, operator, other, terminal_of}
 use Rattle.duration_str_reading.specs.Iteration.{source, options_of, cut_place, tokens_left, KeepsInput}
-use Rattle.duration_str_units.specs.Internal.Numbers.{u64_from}
-use Rattle.duration_str_units.specs.Internal.Positions.{Between}
+use Rattle.duration_str_base.specs.Internal.Numbers.{u64_from}
+use Rattle.duration_str_base.specs.Internal.Positions.{Between}
 
 -- ---- Sorts
 

@@ -1,6 +1,6 @@
 use Rattle.std.proofs.Common.{rules, ◌∙◌, sym, ap, IsUtf8}
-use Rattle.duration_str_units.specs.Text.{byte_len}
-use Rattle.duration_str_units.proofs.CharacterLemmas.{byte_count}
+use Rattle.duration_str_base.specs.Text.{byte_len}
+use Rattle.duration_str_base.proofs.CharacterLemmas.{byte_count}
 use Rattle.duration_str_c.specs.Answers.{token_length}
 use Rattle.duration_str_c.proofs.answer.found_length.Goals as goal
 

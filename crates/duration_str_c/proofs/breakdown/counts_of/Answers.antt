@@ -1,7 +1,7 @@
 use Rattle.std.proofs.Common.{ap, append-nil, arith, List, sym, [], ℕ, ◌++◌, ◌∙◌, ◌≡◌, ◌≤◌, ◌^◌}
 use Rattle.std.proofs.lemmas.Grind.{common_steps}
 use Rattle.duration_str_printing.specs.Breakdown.{parts_left, sum_of_parts}
-use Rattle.duration_str_units.specs.declared.unit.TimeUnit.{TimeUnit}
+use Rattle.duration_str_base.specs.declared.unit.TimeUnit.{TimeUnit}
 use Rattle.duration_str_printing.proofs.PartsAndRest.{add_up, come_first}
 use Rattle.duration_str_c.proofs.BreakdownLemmas.{large_count, parts_left_from, with_counts, with_counts_all}
 use Rattle.duration_str_c.proofs.breakdown.counts_of.Goals as goal

@@ -1,6 +1,6 @@
 use Rattle.std.proofs.Common.{map, ◌≡◌}
 use Rattle.duration_str_printing.specs.Breakdown.{parts_left}
-use Rattle.duration_str_units.specs.Units.{units}
+use Rattle.duration_str_base.specs.Units.{units}
 use Rattle.duration_str_c.proofs.BreakdownLemmas.{with_counts}
 use Rattle.duration_str_c.proofs.breakdown.counts_of.Given as goal
 

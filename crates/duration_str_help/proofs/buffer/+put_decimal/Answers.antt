@@ -1,5 +1,5 @@
 use Rattle.duration_str_help.proofs.Common.{arith, refl}
-use Rattle.duration_str_units.proofs.DigitLemmas.{put_last}
+use Rattle.duration_str_base.proofs.DigitLemmas.{put_last}
 use Rattle.duration_str_help.proofs.ShortLemmas.{quoted_stops}
 use Rattle.duration_str_help.proofs.buffer.+put_decimal.Goals as goal
 

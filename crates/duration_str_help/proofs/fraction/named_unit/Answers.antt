@@ -1,5 +1,5 @@
 use Rattle.duration_str_help.proofs.Common.{chars, ◌∙◌}
-use Rattle.duration_str_units.proofs.PackedLemmas.{no_micro, packed_empty, packed_parts, word_none, word_some}
+use Rattle.duration_str_base.proofs.PackedLemmas.{no_micro, packed_empty, packed_parts, word_none, word_some}
 use Rattle.duration_str_help.proofs.fraction.named_unit.Goals as goal
 
 pub returns : goal.returns

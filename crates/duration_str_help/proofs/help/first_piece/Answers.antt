@@ -1,6 +1,6 @@
 use Rattle.duration_str_help.proofs.Common.{refl, rules, sym, ◌∙◌, take-nil}
 use Rattle.duration_str_help.proofs.PieceLemmas.{taken_all, taken_boundary, taken_first, taken_more, taken_other}
-use Rattle.duration_str_units.proofs.CharacterLemmas.{chars_of_none}
+use Rattle.duration_str_base.proofs.CharacterLemmas.{chars_of_none}
 use Rattle.duration_str_help.proofs.help.first_piece.Goals as goal
 use Rattle.duration_str_help.proofs.help.first_piece.Goals.{in-Some-next+then-left-eq0, in_default-next, then-left-eq0-via-else-left-eq0+then-not-is_like, then-left-eq0-via-then-left-eq0}
 

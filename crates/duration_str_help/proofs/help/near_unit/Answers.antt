@@ -1,5 +1,5 @@
 use Rattle.duration_str_help.proofs.Common.{chars, sym, true, with_micro, ◌∙◌}
-use Rattle.duration_str_units.proofs.PackedLemmas.{added_word_some, more_word_some, packed_empty, packed_parts}
+use Rattle.duration_str_base.proofs.PackedLemmas.{added_word_some, more_word_some, packed_empty, packed_parts}
 use Rattle.duration_str_help.proofs.NearLemmas.{near_added, near_greek, near_mo, near_mos, near_none}
 use Rattle.duration_str_help.proofs.help.near_unit.Goals.{then-eq-via-then-eq, then-eq-via-else-eq+then-eq-2}
 use Rattle.duration_str_help.proofs.help.near_unit.Goals as goal

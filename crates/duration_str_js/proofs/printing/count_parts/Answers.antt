@@ -1,7 +1,7 @@
 use Rattle.std.proofs.Common.{ap, append-nil, arith, List, sym, [], ℕ, ◌++◌, ◌∙◌, ◌≡◌}
 use Rattle.duration_str_printing.specs.Breakdown.{parts_left, sum_of_parts}
 use Rattle.duration_str_printing.specs.Format.{with_each}
-use Rattle.duration_str_units.specs.declared.unit.TimeUnit.{TimeUnit}
+use Rattle.duration_str_base.specs.declared.unit.TimeUnit.{TimeUnit}
 use Rattle.duration_str_printing.proofs.PartsAndRest.{add_up, come_first}
 use Rattle.duration_str_js.specs.Printing.{units_among, with_counts}
 use Rattle.duration_str_js.proofs.printing.count_parts.Goals as goal

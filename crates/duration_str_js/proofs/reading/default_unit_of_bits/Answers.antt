@@ -1,4 +1,4 @@
-use Rattle.duration_str_units.specs.Units.{units}
+use Rattle.duration_str_base.specs.Units.{units}
 use Rattle.std.proofs.Common.{rules, ◌-◌, ◌∙◌}
 use Rattle.duration_str_js.specs.Reading.{unit_field}
 use Rattle.duration_str_js.proofs.UnitLemmas.{copied_at}

@@ -1,6 +1,6 @@
 use Rattle.std.proofs.Common.{rules, arith, ◌≡◌, ◌≤◌, ◌<◌, ◌^◌, length, Some}
 use Rattle.std.proofs.lemmas.Grind.{common_steps}
-use Rattle.duration_str_units.specs.Causes.{place_of}
+use Rattle.duration_str_base.specs.Causes.{place_of}
 use Rattle.duration_str_js.proofs.reading.place_number.Goals as goal
 
 pub overflow_cast-result : goal.overflow_cast-result

@@ -1,5 +1,5 @@
 use Rattle.duration_str_printing.proofs.Common.{arith}
-use Rattle.duration_str_units.proofs.DigitLemmas.{put_last}
+use Rattle.duration_str_base.proofs.DigitLemmas.{put_last}
 use Rattle.duration_str_printing.proofs.printing.+put_number.Goals as goal
 
 pub returns-clause-text : goal.returns-clause-text

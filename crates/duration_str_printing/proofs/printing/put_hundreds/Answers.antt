@@ -1,5 +1,5 @@
 use Rattle.duration_str_printing.proofs.Common.{ap, arith, decimal, List, ℕ, ◌%◌, ◌*◌, ◌++◌, ◌-◌, ◌/◌, ◌<◌, ◌∙◌, ◌≡◌}
-use Rattle.duration_str_units.proofs.DigitLemmas.{length_one, put_last, same_before}
+use Rattle.duration_str_base.proofs.DigitLemmas.{length_one, put_last, same_before}
 use Rattle.duration_str_printing.proofs.printing.put_hundreds.Goals as goal
 use Rattle.duration_str_printing.proofs.printing.put_hundreds.Goals.{else-n-lt10, then-n-lt10}
 

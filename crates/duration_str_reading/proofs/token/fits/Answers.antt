@@ -1,5 +1,5 @@
 use Rattle.duration_str_reading.proofs.Common.{arith, common_steps, ne_eqb}
-use Rattle.duration_str_units.proofs.NumberLemmas.{long_number}
+use Rattle.duration_str_base.proofs.NumberLemmas.{long_number}
 use Rattle.duration_str_reading.proofs.token.fits.Goals as goal
 
 pub returns-then-first-eq48 : goal.returns-then-first-eq48

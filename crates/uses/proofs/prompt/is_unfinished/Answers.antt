@@ -1,4 +1,4 @@
-use Rattle.duration_str_units.specs.Meaning.{meaning_of}
+use Rattle.duration_str_base.specs.Meaning.{meaning_of}
 use Rattle.std.proofs.Common.{rules}
 use Rattle.uses.proofs.prompt.is_unfinished.Goals as goal
 

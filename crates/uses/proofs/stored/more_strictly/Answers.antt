@@ -1,4 +1,4 @@
-use Rattle.duration_str_units.specs.Meaning.{meaning_of}
+use Rattle.duration_str_base.specs.Meaning.{meaning_of}
 use Rattle.std.proofs.Common.{chars}
 use Rattle.uses.proofs.StoredLemmas.{nanos_answered, strict_value}
 use Rattle.uses.proofs.stored.more_strictly.Goals as goal

@@ -1,6 +1,6 @@
 use Rattle.std.proofs.Common.{ap, chars, ◌∙◌}
-use Rattle.duration_str_units.specs.MoreNames.{more_row_of}
-use Rattle.duration_str_units.specs.Rules.{Rules}
+use Rattle.duration_str_base.specs.MoreNames.{more_row_of}
+use Rattle.duration_str_base.specs.Rules.{Rules}
 use Rattle.uses.proofs.StoredLemmas.{nanos_answered}
 use Rattle.uses.proofs.stored.with_more_names.Goals as goal
 

@@ -1,4 +1,4 @@
-use Rattle.duration_str_units.specs.Rules.{Rules, rules_with}
+use Rattle.duration_str_base.specs.Rules.{Rules, rules_with}
 use Rattle.std.proofs.Common.{ap, ◌∙◌}
 use Rattle.uses.proofs.sum.total_of.Goals as goal
 

@@ -1,5 +1,5 @@
 use Rattle.duration_str_reading.proofs.Common.{IsUtf8-had, sym, ◌∙◌}
-use Rattle.duration_str_units.proofs.CharacterLemmas.{past_stands}
+use Rattle.duration_str_base.proofs.CharacterLemmas.{past_stands}
 use Rattle.duration_str_reading.proofs.eye.Eye.step.Goals as goal
 
 pub invariant_of-self-clause-at_place : goal.invariant_of-self-clause-at_place

@@ -1,5 +1,5 @@
 use Rattle.duration_str_reading.proofs.Common.{arith, refl, rules, ◌∙◌}
-use Rattle.duration_str_units.proofs.PackedLemmas.{numbered_letter, unnumbered}
+use Rattle.duration_str_base.proofs.PackedLemmas.{numbered_letter, unnumbered}
 use Rattle.duration_str_reading.proofs.Cutting.PositionLemmas.{letters_head, letters_none}
 use Rattle.duration_str_reading.proofs.Cutting.StepLemmas.{fewer_ahead, keeps_on}
 use Rattle.duration_str_reading.proofs.token.Tokens.take_letters.Goals as goal

@@ -1,5 +1,5 @@
 use Rattle.duration_str_reading.proofs.Common.{arith}
-use Rattle.duration_str_units.proofs.NumberLemmas.{fitting_number}
+use Rattle.duration_str_base.proofs.NumberLemmas.{fitting_number}
 use Rattle.duration_str_reading.proofs.Cutting.PositionLemmas.{short_number}
 use Rattle.duration_str_reading.proofs.Cutting.StepLemmas.{digits_between, takes_number}
 use Rattle.duration_str_reading.proofs.token.Tokens.take_number.Goals as goal

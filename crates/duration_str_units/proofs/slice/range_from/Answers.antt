@@ -1,5 +1,0 @@
-use Rattle.duration_str_units.proofs.Common.{IsUtf8-between, rules}
-use Rattle.duration_str_units.proofs.slice.range_from.Goals as goal
-
-pub from_utf8_unchecked-requires : goal.from_utf8_unchecked-requires
-from_utf8_unchecked-requires c = search (rules, IsUtf8-between c.args.text.now c.args.from)
