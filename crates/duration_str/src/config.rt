@@ -11,8 +11,8 @@ ghost use Rattle.duration_str_refusals.specs.declared.fault.Fault.{Fault as Plai
 
 use crate::parser::parse;
 use crate::signed::parse_chrono;
-use duration_str_refusals::fault::Fault;
 use duration_str_base::cause::Cause;
+use duration_str_refusals::fault::Fault;
 use jiff::SignedDuration;
 use serde_json::Value;
 use std::time::Duration;

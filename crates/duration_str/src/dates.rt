@@ -5,8 +5,8 @@ ghost use Rattle.duration_str.specs.Dates.{IsCivil, IsCivilDay, IsDated, IsInRan
 ghost use Rattle.duration_str_base.specs.declared.cause.Cause.TheVariants.{OutOfRange};
 
 use crate::parser::parse;
-use duration_str_refusals::fault::Fault;
 use duration_str_base::cause::Cause;
+use duration_str_refusals::fault::Fault;
 use jiff::Timestamp;
 use jiff::civil::{Date, DateTime};
 use jiff::tz::Offset;

@@ -13,6 +13,7 @@ pub mod token;
 pub mod top;
 pub mod unit;
 
+pub use duration_str_base::rules::Rules;
 pub use duration_str_help::help::Help;
 pub use duration_str_help::mend::Mend;
 pub use duration_str_help::suggestion::{MAX_SUGGESTION_LEN, SUGGESTION_BUFFER_SIZE, Suggestion};
@@ -21,7 +22,6 @@ pub use duration_str_printing::format::{Format, Style, Units};
 pub use duration_str_printing::rounding::{Rounding, round_to};
 pub use duration_str_refusals::one_line::{MAX_ONE_LINE_LEN, ONE_LINE_BUFFER_SIZE};
 pub use duration_str_refusals::report::REPORT_BUFFER_SIZE;
-pub use duration_str_base::rules::Rules;
 pub use error::{DError, DResult};
 pub use ext::HumanFormat;
 pub use parser::{

@@ -10,14 +10,14 @@ ghost use Rattle.duration_str_base.specs.MoreNames.{more_rules};
 ghost use Rattle.duration_str_base.specs.Meaning.{meaning_of};
 ghost use Rattle.duration_str_base.specs.Options.{off};
 
-use duration_str_reading::reader::read;
-use duration_str_reading::token::Tokens;
-pub use duration_str_refusals::fault::Fault;
 pub use duration_str_base::cause::{Cause, Expected};
 use duration_str_base::options::Options;
 use duration_str_base::rules::Rules;
 use duration_str_base::table::UnitTable;
 use duration_str_base::unit::TimeUnit;
+use duration_str_reading::reader::read;
+use duration_str_reading::token::Tokens;
+pub use duration_str_refusals::fault::Fault;
 use std::time::Duration;
 
 /// Reads a text with all options off, and returns the duration that it means.

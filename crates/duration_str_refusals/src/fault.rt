@@ -10,14 +10,14 @@ ghost use Rattle.duration_str_base.specs.Causes.{place_of};
 ghost use Rattle.duration_str_base.specs.Meaning.{meaning_of};
 ghost use Rattle.duration_str_reading.specs.Iteration.{tokens_left, source};
 
-use duration_str_help::help::{Help, found_at, overflow_help};
-use duration_str_help::mend::{Mend, cut_out, replacement_for};
-use duration_str_help::suggestion::Replacement;
-use duration_str_reading::token::Tokens;
 use duration_str_base::cause::Cause;
 use duration_str_base::options::Options;
 use duration_str_base::rules::Rules;
 use duration_str_base::slice::range_from;
+use duration_str_help::help::{Help, found_at, overflow_help};
+use duration_str_help::mend::{Mend, cut_out, replacement_for};
+use duration_str_help::suggestion::Replacement;
+use duration_str_reading::token::Tokens;
 
 /// A refusal: the text that was read, and the cause. It prints as a message for people.
 ///

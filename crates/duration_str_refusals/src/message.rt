@@ -7,8 +7,8 @@ ghost use Rattle.duration_str_refusals.specs.Messages.{byte_text, caret_text, ch
 ghost use Rattle.duration_str_base.specs.Causes.{line_of};
 
 use crate::fault::Fault;
-use duration_str_help::buffer::{put, put_decimal};
 use duration_str_base::slice::range_to;
+use duration_str_help::buffer::{put, put_decimal};
 use std::fmt;
 
 impl Fault<'_> {

@@ -28,13 +28,13 @@ ghost use Rattle.duration_str_refusals.specs.declared.one_line.TheConstants.{MAX
 
 use crate::fault::Fault;
 use crate::message::chars_before;
+use duration_str_base::cause::{Cause, Expected};
+use duration_str_base::rules::Rules;
 use duration_str_help::buffer::{put, put_decimal};
 use duration_str_help::characters::is_clear;
 use duration_str_help::fraction::fraction_replacement;
 use duration_str_help::help::{Found, Help, MOST_SHOWN, found_at, help_words, overflow_help};
 use duration_str_help::suggestion::{Suggestion, put_suggestion};
-use duration_str_base::cause::{Cause, Expected};
-use duration_str_base::rules::Rules;
 
 /// No fault's line has more bytes than this.
 ///

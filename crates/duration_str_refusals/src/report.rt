@@ -13,10 +13,10 @@ ghost use Rattle.duration_str_refusals.specs.declared.report.TheConstants.{REPOR
 use crate::fault::Fault;
 use crate::message::Layout;
 use crate::one_line::ONE_LINE_BUFFER_SIZE;
-use duration_str_help::characters::is_clear;
 use duration_str_base::cause::Cause;
 use duration_str_base::rules::Rules;
 use duration_str_base::slice::range_to;
+use duration_str_help::characters::is_clear;
 
 /// The size of a buffer that has room for every report: 80 characters of four bytes, two spaces for
 /// each of them before the caret, the caret, two line feeds, and a line.

@@ -1,14 +1,14 @@
 // Made by tools/erase of crates/duration_str_refusals/src/fault.rt.
 //! A refused text with its cause, the token at the place of a syntax fault, the help and the mend.
 
-use crate::help::{Help, found_at, overflow_help};
-use crate::mend::{Mend, cut_out, replacement_for};
-use crate::suggestion::Replacement;
-use crate::token::Tokens;
 use crate::cause::Cause;
 use crate::options::Options;
 use crate::rules::Rules;
 use crate::slice::range_from;
+use crate::help::{Help, found_at, overflow_help};
+use crate::mend::{Mend, cut_out, replacement_for};
+use crate::suggestion::Replacement;
+use crate::token::Tokens;
 
 /// A refusal: the text that was read, and the cause. It prints as a message for people.
 ///

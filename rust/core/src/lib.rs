@@ -66,6 +66,7 @@ mod token;
 #[forbid(unsafe_code)]
 mod unit;
 
+pub use self::rules::Rules;
 pub use self::help::Help;
 pub use self::mend::Mend;
 pub use self::suggestion::{MAX_SUGGESTION_LEN, SUGGESTION_BUFFER_SIZE, Suggestion};
@@ -74,7 +75,6 @@ pub use self::format::{Format, Style, Units};
 pub use self::rounding::{Rounding, round_to};
 pub use self::one_line::{MAX_ONE_LINE_LEN, ONE_LINE_BUFFER_SIZE};
 pub use self::report::REPORT_BUFFER_SIZE;
-pub use self::rules::Rules;
 pub use self::parser::{
     Cause, Expected, Fault, parse, parse_by, parse_looked, parse_nanos, parse_nanos_specialized,
     parse_std, parse_with,

@@ -2,8 +2,8 @@
 //! The message of a fault, and its layout.
 
 use crate::fault::Fault;
-use crate::buffer::{put, put_decimal};
 use crate::slice::range_to;
+use crate::buffer::{put, put_decimal};
 use core::fmt;
 
 impl Fault<'_> {

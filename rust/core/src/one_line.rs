@@ -8,13 +8,13 @@
 
 use crate::fault::Fault;
 use crate::message::chars_before;
+use crate::cause::{Cause, Expected};
+use crate::rules::Rules;
 use crate::buffer::{put, put_decimal};
 use crate::characters::is_clear;
 use crate::fraction::fraction_replacement;
 use crate::help::{Found, Help, MOST_SHOWN, found_at, help_words, overflow_help};
 use crate::suggestion::{Suggestion, put_suggestion};
-use crate::cause::{Cause, Expected};
-use crate::rules::Rules;
 
 /// No fault's line has more bytes than this.
 ///

@@ -1,14 +1,14 @@
 // Made by tools/erase of crates/duration_str/src/parser.rt.
 //! Reading: the duration that a text means, or why it means none.
 
-use crate::reader::read;
-use crate::token::Tokens;
-pub use crate::fault::Fault;
 pub use crate::cause::{Cause, Expected};
 use crate::options::Options;
 use crate::rules::Rules;
 use crate::table::UnitTable;
 use crate::unit::TimeUnit;
+use crate::reader::read;
+use crate::token::Tokens;
+pub use crate::fault::Fault;
 use core::time::Duration;
 
 /// Reads a text with all options off, and returns the duration that it means.

@@ -4,10 +4,10 @@
 use crate::fault::Fault;
 use crate::message::Layout;
 use crate::one_line::ONE_LINE_BUFFER_SIZE;
-use crate::characters::is_clear;
 use crate::cause::Cause;
 use crate::rules::Rules;
 use crate::slice::range_to;
+use crate::characters::is_clear;
 
 /// The size of a buffer that has room for every report: 80 characters of four bytes, two spaces for
 /// each of them before the caret, the caret, two line feeds, and a line.
