@@ -1,4 +1,5 @@
 pub mod Text
+pub mod Buffers
 pub mod Units
 pub mod Rules
 pub mod MoreNames

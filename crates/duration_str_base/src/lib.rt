@@ -1,5 +1,6 @@
-//! The units of time with their names, the options and the rules by which a text is read, and the
-//! causes for which one is refused. This is the lowest of the library's six crates.
+//! What the library's other crates share: the units of time with their names, the options and the
+//! rules by which a text is read, and the causes for which one is refused. Also blanks, slices of a
+//! text, and what is written to a buffer. This is the lowest of the library's crates.
 //!
 //! Programs call `duration_str`. What that crate doesn't export is for the library's own crates,
 //! and may change.
@@ -8,6 +9,7 @@
 #![tactic(auto)]
 
 pub mod blank;
+pub mod buffer;
 pub mod cause;
 mod humantime;
 pub mod more_names;

@@ -87,10 +87,3 @@ unit_short None = literal 3 [] refl
 
 pub suggestion_short : (s : Suggestion) → IfSome s.count (λ n. n < 2 ^ 64) → IsShort 23 (suggestion_text s)
 suggestion_short s small = joined (count_short s.count small) (unit_short s.unit)
-
-pub quoted_stops : (written after whole : List ℕ) (room : ℕ) → written ++ after ≡ whole → room < length written
-    → room < length whole
-quoted_stops written after whole room all full = omega (arith, full, ap length all, length-append written after)
-
-pub end_inside : (bytes buffer : List ℕ) (end : ℕ) → end ≡ length bytes → take end buffer ≡ bytes → end ≤ length buffer
-end_inside bytes buffer end long is = omega (arith, long, ap length is, length-take end buffer)

@@ -1,4 +1,2 @@
--- Definitions for contracts between the library's crates: what is replaced, and what is written to
--- a buffer.
+-- Definitions for contracts between the library's crates: what is replaced.
 pub mod Mends
-pub mod Writing

@@ -1,4 +1,3 @@
-pub mod Buffers
 pub mod Fraction
 pub mod Help
 pub mod Mends

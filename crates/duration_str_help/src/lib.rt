@@ -8,7 +8,6 @@
 //! The definitions are in `specs/Help.antt` and `specs/Mends.antt`.
 #![tactic(auto)]
 
-pub mod buffer;
 pub mod characters;
 pub mod fraction;
 pub mod help;

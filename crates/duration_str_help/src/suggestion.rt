@@ -1,11 +1,11 @@
 //! What to write in place of a part of a refused text.
 ghost use Rattle.std.specs.Prelude.{◌≡◌, ◌^◌, ◌<◌, ◌≤◌, ◌++◌, length, take, IfSome};
-ghost use Rattle.duration_str_help.specs.Buffers.{IsInFront};
+ghost use Rattle.duration_str_base.specs.Buffers.{IsInFront};
 ghost use Rattle.duration_str_help.specs.Mends.{suggestion_text, unit_text};
 ghost use Rattle.duration_str_help.specs.declared.suggestion.TheConstants.{MAX_SUGGESTION_LEN};
 
-use crate::buffer::{put, put_decimal};
 use crate::help::help_name;
+use duration_str_base::buffer::{put, put_decimal};
 use duration_str_base::unit::TimeUnit;
 
 /// No text that `Suggestion::write` returns has more bytes than this.

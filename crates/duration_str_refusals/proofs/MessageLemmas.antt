@@ -2,7 +2,7 @@
 use Rattle.duration_str_refusals.proofs.Common.{ap, arith, byte_text, caret_text, Cause, codes, encode_utf8_all, IfSome, IsAscii-decimal, IsCharBoundary, IsCharBoundary-from_ascii, IsUtf8, IsUtf8-append, IsUtf8-from_ascii, last_or, line_of, List, lit<, Option, refl, replicate, replicate-append-replicate, rules, Some, take, take-replicate, [], ℕ, ◌++◌, ◌-◌, ◌<◌, ◌^◌, ◌∙◌, ◌∷◌, ◌≡◌, ◌≢◌, ◌≤◌}
 use Rattle.std.proofs.lemmas.List.Elements.{All-replicate}
 use Rattle.std.proofs.lemmas.Str.Ascii.{IsAscii-from_all}
-use Rattle.duration_str_help.specs.Buffers.{IsInFront}
+use Rattle.duration_str_base.specs.Buffers.{IsInFront}
 use Rattle.duration_str_refusals.specs.Messages.{LastLine}
 
 pub front_has : (P : List ℕ → Type 0) (bytes : List ℕ) (result : Option ℕ) (buffer : List ℕ) → P bytes

@@ -1,7 +1,7 @@
 use Rattle.duration_str_refusals.proofs.Common.{ahead, and_parts, ap, append-nil, append_assoc, arith, Bool, bytes_eq, bytes_eq-Decides, cases_Bool, Cause, chars, chars-encodes, chars_from_encodes, chars_past_char, codes, common_steps, cond, div-le_self, drop, Empty, encode_ascii, encode_utf8, encode_utf8_all, encodes-chars, eqb-true, Expected, false, fits, ForSome, if◌then◌else◌, inl, inr, is_blank, is_digit, IsCharBoundary, IsUtf8, IsUtf8-drop, IsUtf8-take, leb-true, len_utf8_bounds, length, length-encode, length-le-encodes, List, list_all, Mixed, nat_le, nat_tests, None, NotText, number_of, NumberTooLarge, Option, option_map, OutOfRange, Overflow, place_of, refl, rules, Rules, scalar, scalars, scalars-chars, Some, suc, sym, Syntax, take, take_while, take_while-cons, TimeUnit, true, zero, [], ℕ, ◌%◌, ◌&&◌, ◌*◌, ◌++◌, ◌+◌, ◌-◌, ◌/◌, ◌<◌, ◌==◌, ◌^◌, ◌||◌, ◌∙◌, ◌∷◌, ◌≡◌, ◌≤◌}
 use Rattle.std.proofs.Common.{lit≤, nat_lt}
 use Rattle.std.proofs.lemmas.Bool.{le-leb, lt-leb}
-use Rattle.duration_str_refusals.specs.Messages.{chars_before}
+use Rattle.duration_str_base.specs.Text.{chars_before}
 use Rattle.duration_str_help.specs.declared.help.Help.{Help}
 use Rattle.duration_str_help.specs.declared.help.Help.TheVariants.{DidYouMean, Fraction, MissingUnit, Zero}
 use Rattle.duration_str_help.specs.declared.suggestion.Replacement.{Replacement}
@@ -14,16 +14,12 @@ use Rattle.duration_str_help.specs.Quotes.{is_clear, is_plain, quoted, quoted_en
 use Rattle.std.specs.Char.Escape.{escape_default, escape_unicode, hex_digit_at, short_escape}
 use Rattle.std.specs.Prelude.{not}
 use Rattle.std.specs.Int.{is_in_range}
-use Rattle.duration_str_base.proofs.CharacterLemmas.{chars_of_none}
+use Rattle.duration_str_base.proofs.CharacterLemmas.{chars_before_le, chars_of_none}
 use Rattle.duration_str_help.proofs.ShortLemmas.{IsShort, less, joined, chosen, is_plain_byte, bytes_good, literal, decimal_short, name_short, suggestion_short}
 
 found_chars : (cs bytes : List ℕ) → encode_utf8_all cs ≡ bytes → (length bytes == 0) ≡ false
     → found_words cs ≡ codes ", found " ++ quoted cs
 found_chars cs bytes is some = search rules
-
-pub chars_before_le : (text : List ℕ) (place : ℕ) → IsUtf8 text → IsCharBoundary text place
-    → chars_before text place ≤ place
-chars_before_le text place utf8 boundary = search (rules, IsUtf8-take, encodes-chars, length-le-encodes)
 
 -- ---- The column
 

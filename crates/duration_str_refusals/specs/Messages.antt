@@ -4,7 +4,7 @@ use Rattle.std.specs.List.{list_any, last_or}
 use Rattle.duration_str_base.specs.declared.cause.Cause.{Cause}
 use Rattle.duration_str_refusals.specs.declared.message.Layout.{Layout}
 use Rattle.duration_str_refusals.specs.declared.message.Layout.TheVariants.{Line, Byte, Caret}
-use Rattle.duration_str_base.specs.Text.{Bytes}
+use Rattle.duration_str_base.specs.Text.{Bytes, chars_before}
 use Rattle.duration_str_base.specs.Causes.{place_of, line_of}
 
 -- the text, below it a caret after this many spaces, and below that the line
@@ -16,9 +16,6 @@ byte_text place line = codes "byte " ++ (decimal place ++ (codes ": " ++ line))
 
 abbrev pub has_line_feed : Bytes → Bool
 has_line_feed text = list_any (λ b. b == 10) text
-
-abbrev pub chars_before : Bytes → ℕ → ℕ
-chars_before text place = length (chars (take place text))
 
 -- the message, given the place, if the fault has one
 abbrev pub placed_text : Bytes → Option ℕ → Bytes → Bytes

@@ -1,14 +1,13 @@
 //! The message of a fault, and its layout.
 ghost use Rattle.std.specs.Prelude.{◌≡◌, ◌≤◌, ◌-◌, ◌^◌, ◌++◌, ◌<◌, ℕ, ⊤, List, None, Some, IfSome, IfNone, IsErr, IsOk, IsUtf8, length, take, replicate, decimal, encode_utf8_all};
 ghost use Rattle.std.specs.Fmt.{DisplaysOnOk, DisplaysStyledOnOk, HasWritten, IsPlainFormatter, WritesInCalls};
-ghost use Rattle.std.specs.Str.{IsCharBoundary};
-ghost use Rattle.duration_str_help.specs.Buffers.{IsInFront};
-ghost use Rattle.duration_str_refusals.specs.Messages.{byte_text, caret_text, chars_before, message_of, laid_out};
+ghost use Rattle.duration_str_base.specs.Buffers.{IsInFront};
+ghost use Rattle.duration_str_refusals.specs.Messages.{byte_text, caret_text, message_of, laid_out};
 ghost use Rattle.duration_str_base.specs.Causes.{line_of};
 
 use crate::fault::Fault;
-use duration_str_base::slice::range_to;
-use duration_str_help::buffer::{put, put_decimal};
+use duration_str_base::buffer::{put, put_decimal};
+use duration_str_base::slice::chars_before;
 use std::fmt;
 
 impl Fault<'_> {
@@ -107,16 +106,6 @@ impl Layout {
             Layout::Caret { spaces } => put_caret(buffer, text, spaces, line),
         }
     }
-}
-
-#[tactic(auto, using(std::proofs::lemmas::Str::chars_from_encodes, crate::proofs::OneLineLemmas::chars_before_le))]
-#[inline(never)]
-pub(crate) fn chars_before(text: &str, place: usize) -> usize
-    requires { IsCharBoundary text.now place }
-    ensures count { result ≡ chars_before text.now place }
-    ensures short { result ≤ length text.now }
-{
-    range_to(text, place).chars().count()
 }
 
 fn put_byte(buffer: &mut [u8], place: usize, line: &str) -> Option<usize>

@@ -9,11 +9,11 @@ ghost use Rattle.std.specs.Char.{digit_char};
 ghost use Rattle.std.specs.Char.Escape.{escape_unicode, short_escape};
 ghost use Rattle.std.specs.List.{list_all, list_any};
 ghost use Rattle.std.specs.Str.{chars, IsCharBoundary};
-ghost use Rattle.duration_str_help.specs.Buffers.{IsInFront};
+ghost use Rattle.duration_str_base.specs.Buffers.{IsInFront};
 ghost use Rattle.duration_str_refusals.specs.Internal.Escapes.{hex_digits};
 ghost use Rattle.duration_str_base.specs.Internal.Positions.{ahead};
 ghost use Rattle.duration_str_base.specs.Causes.{place_of};
-ghost use Rattle.duration_str_refusals.specs.Messages.{chars_before};
+ghost use Rattle.duration_str_base.specs.Text.{chars_before};
 ghost use Rattle.std.specs.Option.{ForSome};
 ghost use Rattle.std.specs.Int.{is_in_range};
 ghost use Rattle.duration_str_help.specs.declared.help.Help.TheVariants.{DidYouMean};
@@ -27,10 +27,10 @@ ghost use Rattle.duration_str_base.specs.declared.cause.Cause.TheVariants.{Synta
 ghost use Rattle.duration_str_refusals.specs.declared.one_line.TheConstants.{MAX_ONE_LINE_LEN};
 
 use crate::fault::Fault;
-use crate::message::chars_before;
+use duration_str_base::buffer::{put, put_decimal};
 use duration_str_base::cause::{Cause, Expected};
 use duration_str_base::rules::Rules;
-use duration_str_help::buffer::{put, put_decimal};
+use duration_str_base::slice::chars_before;
 use duration_str_help::characters::is_clear;
 use duration_str_help::fraction::fraction_replacement;
 use duration_str_help::help::{Found, Help, MOST_SHOWN, found_at, help_words, overflow_help};

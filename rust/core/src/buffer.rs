@@ -1,4 +1,4 @@
-// Made by tools/erase of crates/duration_str_help/src/buffer.rt.
+// Made by tools/erase of crates/duration_str_base/src/buffer.rt.
 //! Bytes and numbers written to a buffer.
 
 /// Writes a part after the first `at` bytes of the buffer. Returns where the part ends, or `None`

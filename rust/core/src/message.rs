@@ -2,8 +2,8 @@
 //! The message of a fault, and its layout.
 
 use crate::fault::Fault;
-use crate::slice::range_to;
 use crate::buffer::{put, put_decimal};
+use crate::slice::chars_before;
 use core::fmt;
 
 impl Fault<'_> {
@@ -79,11 +79,6 @@ impl Layout {
             Layout::Caret { spaces } => put_caret(buffer, text, spaces, line),
         }
     }
-}
-
-#[inline(never)]
-pub(crate) fn chars_before(text: &str, place: usize) -> usize {
-    range_to(text, place).chars().count()
 }
 
 fn put_byte(buffer: &mut [u8], place: usize, line: &str) -> Option<usize> {

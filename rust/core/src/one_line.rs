@@ -7,10 +7,10 @@
 //! everything fits.
 
 use crate::fault::Fault;
-use crate::message::chars_before;
+use crate::buffer::{put, put_decimal};
 use crate::cause::{Cause, Expected};
 use crate::rules::Rules;
-use crate::buffer::{put, put_decimal};
+use crate::slice::chars_before;
 use crate::characters::is_clear;
 use crate::fraction::fraction_replacement;
 use crate::help::{Found, Help, MOST_SHOWN, found_at, help_words, overflow_help};

@@ -15,3 +15,9 @@ pub(crate) fn range_from(text: &str, from: usize) -> &str {
     // SAFETY: what follows a character boundary of a text is UTF-8.
     unsafe { core::str::from_utf8_unchecked(&text.as_bytes()[from..]) }
 }
+
+/// Returns how many characters the text has before this byte.
+#[inline(never)]
+pub(crate) fn chars_before(text: &str, place: usize) -> usize {
+    range_to(text, place).chars().count()
+}

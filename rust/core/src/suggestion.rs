@@ -1,8 +1,8 @@
 // Made by tools/erase of crates/duration_str_help/src/suggestion.rt.
 //! What to write in place of a part of a refused text.
 
-use crate::buffer::{put, put_decimal};
 use crate::help::help_name;
+use crate::buffer::{put, put_decimal};
 use crate::unit::TimeUnit;
 
 /// No text that `Suggestion::write` returns has more bytes than this.

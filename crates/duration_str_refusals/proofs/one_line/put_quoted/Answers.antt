@@ -1,6 +1,6 @@
 use Rattle.duration_str_refusals.proofs.Common.{append_assoc, chars, chars_rest, codes, encode_utf8_all, IsUtf8-past_char, rules, take, ◌++◌, ◌-◌, ◌≡◌}
 use Rattle.duration_str_help.specs.Quotes.{quoted, quoted_end, shown}
-use Rattle.duration_str_help.proofs.ShortLemmas.{end_inside, quoted_stops}
+use Rattle.duration_str_base.proofs.BufferLemmas.{end_inside, whole_is_longer}
 use Rattle.duration_str_refusals.proofs.OneLineLemmas.{quoted_all, quoted_clear, quoted_cut, quoted_more}
 use Rattle.duration_str_refusals.proofs.one_line.put_quoted.Goals.{After-put_shown, After-put_text}
 use Rattle.duration_str_refusals.proofs.one_line.put_quoted.Goals as goal
@@ -18,7 +18,7 @@ clear c = search (rules, quoted_clear, append_assoc)
 
 pub returns-in_err-end-2 : goal.returns-in_err-end-2
 returns-in_err-end-2 c =
-    rw c.from_residual-in_err-end-2.ensures (quoted_stops _ _ _ _ (clear (goal.at.returns-in_err-end-2 c).After-put_text)
+    rw c.from_residual-in_err-end-2.ensures (whole_is_longer _ _ _ _ (clear (goal.at.returns-in_err-end-2 c).After-put_text)
     (c.in_err-end-2.ensures {u = tt}))
 
 pub returns-then-are_clear : goal.returns-then-are_clear
@@ -34,7 +34,7 @@ returns-then-width-room c =
 
 pub returns-in_err-end-3 : goal.returns-in_err-end-3
 returns-in_err-end-3 c =
-    rw c.from_residual-in_err-end-3.ensures (quoted_stops _ _ _ _ (more (goal.at.returns-in_err-end-3 c).After-put_shown)
+    rw c.from_residual-in_err-end-3.ensures (whole_is_longer _ _ _ _ (more (goal.at.returns-in_err-end-3 c).After-put_shown)
     (c.in_err-end-3.ensures {u = tt}))
 
 pub loop-c-preserved : goal.loop-c-preserved

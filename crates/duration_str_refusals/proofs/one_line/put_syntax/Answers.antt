@@ -1,5 +1,5 @@
 use Rattle.duration_str_refusals.proofs.Common.{arith, Bool, false, None, not-true, Option, refl, Some, true, ◌≡◌}
-use Rattle.duration_str_help.proofs.ShortLemmas.{quoted_stops}
+use Rattle.duration_str_base.proofs.BufferLemmas.{whole_is_longer}
 use Rattle.duration_str_help.specs.contracts.help.HelpPartialEq.TheImpl
 use Rattle.duration_str_help.specs.declared.help.Help.{Help}
 use Rattle.duration_str_help.specs.declared.help.Help.TheVariants.{Fraction}
@@ -29,7 +29,7 @@ found_fraction c = same_help c.found_at-found.result.help (grind (arith, not-tru
 pub returns-in_err-end : goal.returns-in_err-end
 returns-in_err-end c =
     rw (c.from_residual.ensures, ← c.found_at-found.ensures.piece, ← c.column_at.ensures.column)
-    (quoted_stops _ _ _ _ refl (c.in_err-end.ensures {u = tt}))
+    (whole_is_longer _ _ _ _ refl (c.in_err-end.ensures {u = tt}))
 
 pub returns-then-ne : goal.returns-then-ne
 returns-then-ne c =

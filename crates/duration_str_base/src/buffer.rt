@@ -1,7 +1,7 @@
 //! Bytes and numbers written to a buffer.
 ghost use Rattle.std.specs.Prelude.{◌≡◌, ◌≤◌, ◌^◌, ◌++◌, ◌<◌, length, take, decimal};
-ghost use Rattle.duration_str_help.specs.Buffers.{IsInFront};
-ghost use Rattle.duration_str_help.specs.Internal.Writing.{IsWritten};
+ghost use Rattle.duration_str_base.specs.Buffers.{IsInFront};
+ghost use Rattle.duration_str_base.specs.Internal.Writing.{IsWritten};
 
 /// Writes a part after the first `at` bytes of the buffer. Returns where the part ends, or `None`
 /// if there is no room for it.

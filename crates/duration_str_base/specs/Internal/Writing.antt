@@ -1,6 +1,6 @@
 -- Bytes written to the start of a buffer.
 use Rattle.std.specs.Prelude.{◌≡◌, ℕ, Option, IsNone}
-use Rattle.duration_str_help.specs.Buffers.{IsInFront}
+use Rattle.duration_str_base.specs.Buffers.{IsInFront}
 use Rattle.duration_str_base.specs.Text.{Bytes}
 
 -- If the result is `Some end`, the new buffer starts with the bytes, which end at `end`. If it is

@@ -1,4 +1,4 @@
-use Rattle.duration_str_help.proofs.buffer.+put_decimal.Given as goal
+use Rattle.duration_str_base.proofs.buffer.+put_decimal.Given as goal
 
 abbrev pub decreases-put_decimal : goal.decreases-put_decimal
 decreases-put_decimal l = l.number
