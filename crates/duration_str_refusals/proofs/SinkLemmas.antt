@@ -4,8 +4,8 @@ use Rattle.std.proofs.Output.{has_written_append, writes_in_calls_append, writes
 use Rattle.std.specs.Fmt.{formatter_writer, HasWritten, IsPlainFormatter, WritesInCalls}
 use Rattle.std.specs.List.{concat, FoldsTo}
 use Rattle.std.specs.declared.fmt.Formatter.{Formatter}
-use Rattle.duration_str_refusals.specs.declared.message.Layout.{Layout}
-use Rattle.duration_str_refusals.specs.declared.message.Layout.TheVariants.{Byte, Caret, Line}
+use Rattle.duration_str_refusals.specs.declared.layout.Layout.{Layout}
+use Rattle.duration_str_refusals.specs.declared.layout.Layout.TheVariants.{Byte, Caret, Line}
 use Rattle.duration_str_refusals.specs.Messages.{laid_out}
 
 module _ {W : Type 0} {took : W → List ℕ → W → Type 0} where

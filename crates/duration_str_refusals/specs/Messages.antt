@@ -2,8 +2,8 @@
 use Rattle.std.specs.Prelude.{◌≢◌, ℕ, Bool, ◌++◌, Option, Some, None, if◌then◌else◌, chars, codes, length, take, replicate, decimal, encode_utf8_all, ◌==◌}
 use Rattle.std.specs.List.{list_any, last_or}
 use Rattle.duration_str_base.specs.declared.cause.Cause.{Cause}
-use Rattle.duration_str_refusals.specs.declared.message.Layout.{Layout}
-use Rattle.duration_str_refusals.specs.declared.message.Layout.TheVariants.{Line, Byte, Caret}
+use Rattle.duration_str_refusals.specs.declared.layout.Layout.{Layout}
+use Rattle.duration_str_refusals.specs.declared.layout.Layout.TheVariants.{Line, Byte, Caret}
 use Rattle.duration_str_base.specs.Text.{Bytes, chars_before}
 use Rattle.duration_str_base.specs.Causes.{place_of, line_of}
 

@@ -10,6 +10,7 @@
 
 pub mod error;
 pub mod fault;
+mod layout;
 mod message;
 pub mod one_line;
 pub mod report;

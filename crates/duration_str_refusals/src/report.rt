@@ -11,7 +11,7 @@ ghost use Rattle.duration_str_base.specs.Rules.{Rules as AnyRules};
 ghost use Rattle.duration_str_refusals.specs.declared.report.TheConstants.{REPORT_BUFFER_SIZE};
 
 use crate::fault::Fault;
-use crate::message::Layout;
+use crate::layout::Layout;
 use crate::one_line::ONE_LINE_BUFFER_SIZE;
 use duration_str_base::cause::Cause;
 use duration_str_base::rules::Rules;

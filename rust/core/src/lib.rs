@@ -29,9 +29,11 @@ mod fraction;
 mod help;
 #[forbid(unsafe_code)]
 mod humantime;
+#[allow(unsafe_code)] // Blocks: 1.
+mod layout;
 #[forbid(unsafe_code)]
 mod mend;
-#[allow(unsafe_code)] // Blocks: 1.
+#[forbid(unsafe_code)]
 mod message;
 #[forbid(unsafe_code)]
 mod more_names;

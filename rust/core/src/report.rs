@@ -2,7 +2,7 @@
 //! The report of a fault: its line, or the text, a caret and its line.
 
 use crate::fault::Fault;
-use crate::message::Layout;
+use crate::layout::Layout;
 use crate::one_line::ONE_LINE_BUFFER_SIZE;
 use crate::cause::Cause;
 use crate::rules::Rules;

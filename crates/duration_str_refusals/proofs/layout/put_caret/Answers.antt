@@ -1,6 +1,6 @@
 use Rattle.duration_str_refusals.proofs.Common.{arith, caret_text, common_steps, IsUtf8}
 use Rattle.duration_str_refusals.proofs.MessageLemmas.{caret_text_utf8, front_has}
-use Rattle.duration_str_refusals.proofs.message.put_caret.Goals as goal
+use Rattle.duration_str_refusals.proofs.layout.put_caret.Goals as goal
 
 pub returns-clause-utf8 : goal.returns-clause-utf8
 returns-clause-utf8 c =
