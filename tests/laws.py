@@ -12,7 +12,7 @@ import re
 FILES = (
     ("duration_str_reading", "ReadingLaws"),
     ("duration_str_printing", "PrintingLaws"),
-    ("duration_str", "Laws"),
+    ("duration_str_laws", "Laws"),
 )
 
 # For each module: what is assumed of the rules `r`, and of the default unit.
@@ -24,7 +24,7 @@ FEWER = {
 
 def weaken(crates):
     """Adds these modules to `uses` in a copy of the crates."""
-    laws = (crates / "duration_str/src/laws.rt").read_text("utf-8")
+    laws = (crates / "duration_str_laws/src/laws.rt").read_text("utf-8")
     # The laws whose definitions are in other files than these stay.
     others = "".join(re.findall(r"^ghost use (?!.*\.\w*Laws\.).*\n", laws, re.M))
     laws = re.findall(r"^pub fn (\w+)\(\)\n(.*?)^\{\}", laws, re.M | re.S)

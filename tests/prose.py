@@ -20,6 +20,7 @@ LAYERS = (
     "duration_str_reading",
     "duration_str_help",
     "duration_str_refusals",
+    "duration_str_laws",
     "duration_str",
 )
 HEADER = "c/include/duration_str.h"

@@ -32,8 +32,8 @@ pub use Rattle.duration_str_refusals.specs.Faults.{found_token, IsMissingAtEnd, 
 pub use Rattle.duration_str_reading.specs.Grammar.{BeginsWith, IsSentence, IsSentenceOf, number, operator, operator_or_other, other, sign_terminal, Spells, Terminal, terminal_of, word}
 pub use Rattle.duration_str_reading.specs.ReadingLaws.{with_lowercase, with_no_calc, AnswerIsReading, BlanksFree, HasNoCapital, HasNoChinese, HasNoOperator, HasNoStar, is_operator, IsIdle, NoCalcAgrees, OneCut, OneReading, OneSentence, OptionsIdle, PlaceAndKinds, Reorder, SumOfTexts, times_in, TwoFactors, AllPlus, AreTokens, EndsRun, IsLexeme}
 pub use Rattle.duration_str_printing.specs.PrintingLaws.{AllParts, GreatestBreakdown, OneRounding, PartsAndRest, counts_of}
-pub use Rattle.duration_str.specs.Laws.{EqualTexts, IsMostWithin, MoreNames, NearWords, NeverMore, OlderTexts, ReadsBack}
-pub use Rattle.duration_str.specs.Older.{older_row_of, older_rules, older_table, sentence_fault, WasRefused}
+pub use Rattle.duration_str_laws.specs.Laws.{EqualTexts, IsMostWithin, MoreNames, NearWords, NeverMore, OlderTexts, ReadsBack}
+pub use Rattle.duration_str_laws.specs.Older.{older_row_of, older_rules, older_table, sentence_fault, WasRefused}
 pub use Rattle.duration_str_printing.specs.declared.format.Format.{Format}
 pub use Rattle.duration_str_printing.specs.declared.format.Style.{Style}
 pub use Rattle.duration_str_printing.specs.declared.format.Style.TheVariants.{Compact, Long, Short}

@@ -1,5 +1,0 @@
-use Rattle.duration_str.proofs.LawProofs.EqualTexts.{equal_texts_hold}
-use Rattle.duration_str.proofs.laws.equal_texts.Goals as goal
-
-pub returns : goal.returns
-returns c = equal_texts_hold

@@ -1,8 +1,0 @@
-use Rattle.duration_str.proofs.LawProofs.MendedFractions.{fractions_are_mended, mended_fractions_hold}
-use Rattle.duration_str.proofs.laws.mended_fractions.Goals as goal
-
-pub returns-clause-value : goal.returns-clause-value
-returns-clause-value c = mended_fractions_hold
-
-pub returns-clause-mended : goal.returns-clause-mended
-returns-clause-mended c = fractions_are_mended

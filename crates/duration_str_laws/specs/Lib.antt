@@ -1,0 +1,3 @@
+pub mod Older
+pub mod Laws
+pub mod Mended
