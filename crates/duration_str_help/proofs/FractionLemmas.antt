@@ -58,15 +58,6 @@ run_passes test (b ∷ bytes) (suc n) within = elim (cases_Bool (test b)) [
   | inr fails ↦ absurd (omega (arith, rw fails at within))
 ]
 
-pub run_length : (test : ℕ → Bool) (bytes : List ℕ) → length (take (prefix_len test bytes) bytes) ≡ prefix_len test bytes
-run_length test [] = refl
-run_length test (b ∷ bytes) = elim (cases_Bool (test b)) [
-  | inl passes ↦
-      let e : 1 + prefix_len test bytes ≡ suc (prefix_len test bytes) = omega arith in
-      rw (passes, e) (ap suc (run_length test bytes))
-  | inr fails ↦ rw fails refl
-]
-
 -- ---- Character boundaries
 
 pub run_boundary : (test : ℕ → Bool) → ((b : ℕ) → test b ≡ true → b < 128) → (text : List ℕ) (place : ℕ) → IsUtf8 text

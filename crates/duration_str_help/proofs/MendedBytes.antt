@@ -1,7 +1,9 @@
 -- Bytes that are ASCII within a text, and runs of them.
 use Rattle.std.specs.List.{prefix_len}
 use Rattle.duration_str_help.specs.Help.{is_letter}
-use Rattle.duration_str_help.proofs.Common.{[], and_from, and_parts, ap, append-nil, arith, Bool, byte_len, cases_Bool, chars, chars-append, chars-encodes, chars_past_char, drop, encode, encode_ascii, encodes, encodes-chars, false, false_from_ne_true, get_or, inl, inr, is_ascii_alphabetic, is_blank, is_digit, IsCharBoundary-at_seam, IsUtf8, IsUtf8-past_char, IsUtf8-take, len_utf8_bounds, length, length-append, length-encode, List, list_all, ltb, ltb-true, nat_le, nat_tests, refl, scalar, scalars, Stops, suc, sym, take, true, zero, ℕ, ◌++◌, ◌-◌, ◌∙◌, ◌∷◌, ◌≡◌, ◌≢◌, ◌≤◌}
+use Rattle.duration_str_help.proofs.Common.{[], and_from, and_parts, ap, append-nil, arith, Bool, byte_len, cases_Bool, chars, chars-append, chars_past_char, drop, encode, encode_ascii, encodes, encodes-chars, false, false_from_ne_true, get_or, inl, inr, is_ascii_alphabetic, is_blank, is_digit, IsCharBoundary-at_seam, IsUtf8, IsUtf8-from_ascii, IsUtf8-past_char, IsUtf8-take, len_utf8_bounds, length, length-append, length-encode, List, list_all, ltb, ltb-true, nat_le, nat_tests, refl, Stops, suc, sym, take, true, zero, ℕ, ◌++◌, ◌-◌, ◌∙◌, ◌∷◌, ◌≡◌, ◌≢◌, ◌≤◌}
+use Rattle.std.proofs.lemmas.Str.{chars-IsAscii}
+use Rattle.std.specs.Str.{IsAscii}
 use Rattle.std.proofs.Math.Seq.{take-append_seam}
 use Rattle.std.specs.Prelude.{slice_index}
 use Rattle.duration_str_base.proofs.CharacterLemmas.{all_weaker, byte_count}
@@ -38,21 +40,16 @@ past_small (b ∷ front) rest all utf8 =
     let (same, left) = past_small front rest parts.1 later in
     (first ∙ ap (λ (cs : List ℕ). b ∷ cs) same, left)
 
-scalar_small : (b : ℕ) → is_small b ≡ true → scalar b ≡ true
-scalar_small b small = grind (arith, nat_tests)
-
-pub small_encodes : (bs : List ℕ) → list_all is_small bs ≡ true → (encodes bs ≡ bs) × (scalars bs ≡ true)
-small_encodes [] all = (refl, refl)
-small_encodes (b ∷ bs) all =
-    let parts = and_parts (is_small b) (list_all is_small bs) all in
-    let (own, are) = small_encodes bs parts.1 in
-    (rw (encode_ascii b (ltb-true b 128 parts.0), own) refl, and_from _ _ (scalar_small b parts.0) are)
+small_ascii : (bs : List ℕ) → list_all is_small bs ≡ true → IsAscii bs
+small_ascii [] all i = omega arith
+small_ascii (b ∷ bs) all zero = ltb-true b 128 (and_parts (is_small b) (list_all is_small bs) all).0
+small_ascii (b ∷ bs) all (suc i) = small_ascii bs (and_parts (is_small b) (list_all is_small bs) all).1 i
 
 pub small_utf8 : (bs : List ℕ) → list_all is_small bs ≡ true → IsUtf8 bs
-small_utf8 bs all = let (own, are) = small_encodes bs all in (bs, (are, own))
+small_utf8 bs all = IsUtf8-from_ascii bs (small_ascii bs all)
 
 pub small_chars : (bs : List ℕ) → list_all is_small bs ≡ true → chars bs ≡ bs
-small_chars bs all = let (own, are) = small_encodes bs all in ap chars (sym own) ∙ chars-encodes bs are
+small_chars bs all = chars-IsAscii bs (small_ascii bs all)
 
 -- ---- The last byte
 

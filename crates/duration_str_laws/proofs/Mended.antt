@@ -1,5 +1,5 @@
 -- What is written for each help, and the tokens of a text with its suggestion.
-use Rattle.duration_str_laws.proofs.Common.{[], add-zero, ahead, and_from, and_parts, ap, append_assoc, arith, byte_len, Cause, chars, chars-append, chars-encodes, chars-nil, drop, Empty, encode_utf8_all, Expected, false, is_ascii_alphabetic, is_blank, is_digit, IsRefused, IsUtf8, inl, inr, length, List, list_all, list_all-append, meaning_of, Mixed, nat_tests, None, NotText, NumberTooLarge, Option, option_map, OutOfRange, Overflow, refl, Second, Some, sym, Syntax, take, take-append-drop, tokens_from, tokens_of, true, ℕ, ◌++◌, ◌+◌, ◌==◌, ◌||◌, ◌∙◌, ◌∷◌, ◌≡◌, ◌≢◌, ◌≤◌, ◌⊎◌}
+use Rattle.duration_str_laws.proofs.Common.{[], add-zero, ahead, and_from, and_parts, ap, append_assoc, arith, byte_len, Cause, chars, chars-append, chars-encodes, chars-nil, drop, encode_utf8_all, Expected, false, is_ascii_alphabetic, is_blank, is_digit, IsRefused, IsUtf8, inl, inr, length, List, list_all, list_all-append, meaning_of, nat_tests, None, Option, option_map, refl, Second, Some, sym, Syntax, take, take-append-drop, tokens_from, tokens_of, true, ℕ, ◌++◌, ◌+◌, ◌==◌, ◌||◌, ◌∙◌, ◌∷◌, ◌≡◌, ◌≢◌, ◌≤◌, ◌⊎◌}
 use Rattle.duration_str_help.specs.declared.help.Help.{Help}
 use Rattle.duration_str_help.specs.declared.help.Help.TheVariants.{DidYouMean, DigitsOnly, Fraction, Iso8601, LeadingPlus, NoPoint, Zero}
 use Rattle.duration_str_help.specs.declared.suggestion.Replacement.{Replacement}
@@ -17,7 +17,7 @@ use Rattle.duration_str_laws.proofs.MendedTerms.{fraction_mended}
 use Rattle.duration_str_help.proofs.MendedLemmas.{after_piece, cut_piece, IsCut, piece_stops}
 use Rattle.duration_str_base.proofs.CharacterLemmas.{byte_count, byte_len-append}
 
-abbrev bytes_at : List ℕ → ℕ → List ℕ
+abbrev pub bytes_at : List ℕ → ℕ → List ℕ
 bytes_at text place = encode_utf8_all (first_piece (ahead text place))
 
 zeros_end : (text : List ℕ) (place : ℕ) → IsUtf8 (drop place text) → list_all (λ b. b == 48 || is_blank b) text ≡ true
@@ -86,12 +86,7 @@ placed_mend s text (Syntax place expected) replacement utf8 refused is =
     let piece = first_piece (ahead text place) in
     mended s text place expected replacement (syntax_help text place expected piece) (placed s text place expected utf8 refused)
     (reason text place expected piece) is
-placed_mend s text Empty replacement utf8 refused is = absurd cc
-placed_mend s text (NumberTooLarge place) replacement utf8 refused is = absurd cc
-placed_mend s text (Overflow place) replacement utf8 refused is = absurd cc
-placed_mend s text (Mixed first next) replacement utf8 refused is = absurd cc
-placed_mend s text OutOfRange replacement utf8 refused is = absurd cc
-placed_mend s text (NotText optional) replacement utf8 refused is = absurd cc
+placed_mend s text cause replacement utf8 refused is = absurd cc
 
 pub mend : (s : CodeRules) (text : List ℕ) (cause : Cause) (new : Pieces) → IsUtf8 text → IsRefused (meaning_of s) (chars text) cause
     → mend_of (meaning_of s) text cause ≡ Some new → IsMendOf s text cause new

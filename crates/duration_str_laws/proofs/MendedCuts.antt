@@ -1,5 +1,5 @@
 -- The tokens of a refused text that has a mend: none has characters of two of the mend's parts.
-use Rattle.duration_str_laws.proofs.Common.{[], ahead, and_from, and_parts, ap, append-nil, append_assoc, are_of_one_run, arith, Bool, bytes_eq, bytes_eq-Decides, cases_Bool, Cause, chars, chars-append, chars-encodes, chars-nil, codes, drop, Empty, encode_utf8_all, eqb-true, Expected, false, false_from_ne_true, inl, inr, is_blank, is_digit, is_unit_letter, IsRefused, IsTrue, IsUtf8, IsUtf8-append, IsUtf8-nil, length, length-le-encodes, List, list_all, list_all-append, meaning_of, Mixed, nat_tests, not, NotText, NumberTooLarge, Option, Options, or_cases, or_right, OutOfRange, Overflow, refl, scalars-chars, Second, Some, Stops, suc, sym, Syntax, take, take-append-drop, take_while, take_while-cons, TimeUnit, tokens_of, true, zero, ℕ, ◌&&◌, ◌++◌, ◌+◌, ◌-◌, ◌<◌, ◌==◌, ◌∙◌, ◌∷◌, ◌≡◌, ◌≤◌}
+use Rattle.duration_str_laws.proofs.Common.{[], ahead, and_from, and_parts, ap, append-nil, append_assoc, are_of_one_run, arith, Bool, bytes_eq, bytes_eq-Decides, cases_Bool, Cause, chars, chars-append, chars-encodes, chars-nil, codes, drop, encode_utf8_all, eqb-true, Expected, false, false_from_ne_true, inl, inr, is_blank, is_digit, is_unit_letter, IsRefused, IsTrue, IsUtf8, IsUtf8-append, IsUtf8-nil, length, length-le-encodes, List, list_all, list_all-append, meaning_of, nat_tests, not, Option, Options, or_cases, or_right, refl, scalars-chars, Second, Some, Stops, suc, sym, Syntax, take, take-append-drop, take_while, take_while-cons, TimeUnit, tokens_of, true, zero, ℕ, ◌&&◌, ◌++◌, ◌+◌, ◌-◌, ◌<◌, ◌==◌, ◌∙◌, ◌∷◌, ◌≡◌, ◌≤◌}
 use Rattle.duration_str_help.specs.declared.help.Help.{Help}
 use Rattle.duration_str_help.specs.declared.help.Help.TheVariants.{DidYouMean, DigitsOnly, Fraction, Iso8601, LeadingPlus, NoPoint, Zero}
 use Rattle.duration_str_help.specs.declared.suggestion.Replacement.{Replacement}
@@ -12,7 +12,7 @@ use Rattle.duration_str_help.specs.Mends.{fraction_replacement, name_alone, noth
 use Rattle.duration_str_help.proofs.MendedHelp.{is_separator, Reason, reason}
 use Rattle.duration_str_help.proofs.MendedBytes.{blank_small, digit_small, end_cut, EndCut, ends_in, first_digit, is_small, plain_no_letter, small_chars, small_utf8}
 use Rattle.duration_str_help.proofs.MendedLemmas.{after_piece, cut_piece, IsCut}
-use Rattle.duration_str_laws.proofs.Mended.{IsMendOf, mend}
+use Rattle.duration_str_laws.proofs.Mended.{bytes_at, IsMendOf, mend}
 use Rattle.duration_str_laws.proofs.MendedFractions.{are_letters, meant_letters}
 use Rattle.duration_str_laws.proofs.MendedNames.{near_short, unit_letter_is_letter}
 use Rattle.duration_str_laws.proofs.MendedNumbers.{apart_before, apart_unless, no_unit_letter, apart_digit, ends_digits, no_run, seamed_tokens}
@@ -129,9 +129,6 @@ record IsCutApart (s : CodeRules) (text : List ℕ) (new : Pieces) : Type 0 wher
 
 abbrev piece_at : List ℕ → ℕ → List ℕ
 piece_at text place = first_piece (ahead text place)
-
-abbrev bytes_at : List ℕ → ℕ → List ℕ
-bytes_at text place = encode_utf8_all (piece_at text place)
 
 apart_at : (s : CodeRules) (text : List ℕ) (place : ℕ) (expected : Expected) → IsPlaced s text place expected
     → IsApart s.options (chars (take place text)) (ahead text place)
@@ -311,12 +308,7 @@ cut_placed s text (Syntax place expected) replacement utf8 refused is =
     let piece = piece_at text place in
     cut_mend s text place expected replacement (syntax_help text place expected piece) (placed s text place expected utf8 refused)
     (reason text place expected piece) is
-cut_placed s text Empty replacement utf8 refused is = absurd cc
-cut_placed s text (NumberTooLarge place) replacement utf8 refused is = absurd cc
-cut_placed s text (Overflow place) replacement utf8 refused is = absurd cc
-cut_placed s text (Mixed first next) replacement utf8 refused is = absurd cc
-cut_placed s text OutOfRange replacement utf8 refused is = absurd cc
-cut_placed s text (NotText optional) replacement utf8 refused is = absurd cc
+cut_placed s text cause replacement utf8 refused is = absurd cc
 
 tokens_of_cut : (s : CodeRules) (text : List ℕ) (new : Pieces) → IsCutApart s text new
     → HasTokensOf s.options text new.front new.replaced new.rest

@@ -1,6 +1,6 @@
 -- A text that is only a number with a fraction and its unit: its suggestion has the same value.
 use Rattle.std.specs.List.{prefix_len}
-use Rattle.duration_str_laws.proofs.Common.{[], add-zero, ahead, all_names_in, and_from, and_parts, ap, append-nil, arith, BeginsSentence, Bool, byte_len, bytes_eq, cases_Bool, chars, codes, comparison_form, decimal, drop, drop_all, Empty, encode_ascii, encode_utf8_all, encodes-chars, EndsRun, eqb-true, Expected, false, false_from_ne_true, fits, Humantime, if◌then◌else◌, inl, inr, is_ascii_alphabetic, is_blank, is_digit, is_unit_letter, IsBlank, IsRead, IsRefused, IsUtf8, length, length-append, lexemes_of, List, list_all, list_any, map, meaning_of, Mixed, More, more_names, nat_le, nat_lt, nat_tests, ne_eqb, None, not, NotText, number, number_of, NumberTooLarge, off, Option, option_map, Options, or_right, other, OutOfRange, Overflow, Own, refl, Rules, Second, Some, Spells, Stops, suc, sym, Syntax, table_of, take, take_while, take_while-cons, Terminal, terminal_of, terminals_of, TimeUnit, to_ascii_lowercase, Token, tokens_from, tokens_of, true, unit_of_word, units, UnitTable, word, ℕ, ◌&&◌, ◌*◌, ◌++◌, ◌+◌, ◌-◌, ◌/◌, ◌<◌, ◌==◌, ◌^◌, ◌||◌, ◌∙◌, ◌∷◌, ◌≡◌, ◌≤◌}
+use Rattle.duration_str_laws.proofs.Common.{[], add-zero, ahead, all_names_in, and_from, and_parts, ap, append-nil, arith, BeginsSentence, Bool, byte_len, bytes_eq, cases_Bool, chars, codes, comparison_form, decimal, drop, drop_all, encode_ascii, encode_utf8_all, encodes-chars, EndsRun, eqb-true, Expected, false, false_from_ne_true, fits, Humantime, if◌then◌else◌, inl, inr, is_ascii_alphabetic, is_blank, is_digit, is_unit_letter, IsBlank, IsRead, IsRefused, IsUtf8, length, length-append, lexemes_of, List, list_all, list_any, map, meaning_of, More, more_names, nat_le, nat_lt, nat_tests, ne_eqb, None, not, number, number_of, off, Option, option_map, Options, or_right, other, Own, refl, Rules, Second, Some, Spells, Stops, suc, sym, Syntax, table_of, take, take_while, take_while-cons, Terminal, terminal_of, terminals_of, TimeUnit, to_ascii_lowercase, Token, tokens_from, tokens_of, true, unit_of_word, units, UnitTable, word, ℕ, ◌&&◌, ◌*◌, ◌++◌, ◌+◌, ◌-◌, ◌/◌, ◌<◌, ◌==◌, ◌^◌, ◌||◌, ◌∙◌, ◌∷◌, ◌≡◌, ◌≤◌}
 use Rattle.std.proofs.lemmas.List.{drop-drop, get_or-append-add, take_all}
 use Rattle.std.proofs.Math.Nat.{div-le_self}
 use Rattle.std.proofs.Math.Seq.{drop-append_seam, take-append_seam}
@@ -431,12 +431,7 @@ mended_fractions_hold s text whole decimals unit (Syntax place expected) new utf
     let replacement = mend_is s whole decimals blanks name unit place expected (rw parts at utf8) fraction.whole_digits
     fraction.decimal_digits fraction.some_decimal fraction.blank fraction.means (rw parts at refused) in
     mended_scaled s whole decimals blanks name unit _ new refl (rw replacement at (rw parts at is))
-mended_fractions_hold s text whole decimals unit Empty new utf8 fraction refused is = cc
-mended_fractions_hold s text whole decimals unit (NumberTooLarge place) new utf8 fraction refused is = cc
-mended_fractions_hold s text whole decimals unit (Overflow place) new utf8 fraction refused is = cc
-mended_fractions_hold s text whole decimals unit (Mixed first next) new utf8 fraction refused is = cc
-mended_fractions_hold s text whole decimals unit OutOfRange new utf8 fraction refused is = cc
-mended_fractions_hold s text whole decimals unit (NotText optional) new utf8 fraction refused is = cc
+mended_fractions_hold s text whole decimals unit cause new utf8 fraction refused is = cc
 
 pub fractions_are_mended : FractionsAreMended
 fractions_are_mended s text whole decimals unit place expected nanos utf8 fraction refused is below =

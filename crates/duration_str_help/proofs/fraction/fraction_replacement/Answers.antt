@@ -1,10 +1,11 @@
 use Rattle.duration_str_help.proofs.Common.{ap, arith, drop, is_digit, length, length-drop, List, nat_tests, take, ℕ, ◌+◌, ◌-◌, ◌<◌, ◌∙◌, ◌≡◌}
 use Rattle.std.proofs.lemmas.List.{take_all}
+use Rattle.std.proofs.lemmas.List.Folds.{length-prefix_len}
 use Rattle.std.proofs.lemmas.Str.{IsCharBoundary-from_rest}
 use Rattle.std.specs.List.{prefix_len}
 use Rattle.duration_str_help.specs.Fraction.{end_run}
 use Rattle.duration_str_help.proofs.MendedBytes.{end_parts, run_parts}
-use Rattle.duration_str_help.proofs.FractionLemmas.{digit_ascii, number_start, run_boundary, run_length}
+use Rattle.duration_str_help.proofs.FractionLemmas.{digit_ascii, number_start, run_boundary}
 use Rattle.duration_str_help.proofs.fraction.fraction_replacement.Goals.{After-first_digits-decimals}
 use Rattle.duration_str_help.proofs.fraction.fraction_replacement.Goals as goal
 
@@ -26,7 +27,7 @@ decimals c =
 
 many : (c : After-first_digits-decimals)
     → length c.first_digits-decimals.result.now ≡ prefix_len is_digit (drop (c.args.place + 1) c.args.text.now)
-many c = ap length (decimals c) ∙ run_length is_digit (drop (c.args.place + 1) c.args.text.now)
+many c = ap length (decimals c) ∙ length-prefix_len is_digit (drop (c.args.place + 1) c.args.text.now)
 
 pub range_from-requires : goal.range_from-requires
 range_from-requires c =
