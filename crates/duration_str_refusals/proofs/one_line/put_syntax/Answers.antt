@@ -1,4 +1,5 @@
-use Rattle.duration_str_refusals.proofs.Common.{arith, Bool, false, None, not-true, Option, refl, Some, true, ◌≡◌}
+use Rattle.duration_str_refusals.proofs.Common.{Bool, false, None, not-true, Option, refl, Some, sym, true, ◌∙◌, ◌≡◌}
+use Rattle.std.proofs.lemmas.Bool.{not-false}
 use Rattle.duration_str_base.proofs.BufferLemmas.{whole_is_longer}
 use Rattle.duration_str_help.specs.contracts.help.HelpPartialEq.TheImpl
 use Rattle.duration_str_help.specs.declared.help.Help.{Help}
@@ -24,7 +25,9 @@ same_help (Some Fraction) same = refl
 same_help (Some help) same = absurd (cc)
 
 found_fraction : (c : Else-ne) → c.found_at-found.result.help ≡ Some Fraction
-found_fraction c = same_help c.found_at-found.result.help (grind (arith, not-true))
+found_fraction c =
+    let help = c.found_at-found.result.help in
+    same_help help (not-false (is_fraction help) (sym c.ne.ensures ∙ c.if-ne.false))
 
 pub returns-in_err-end : goal.returns-in_err-end
 returns-in_err-end c =
@@ -34,7 +37,7 @@ returns-in_err-end c =
 pub returns-then-ne : goal.returns-then-ne
 returns-then-ne c =
     let found = c.found_at-found.ensures in
-    let other : is_fraction c.found_at-found.result.help ≡ false = grind (arith, not-true) in
+    let other = not-true (is_fraction c.found_at-found.result.help) (sym c.ne.ensures ∙ c.if-ne.true) in
     rw (← found.help, ← found.piece, ← c.column_at.ensures.column, other_end c.found_at-found.result.help _ other)
     (rw (c.in_ok-end.ensures {u = tt}).1 at c.put_help.ensures)
 
