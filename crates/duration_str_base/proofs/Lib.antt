@@ -4,5 +4,7 @@ pub mod CharacterLemmas
 pub mod DigitLemmas
 pub mod NumberLemmas
 pub mod PackedLemmas
+pub mod Rows
+pub mod Samples
 pub mod TermLemmas
 pub mod UnitLemmas

@@ -6,4 +6,5 @@ pub mod MendedLemmas
 pub mod NearLemmas
 pub mod PieceLemmas
 pub mod ResultRows
+pub mod Rows
 pub mod ShortLemmas

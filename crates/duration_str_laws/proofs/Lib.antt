@@ -21,5 +21,6 @@ pub mod PlaceAndKinds
 pub mod PrintedTexts
 pub mod ReadsBack
 pub mod Reorder
+pub mod Rows
 pub mod SumOfTexts
 pub mod TwoFactors

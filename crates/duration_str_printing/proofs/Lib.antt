@@ -7,6 +7,7 @@ pub mod GreatestWithin
 pub mod PartsAndRest
 pub mod PrintedBytesLemmas
 pub mod RoundingLemmas
+pub mod Rows
 pub mod SetLemmas
 pub mod SpacedLemmas
 pub mod WithinLemmas

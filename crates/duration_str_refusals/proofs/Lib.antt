@@ -5,4 +5,5 @@ pub mod MessageLemmas
 pub mod OneLineLemmas
 pub mod ReportLemmas
 pub mod ResultRows
+pub mod Rows
 pub mod SinkLemmas
