@@ -87,6 +87,10 @@ pub record MendedRows : Type 0 where
   pub mended-after_a_term : mended (codes "1m .5s") (Syntax 3 after_unit) ≡ pieces (codes "1m ") (codes ".5s") (codes "500ms") []
   pub mended-after_an_operator : mended (codes "2*.5h 3x") (Syntax 2 number_alone)
       ≡ pieces (codes "2*") (codes ".5h") (codes "30min") (codes " 3x")
+  pub mended-in_a_product : mended (codes "2*1.5h") (Syntax 3 after_number)
+      ≡ pieces (codes "2*") (codes "1.5h") (codes "90min") []
+  pub mended-before_the_last_blank : mended (codes "1h 1.5m ") (Syntax 4 after_number)
+      ≡ pieces (codes "1h ") (codes "1.5m") (codes "90s") (codes " ")
   pub mended-after_a_number : mended (codes "1 .5h") (Syntax 2 after_number) ≡ None
   pub mended-two_points : mended (codes "1.5.5h") (Syntax 1 after_number) ≡ None
   pub mended-two_numbers : mended (codes "1.5 2h") (Syntax 1 after_number) ≡ None
@@ -116,6 +120,8 @@ pub record MendedRows : Type 0 where
   pub mended-point : mended (codes "5 min.") (Syntax 5 after_unit) ≡ pieces (codes "5 min") (codes ".") [] []
   pub mended-point_before_a_digit : mended (codes "5m.5s") (Syntax 2 after_unit) ≡ None
   pub mended-point_before_a_blank : mended (codes "5m. 5s") (Syntax 2 after_unit) ≡ pieces (codes "5m") (codes ".") [] (codes " 5s")
+  pub mended-point_after_a_name : mended (codes "5 min. 3s") (Syntax 5 after_unit)
+      ≡ pieces (codes "5 min") (codes ".") [] (codes " 3s")
   pub mended-point_before_a_letter : mended (codes "5m.in") (Syntax 2 after_unit) ≡ None
   pub mended-point_before_a_point : mended (codes "5m..10m") (Syntax 2 after_unit) ≡ None
   pub mended-point_and_a_blank_before_a_point : mended (codes "5m. .") (Syntax 2 after_unit)

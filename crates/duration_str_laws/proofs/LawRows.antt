@@ -51,6 +51,10 @@ pub word_follows_its_number : HasTokensOf off (codes "12 h") (codes "12 ") (code
 unfolding chars
 word_follows_its_number = refl
 
+pub removed_point_leaves_its_neighbours : HasTokensOf off (codes "5 min 3s") (codes "5 min") [] (codes " 3s")
+unfolding chars
+removed_point_leaves_its_neighbours = refl
+
 pub a_thousand_seconds_are_joined :
     JoinsNumbers off (record { front = codes "1"; replaced = codes "_"; written = []; rest = codes "000s" })
 unfolding chars
@@ -184,6 +188,21 @@ pub fraction_without_a_unit_is_exactly_its_milliseconds : IsExactly own_rules (c
 fraction_without_a_unit_is_exactly_its_milliseconds =
     record { whole = codes "1"; decimals = codes "5"; unit = Second; fraction = inr second_and_a_half; exact = refl }
 
+abbrev rules_of_hours : CodeRules
+rules_of_hours = record { table = Own; default_unit = Some Hour; options = off }
+
+hour_and_a_half_without_its_unit : IsBareFraction rules_of_hours (codes "1.5") (codes "1") (codes "5") Hour
+hour_and_a_half_without_its_unit = record {
+  parts = refl;
+  digits = refl;
+  some = omega arith;
+  default = refl;
+}
+
+pub fraction_without_a_unit_is_exactly_its_hours : IsExactly rules_of_hours (codes "1.5") 90 Minute
+fraction_without_a_unit_is_exactly_its_hours =
+    record { whole = codes "1"; decimals = codes "5"; unit = Hour; fraction = inr hour_and_a_half_without_its_unit; exact = refl }
+
 pub counted_term_is_exactly_the_fraction : (text : List ℕ) (count : ℕ) (counted : TimeUnit) (e : IsExactly own_rules text count counted)
     → (IsFraction own_rules text e.whole e.decimals e.unit ⊎ IsBareFraction own_rules text e.whole e.decimals e.unit)
     × (count * ((meaning_of own_rules).table counted).nanos * 10 ^ length e.decimals
@@ -203,6 +222,14 @@ pub written_term_is_in_the_product :
     ≡ Some 10_800_000_000_000
 unfolding chars
 written_term_is_in_the_product = refl
+
+-- `1h 90s ` is an hour and 90 seconds.
+pub written_term_is_in_the_sum :
+    value_of (terms_around (meaning_of own_rules)
+    (record { front = codes "1h "; replaced = codes "1.5m"; written = codes "90s"; rest = codes " " }) 90 Second)
+    ≡ Some 3_690_000_000_000
+unfolding chars
+written_term_is_in_the_sum = refl
 
 pub mended_product_has_the_written_term : (new : Pieces) (cause : Cause) (nanos : ℕ) → MendedValues
     → let r = meaning_of own_rules in
