@@ -1,23 +1,11 @@
-use crate::assertions::{holds, holds_in_memory, is_fault_at, is_value};
-use crate::config::{is_optional, is_required};
-use crate::refusal::refusal;
+use crate::assertions::{holds, holds_in_memory};
+use crate::comparisons::{is_fault_at, is_value};
 use crate::refusals::{is_caused, names_token};
 use crate::shared::{
     AFTER_NUMBER, AFTER_UNIT, CN_UNIT, NUMBER, OFF, OPERATORS, START, TOO_LARGE, UNITS, syntax,
 };
-use crate::top::{comes_from, leads_to};
-use arrayvec::ArrayString;
-use duration_str::{Cause, Expected, Fault, Options, parse, parse_with, write_human};
-use durstr_run::{RunFault, run};
-use jiff::Timestamp;
-use jiff::civil::Date;
-use refusing::Refusing;
-use serde_json::json;
+use duration_str::{Cause, Expected, Options, parse, parse_with};
 use std::alloc::{AllocError, Global};
-use std::fmt::Write;
-use std::io;
-use std::io::Read;
-use std::test::Fail;
 use std::time::Duration;
 
 /// A head, a part, how many times it is repeated, and a tail.
@@ -141,115 +129,5 @@ fn takes_look_alikes_for_what_they_are(rt: HostRuntime) {
     for &(text, place, expected, found) in &LOOK_ALIKES {
         let cause = syntax(place, expected);
         holds(&rt, text, names_token(text, OFF, cause, found));
-    }
-}
-
-fn is_read_and_printed(text: &str, d: Duration, printed: &str) -> bool {
-    is_value(parse(text), d) && write_human(&d, &mut [0; 64]) == printed
-}
-
-fn is_written(fault: Fault<'_>, wanted: &str) -> bool {
-    let mut shown = ArrayString::<64>::new();
-    write!(shown, "{fault}").is_ok() && shown.as_str() == wanted
-}
-
-/// None of these checks takes an allocator, so the calls that they make have nothing to allocate
-/// from.
-#[test]
-fn answers_without_memory(rt: HostRuntime) -> Result<(), Fail> {
-    let config = json!(in rt.alloc(); "1min+30")?;
-    holds(&rt, "required", is_required(&config, 90));
-    holds(&rt, "optional", is_optional(&config, Some(90)));
-    let (text, d) = ("3m 13s 29ms", Duration::new(193, 29_000_000));
-    holds(&rt, text, is_read_and_printed(text, d, "3min 13s 29ms"));
-    let fault = refusal(&rt, "3ms-2ms", OFF);
-    let wanted = "3ms-2ms\n   ^\nexpected ['+', '*']";
-    holds(&rt, "3ms-2ms", is_written(fault, wanted));
-    let before = Date::new(1969, 7, 5)?.at(0, 0, 0, 0);
-    let after = Date::new(1970, 6, 30)?.at(0, 0, 0, 0);
-    let start = Timestamp::UNIX_EPOCH;
-    holds(&rt, "180d", leads_to(start, "180d", after));
-    holds(&rt, "180d", comes_from(start, "180d", before));
-    Ok(())
-}
-
-#[test]
-fn stops_at_the_end_of_a_fixed_buffer(rt: HostRuntime) {
-    let fault = refusal(&rt, "3ms-2ms", OFF);
-    let mut shown = ArrayString::<31>::new();
-    assert!(rt; write!(shown, "{fault}").is_err());
-    let mut whole = ArrayString::<32>::new();
-    assert!(rt; write!(whole, "{fault}").is_ok());
-}
-
-fn long_lines(alloc: Global) -> Result<Vec<u8>, AllocError> {
-    let mut input = Vec::new(alloc);
-    input.extend_from_slice(long(alloc, ("", "0", 100_000, "1s\n"))?.as_bytes())?;
-    input.extend_from_slice(&[0xff; 1_000])?;
-    input.extend_from_slice("\n1m\u{3000}2\r\n".as_bytes())?;
-    input.extend_from_slice(long(alloc, ("", "\n", 100_000, ""))?.as_bytes())?;
-    Ok(input)
-}
-
-fn refuses_lines(alloc: Global, mut lines: &[u8], wanted: &str) -> bool {
-    let mut output = Vec::new(alloc);
-    let answer = run(alloc, &mut lines, &mut output, OFF);
-    answer == Ok(false) && output.as_slice() == wanted.as_bytes()
-}
-
-fn refuses_long_lines(alloc: Global) -> Result<bool, AllocError> {
-    let first = "1000000000 1s\nnot UTF-8\n1m\u{3000}2\r\n  ^\nexpected ['+', '*']\n";
-    let wanted = long(alloc, (first, "Empty input\n", 100_000, ""))?;
-    let lines = long_lines(alloc)?;
-    Ok(refuses_lines(alloc, lines.as_slice(), &wanted))
-}
-
-#[test]
-fn runs_over_long_lines(rt: HostRuntime) {
-    holds_in_memory(&rt, "lines", refuses_long_lines(rt.alloc()));
-}
-
-/// Gives at most three bytes in each read.
-#[derive(Drop)]
-struct InThrees<'a>(&'a [u8]);
-
-impl Read for InThrees<'_> {
-    fn read(&mut self, buf: &mut [u8]) -> io::Result<usize> {
-        let count = buf.len().min(3).min(self.0.len());
-        buf[..count].copy_from_slice(&self.0[..count]);
-        self.0 = &self.0[count..];
-        Ok(count)
-    }
-}
-
-fn run_into(heap: &Refusing<Global>, mut room: &mut [u8]) -> Result<bool, RunFault> {
-    run(heap, &mut InThrees(b"3m31\n\n580y*2"), &mut room, OFF)
-}
-
-static WRITTEN: [u8; 49] = *b"211000000000 3min 31s\nEmpty input\noverflow error\n";
-
-/// How many requests for memory `run_into` makes, while the request with the number `refused` is
-/// refused. The result is `None` if it writes something other than `WRITTEN`, or if it goes on or
-/// has written something when the request is refused.
-fn requests(alloc: Global, refused: u64) -> Option<u64> {
-    let heap = Refusing::nth(alloc, refused);
-    let mut held = [0; 49];
-    let answer = run_into(&heap, &mut held);
-    let is_right = match answer {
-        Ok(all_accepted) => heap.made() < refused && !all_accepted && held == WRITTEN,
-        Err(RunFault::Memory) => heap.made() == refused && held == [0; 49],
-        Err(_) => false,
-    };
-    is_right.then_some(heap.made())
-}
-
-/// The run makes six requests.
-#[test]
-fn fails_wherever_a_request_is_refused(rt: HostRuntime) {
-    for refused in 1..=7u64 {
-        assert!(rt;
-            requests(rt.alloc(), refused) == Some(refused.min(6)),
-            "{refused}"
-        );
     }
 }

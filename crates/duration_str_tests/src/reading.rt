@@ -1,4 +1,5 @@
-use crate::assertions::{holds, holds_in_memory, is_human_format, is_value};
+use crate::assertions::{holds, holds_in_memory};
+use crate::comparisons::{is_human_format, is_value};
 use crate::rows::{
     excludes, includes, list_at, listed, named_options, number_at, options_of, text_at, vectors,
 };

@@ -1,4 +1,5 @@
-use crate::assertions::{holds, holds_in_memory, is_fault, prints};
+use crate::assertions::{holds, holds_in_memory};
+use crate::comparisons::{is_fault, prints};
 use crate::rows::{cause_of, list_at, listed, named_options, text_at, vectors};
 use crate::shared::{NUMBER, OFF, OPERATORS, START, TOO_LARGE, UNITS, syntax};
 use duration_str::{

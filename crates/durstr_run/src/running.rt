@@ -46,6 +46,3 @@ pub fn run<A: Allocator, R: Read, W: Write>(
     write_all(writer, text.as_bytes())?;
     Ok(all_accepted)
 }
-
-#[cfg(test)]
-mod tests;

@@ -2,12 +2,13 @@ ghost use Rattle.std.specs.Option.{ForSome};
 ghost use Rattle.std.specs.Str.{IsCharBoundary};
 ghost use Rattle.duration_str_base.specs.Causes.{place_of};
 
-use crate::assertions::{holds, holds_in_memory, is_human_format, prints};
-use crate::shared::{AFTER_NUMBER, syntax};
+use crate::assertions::{holds, holds_in_memory};
 use duration_str::{
     Cause, Fault, HumanFormat, after_naive_date, after_naive_date_time, before_naive_date,
     before_naive_date_time,
 };
+use duration_str_tests::comparisons::{is_human_format, prints};
+use duration_str_tests::shared::{AFTER_NUMBER, syntax};
 use jiff::civil::{Date, DateTime};
 use jiff::tz::Offset;
 use jiff::{SignedDuration, Timestamp};

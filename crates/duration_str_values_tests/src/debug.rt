@@ -1,7 +1,7 @@
 use crate::assertions::holds_in_memory;
 use crate::refusal::refusal;
-use crate::shared::{AFTER_NUMBER, OFF};
 use duration_str::{Cause, CondUnit, DError, Fault, TimeUnit, Tokens};
+use duration_str_tests::shared::{AFTER_NUMBER, OFF};
 use std::alloc::{AllocError, Global};
 use std::fmt::Debug;
 

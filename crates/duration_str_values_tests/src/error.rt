@@ -1,9 +1,10 @@
-use crate::assertions::{holds_in_memory, prints};
+use crate::assertions::holds_in_memory;
 use crate::refusal::refusal;
-use crate::shared::{OFF, TOO_LARGE};
 use duration_str::{
     DError, Fault, after_naive_date, deserialize_duration, deserialize_option_duration,
 };
+use duration_str_tests::comparisons::prints;
+use duration_str_tests::shared::{OFF, TOO_LARGE};
 use jiff::Timestamp;
 use refusing::Refusing;
 use serde_json::{Value, json};

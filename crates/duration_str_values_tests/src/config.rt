@@ -2,13 +2,14 @@ ghost use Rattle.std.specs.Option.{ForSome};
 ghost use Rattle.std.specs.Str.{IsCharBoundary};
 ghost use Rattle.duration_str_base.specs.Causes.{place_of};
 
-use crate::assertions::{holds, holds_in_memory, is_fault, is_fault_at, is_value, prints};
-use crate::shared::{AFTER_NUMBER, OFF, START, syntax};
+use crate::assertions::{holds, holds_in_memory};
 use duration_str::{
     Cause, Fault, deserialize_duration, deserialize_duration_chrono, deserialize_duration_time,
     deserialize_option_duration, deserialize_option_duration_chrono,
     deserialize_option_duration_time,
 };
+use duration_str_tests::comparisons::{is_fault, is_fault_at, is_value, prints};
+use duration_str_tests::shared::{AFTER_NUMBER, OFF, START, syntax};
 use jiff::SignedDuration;
 use serde_json::{Value, json};
 use std::alloc::{AllocError, Global};

@@ -1,8 +1,7 @@
 ghost use Rattle.std.specs.Prelude.{◌≤◌};
 
-use super::run;
-use crate::fault::RunFault;
 use duration_str::Options;
+use durstr_run::{RunFault, run};
 use std::alloc::Global;
 use std::io;
 use std::io::{ErrorKind, Read, Write};

@@ -1,5 +1,6 @@
-use crate::assertions::{holds, holds_in_memory, is_human_format};
+use crate::assertions::{holds, holds_in_memory};
 use duration_str::{HumanFormat, MAX_PRINTED_LEN, write_human};
+use duration_str_tests::comparisons::is_human_format;
 use jiff::SignedDuration;
 use refusing::Refusing;
 use std::alloc::{AllocError, Global};
