@@ -69,7 +69,7 @@ export type NumberOptions = CountingOptions & { defaultUnit: Unit } | SecondsOpt
  * The names of the units, with a line for each unit, the longest first. If all options are off, a
  * text may have these names, also in ASCII capitals. Code without type checks may use capitals too.
  */
-// Made by tests/repository --write.
+// Made by tools/facts --write.
 export type Unit =
     | "y" | "year" | "years"
     | "q" | "quarter" | "quarters"
@@ -84,7 +84,7 @@ export type Unit =
     | "ns" | "nsec" | "nanosecond" | "nanoseconds";
 
 /** The names of the units as the short style prints them, the longest unit first. */
-// Made by tests/repository --write.
+// Made by tools/facts --write.
 export type PrintedUnit = "y" | "q" | "mon" | "w" | "d" | "h" | "min" | "s" | "ms" | "µs" | "ns";
 
 /** Which units are counted, how many parts, and how the duration is rounded. A format must be a
@@ -173,7 +173,7 @@ export interface Expected {
 
 /** What a user may have meant by a refused text, or should write instead. Later versions may have
  * more of these codes. */
-// Made by tests/repository --write.
+// Made by tools/facts --write.
 export type Help =
     // The word at the place is no unit, but is near one, such as `mins` is near `min`.
     | "DID_YOU_MEAN"

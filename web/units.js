@@ -5,7 +5,7 @@ import { formatNs, parseNs } from "../js/dist/duration-str.js";
 export const LONG = 2_000;
 
 // Each row has a unit's names, of which the last two are the singular and the plural, then those
-// that `more_names` adds, and those that `cn_unit` adds. The rows are made by tests/repository
+// that `more_names` adds, and those that `cn_unit` adds. The rows are made by tools/facts
 // --write.
 const ROWS = [
     ["y year years", "yr yrs", "年"],

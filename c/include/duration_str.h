@@ -191,7 +191,7 @@ enum duration_str_expected {
 };
 
 /* What a user may have meant by a refused text, or should write instead. */
-/* The enumeration is made by tests/repository --write. */
+/* The enumeration is made by tools/facts --write. */
 enum duration_str_help_kind {
     /* no help applies */
     DURATION_STR_HELP_NONE = 0,
@@ -233,7 +233,7 @@ enum duration_str_help_kind {
 };
 
 /* The units, the longest first. */
-/* The enumeration is made by tests/repository --write. */
+/* The enumeration is made by tools/facts --write. */
 enum duration_str_time_unit {
     DURATION_STR_UNIT_YEAR = 0,
     DURATION_STR_UNIT_QUARTER = 1,

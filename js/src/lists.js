@@ -1,4 +1,4 @@
-// The lists are made by tests/repository --write.
+// The lists are made by tools/facts --write.
 
 /** The printed names of the units, in the order of `enum duration_str_time_unit`. */
 export const UNITS = ["y", "q", "mon", "w", "d", "h", "min", "s", "ms", "µs", "ns"];

@@ -132,7 +132,7 @@
 //! except inside a number or a unit. Each number must be below 2^64. Each term, each step of the
 //! evaluation and the value must be below 2^64 nanoseconds, which is some 584 years.
 //!
-//! <!-- The table is made by tests/repository --write. -->
+//! <!-- The table is made by tools/facts --write. -->
 //! | unit | names | with `cn_unit` also |
 //! |---|---|---|
 //! | 365 days | y, year, years | 年 |

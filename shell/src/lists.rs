@@ -1,4 +1,4 @@
-// The lists are made by tests/repository --write.
+// The lists are made by tools/facts --write.
 
 /// A short name of each unit, in ASCII.
 pub const UNITS: [&str; 11] = ["y", "q", "mon", "w", "d", "h", "min", "s", "ms", "us", "ns"];

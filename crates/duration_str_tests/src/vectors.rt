@@ -1,5 +1,5 @@
 //! Vectors of `rust/vectors.json`: texts in seconds and whole durations, in ASCII.
-// Made by tests/repository --write.
+// Made by tools/facts --write.
 
 /// The tables, as JSON.
 pub static VECTORS: &str = r##"

@@ -89,7 +89,7 @@ In a model of pydantic a field may have the type `Duration`, or
 `DurationField` you make such a type with other options. These types are only
 annotations: to make a value, call `parse`.
 """
-# The table of units above is made by tests/repository --write.
+# The table of units above is made by tools/facts --write.
 
 from __future__ import annotations
 

@@ -1,4 +1,4 @@
-/* The lists are made by tests/repository --write. */
+/* The lists are made by tools/facts --write. */
 
 /* The flags for reading, in the order of their bits, and the parameters in the signatures of the
  * calls that take them */

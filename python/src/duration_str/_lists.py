@@ -1,4 +1,4 @@
-# The lists are made by tests/repository --write.
+# The lists are made by tools/facts --write.
 from typing import Literal
 
 #: A unit by one of its names

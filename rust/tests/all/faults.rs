@@ -101,7 +101,7 @@ fn tells_all_of_a_refusal() {
 }
 
 /// The names of the helps, in the order of their numbers. The list is made by
-/// tests/repository --write.
+/// tools/facts --write.
 const HELPS: [&str; 16] = [
     "DID_YOU_MEAN",
     "UNITS",

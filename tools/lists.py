@@ -1,18 +1,15 @@
-"""Lists for several languages, such as of units, styles and regular expressions. tests/repository
+"""Lists for several languages, such as of units, styles and regular expressions. tools/facts
 compares them with what stands in their places, and writes them.
 """
 import json
-import pathlib
 import re
-import sys
 import textwrap
 
-TOP = pathlib.Path(__file__).resolve().parent.parent
-sys.path.append(str(TOP / "tools"))
-import patterns  # noqa: E402
-import units  # noqa: E402
+import patterns
+import units
+from files import ROOT
 
-CRATES = TOP / "crates"
+CRATES = ROOT / "crates"
 UNITS = list(units.table())
 FURTHER = list(units.more())
 PRINTED = [unit.printed for unit in UNITS]

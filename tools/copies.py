@@ -1,11 +1,11 @@
 """Lays out words of docs/GRAMMAR.md for the packages' documentation, and callers in Rattle for
-documents. tests/repository compares the result with what stands there, and writes it.
+documents. tools/facts compares the result with what stands there, and writes it.
 """
 import re
 import textwrap
 
+from files import HEADER, layer_of, read, section
 from lists import OPTIONS, SWITCHES, camel, found
-from prose import HEADER, layer_of, read, section
 
 TYPES = "js/index.d.ts"
 PYTHON = "python/src/duration_str"
@@ -23,7 +23,7 @@ def in_c_strings(text):
 
 def paragraphs():
     """The places of the marked paragraphs. C's manual page takes them from the header."""
-    copied = r"<!-- tests/repository --write copies this paragraph .*? -->\n(.*?)\n\n"
+    copied = r"<!-- tools/facts --write copies this paragraph .*? -->\n(.*?)\n\n"
     marked = re.findall(copied, read("docs/GRAMMAR.md"), re.S)
     meaning, printing, parts = (paragraph.replace("\n", " ") for paragraph in marked)
     for paragraph, name, before, after, prefix, width in (
