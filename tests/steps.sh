@@ -129,13 +129,15 @@ path_without() {
     echo "${path%:}"
 }
 
-# later_pythons: prints interpreters of Python 3.12 and later. pyenv's shims on the path run only
-# the chosen ones, so its folders are searched too
-later_pythons() {
-    local python
-    for python in python3.1{2..9} "${PYENV_ROOT:-$HOME/.pyenv}"/versions/3.1[2-9].*/bin/python; do
-        ! "$python" -c 'import ensurepip, venv' 2>/dev/null || echo "$python"
-    done
+# newest_python: prints the interpreter of the newest Python that is there, if it is newer than
+# python3. pyenv's shims on the path run only the chosen ones, so its folders are searched too
+newest_python() {
+    local python pyenv=${PYENV_ROOT:-$HOME/.pyenv}
+    for python in python3{,.1{2..9}} "$pyenv"/versions/3.1[2-9].*/bin/python; do
+        "$python" -c 'import pip, sys, venv
+print(sys.version_info[1], sys.argv[1])' "$python" 2>/dev/null
+    done | sort --stable --reverse --numeric-sort --key 1,1 | sed -n '1s/^[0-9]* //p' |
+        grep -vx python3
 }
 
 calls() (
