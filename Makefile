@@ -9,8 +9,8 @@
 #                      password; with all=yes also the many packages that few tests need
 # make prove           proves everything, by the Rattle toolchain's command rt, and writes what was
 #                      proved into proved.txt
-# make check           proves everything, if there is rt, and runs the tests; this can take over an
-#                      hour
+# make check           proves everything, if there is rt, and runs the tests, several at the same
+#                      time; README says how long that takes
 # make quick           runs the short checks, and names the longer ones that the changed files need;
 #                      this takes a minute, or two if all packages have changed
 # make format          lays out Rust, Python, C, Go and shell scripts, by the usual tool of each
