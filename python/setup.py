@@ -23,6 +23,7 @@ CHECKOUT = HERE.parent
 IS_CHECKOUT = (CHECKOUT / "crates/duration_str_c").is_dir()
 CRATES = CHECKOUT if IS_CHECKOUT else HERE
 INCLUDE = CHECKOUT / "c/include" if IS_CHECKOUT else HERE / "include"
+SOURCES = HERE / "src/native"
 
 
 def demand(is_there, what):
@@ -105,8 +106,9 @@ class Sources(sdist):
     def make_release_tree(self, base_dir, files):
         super().make_release_tree(base_dir, files)
         copy_crates(base_dir)
-        for folder, name in (HERE, "src/duration_str/_lists.h"), (CRATES, "rust/vectors.json"):
-            shutil.copyfile(folder / name, pathlib.Path(base_dir, name))
+        shutil.copyfile(CRATES / "rust/vectors.json", pathlib.Path(base_dir, "rust/vectors.json"))
+        for header in SOURCES.glob("*.h"):
+            shutil.copyfile(header, pathlib.Path(base_dir, header.relative_to(HERE)))
         for name in ["tests", "examples"]:
             # Later versions of setuptools have copied some of the tests already.
             shutil.copytree(
@@ -139,7 +141,7 @@ setup(
     ext_modules=[
         Extension(
             "duration_str._native",
-            ["src/duration_str/_native.c"],
+            sorted(str(file.relative_to(HERE)) for file in SOURCES.glob("*.c")),
             include_dirs=[INCLUDE],
             py_limited_api=limited,
         )

@@ -9,6 +9,7 @@ from lists import OPTIONS, SWITCHES, camel, found
 
 TYPES = "js/index.d.ts"
 PYTHON = "python/src/duration_str"
+NATIVE_DOCS = "python/src/native/docs.h"
 RUST = "rust/src/formatted.rs"
 
 
@@ -43,7 +44,7 @@ def paragraphs():
     end = '\\n\\n"'
     for paragraph, before in (printing, "(`1 hour 30 minutes`)"), (parts, "in the short style."):
         lines = in_c_strings(filled(paragraph, 79, ""))
-        yield f"{PYTHON}/_native.c", f'{before}{end}\n    "', end, lines
+        yield NATIVE_DOCS, f'{before}{end}\n    "', end, lines
 
 
 def option_descriptions():
@@ -82,7 +83,7 @@ def options(descriptions, sentences):
     yield "program/durstr.1.in", "-width lowercase\n", "\n.El", "\n".join(rows)
     rows = [filled(what, 79, f"  {name:14}", " " * 16) for name, what in descriptions.items()]
     before = 'and the default unit is the second:\\n\\n"\n    "'
-    yield f"{PYTHON}/_native.c", before, '\\n\\n"', in_c_strings("\n".join(rows))
+    yield NATIVE_DOCS, before, '\\n\\n"', in_c_strings("\n".join(rows))
     yield "python/README.md", "these options, by name:\n\n", "\n\n", as_list(descriptions)
 
 

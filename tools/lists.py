@@ -160,7 +160,7 @@ def in_python():
 
 
 def in_c_for_python():
-    name = "python/src/duration_str/_lists.h"
+    name = "python/src/native/lists.h"
     names = [*map(str.lower, OPTIONS)]
     defaults = ", ".join(f"{option}=False" for option in names)
     yield name, "OPTION_NAMES ", "\n", quoted(names)

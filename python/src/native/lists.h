@@ -1,4 +1,6 @@
 /* The lists are made by tools/facts --write. */
+#ifndef DURATION_STR_LISTS_H
+#define DURATION_STR_LISTS_H
 
 /* The flags for reading, in the order of their bits, and the parameters in the signatures of the
  * calls that take them */
@@ -12,3 +14,5 @@ static const char *const style_names[] = {"short", "compact", "long"};
 static const char listed_styles[] = "short, compact, long";
 static const char *const rounding_names[] = {"down", "nearest", "up"};
 static const char listed_roundings[] = "down, nearest, up";
+
+#endif

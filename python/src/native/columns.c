@@ -1,0 +1,164 @@
+/* Reads a column of texts. */
+#include "module.h"
+
+/* timedelta64's NaT as a number, and a count of days that a timedelta64 of nanoseconds can hold
+ * with any seconds and microseconds of a timedelta */
+#define MISSING ((uint64_t)INT64_MIN)
+#define MOST_DAYS 106750
+
+static int add_position(PyObject *list, Py_ssize_t position) {
+    PyObject *number = PyLong_FromSsize_t(position);
+    const int failed = !number || PyList_Append(list, number);
+    Py_XDECREF(number);
+    return failed ? -1 : 0;
+}
+
+struct list {
+    PyObject *values;
+    uint64_t *nanos;
+    Py_ssize_t room;
+    struct reading reading;
+    int raises;
+    Py_ssize_t first;   /* the index of the first value, or -1 for a value by itself */
+    PyObject *function; /* for timedelta64: called for values not read here; otherwise NULL */
+};
+
+/* A function that is called may have made the list longer or shorter. */
+static Py_ssize_t length_of(const struct list *list) {
+    const Py_ssize_t length = PyList_Size(list->values);
+    return length < list->room ? length : list->room;
+}
+
+/* `*missing` is the last value for which the function has returned NaT. If a value is the same
+ * object, it becomes NaT without a call. */
+static int keep(struct state *state, const struct list *list, Py_ssize_t at, PyObject *value,
+    PyObject **missing) {
+    long parts[3];
+    const bool is_nan =
+        PyFloat_CheckExact(value) && PyFloat_AsDouble(value) != PyFloat_AsDouble(value);
+    if (Py_IsNone(value) || value == *missing || is_nan) {
+        list->nanos[at] = MISSING;
+        return 0;
+    }
+    if (Py_IS_TYPE(value, (PyTypeObject *)state->kept[TIMEDELTA])) {
+        if (parts_of(state, value, parts))
+            return -1;
+        if (parts[0] >= -MOST_DAYS && parts[0] <= MOST_DAYS) {
+            const int64_t secs = (int64_t)parts[0] * 86400 + parts[1];
+            list->nanos[at] = (uint64_t)(secs * SECOND + (int64_t)parts[2] * 1000);
+            return 0;
+        }
+    }
+    PyObject *kept = PyObject_CallFunction(list->function, "On", value, list->first + at);
+    if (!kept)
+        return -1;
+    list->nanos[at] = (uint64_t)PyLong_AsLongLong(kept);
+    Py_DECREF(kept);
+    if (list->nanos[at] == MISSING) {
+        Py_XDECREF(*missing);
+        *missing = Py_NewRef(value);
+    }
+    return PyErr_Occurred() ? -1 : 0;
+}
+
+static void raise_beyond(struct state *state, PyObject *given, Py_ssize_t index) {
+    const struct duration_str_answer answer = {.cause = DURATION_STR_CAUSE_OVERFLOW};
+    const struct help none = {.number = DURATION_STR_HELP_NONE};
+    PyObject *line = PyUnicode_FromString(
+        "duration of 2^63 nanoseconds or more, which timedelta64 doesn't have");
+    raise_error(state, line, PyUnicode_FromObject(given), &answer, NULL, index, none, 0, 0);
+}
+
+/* Returns what read_str does. If there is a function, a value that timedelta64 can't hold is
+ * refused, too. */
+static int read_text(
+    struct state *state, const struct list *list, Py_ssize_t at, PyObject *text, bool raises) {
+    const uint64_t most = list->function ? INT64_MAX : UINT64_MAX;
+    int is_read = read_str(
+        state, text, list->reading.options, list->nanos + at, raises, list->first + at, most);
+    if (is_read == 1 && list->nanos[at] > most) {
+        is_read = raises ? -1 : 0;
+        if (raises)
+            raise_beyond(state, text, list->first + at);
+    }
+    if (!is_read)
+        list->nanos[at] = list->function ? MISSING : 0;
+    return is_read;
+}
+
+/* Returns 1 if the value is kept, 0 if it is refused, and -1 with an error. A ValueError that is
+ * set already means that a number has more digits than Python writes. */
+static int read_other(struct state *state, const struct list *list, Py_ssize_t at, PyObject *value,
+    PyObject **missing) {
+    if (PyErr_Occurred()) {
+        if (!PyErr_ExceptionMatches(PyExc_ValueError))
+            return -1;
+        PyErr_Clear();
+        list->nanos[at] = list->function ? MISSING : 0;
+        return 0;
+    }
+    if (list->function)
+        return keep(state, list, at, value, missing) ? -1 : 1;
+    if (!list->raises)
+        return 0;
+    raise_type_error(state, value, &list->reading, list->first + at);
+    return -1;
+}
+
+static int read_value(struct state *state, const struct list *list, Py_ssize_t at,
+    PyObject *refused, PyObject **missing) {
+    PyObject *value = Py_NewRef(PyList_GetItem(list->values, at));
+    PyObject *text = text_given(state, value, &list->reading);
+    const int is_read = text ? read_text(state, list, at, text, false)
+                             : read_other(state, list, at, value, missing);
+    Py_XDECREF(text);
+    Py_DECREF(value);
+    if (is_read)
+        return is_read < 0 ? -1 : 0;
+    return add_position(refused, at);
+}
+
+static int raise_first(struct state *state, const struct list *list, PyObject *refused) {
+    const Py_ssize_t at =
+        PyList_Size(refused) ? PyLong_AsSsize_t(PyList_GetItem(refused, 0)) : length_of(list);
+    if (at >= length_of(list))
+        return 0;
+    PyObject *text = text_given(state, PyList_GetItem(list->values, at), &list->reading);
+    const bool is_raised = text && read_text(state, list, at, text, true) < 0;
+    Py_XDECREF(text);
+    return is_raised || PyErr_Occurred() ? -1 : 0;
+}
+
+/* read_list(values, nanos, reading, raises, first, function): reads the texts in a list into a
+ * buffer of zeros, and also its numbers, if `reading` allows that. Returns a list of the positions
+ * of the values that it refuses. These are refused texts and numbers, and without a function also
+ * values of other types.
+ *
+ * If `raises` is true, it raises an error instead: that of the first value of another type, or, if
+ * there is none, that of the first refused text or number. The error counts positions from `first`.
+ *
+ * If `function` is not None, the buffer gets numbers of timedelta64. None, NaN and a refused text
+ * become NaT. For a value that is not read here, the function returns the number. */
+PyObject *module_read_list(PyObject *module, PyObject *arguments) {
+    struct list list;
+    Py_buffer nanos;
+    if (!PyArg_ParseTuple(arguments, "O!w*(Ip)pnO", &PyList_Type, &list.values, &nanos,
+            &list.reading.options, &list.reading.takes_numbers, &list.raises, &list.first,
+            &list.function))
+        return NULL;
+    struct state *state = PyModule_GetState(module);
+    PyObject *refused = PyList_New(0), *missing = NULL;
+    list.nanos = nanos.buf;
+    list.room = nanos.len / 8;
+    if (Py_IsNone(list.function))
+        list.function = NULL;
+    for (Py_ssize_t at = 0; refused && at < length_of(&list); at++)
+        if (read_value(state, &list, at, refused, &missing) ||
+            ((at + 1) % A_TURN == 0 && end_turn()))
+            Py_CLEAR(refused);
+    if (refused && list.raises && raise_first(state, &list, refused))
+        Py_CLEAR(refused);
+    Py_XDECREF(missing);
+    PyBuffer_Release(&nanos);
+    return refused;
+}
