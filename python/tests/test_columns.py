@@ -6,7 +6,7 @@ from array import array
 
 import duration_str
 from duration_str import Cause, _native, parse_many, parse_ns
-from tests.vectors import error_of, refused_positions, value_columns
+from tests.vectors import error_of, refused_positions, told_by, value_columns
 
 SECOND = 10**9
 LENGTHS = [0, 1, 2, 20_000]
@@ -32,16 +32,11 @@ class Columns(unittest.TestCase):
                 with self.subTest(text=text, **options):
                     error = error_of(parse_many, column, **options)
                     line = f"at index {len(accepted)}: {alone}"
-                    self.assertEqual(
-                        (str(error), error.report),
-                        (line, alone.report.replace(str(alone), line)),
-                    )
-                    self.assertEqual(
-                        {**vars(error), "index": None, "report": alone.report}, vars(alone)
-                    )
-                    self.assertEqual(error.index, len(accepted))
+                    report = alone.report.replace(str(alone), line)
+                    there = {"line": line, "report": report, "index": len(accepted)}
+                    self.assertEqual(told_by(error), told_by(alone) | there)
                     again = pickle.loads(pickle.dumps(error))
-                    self.assertEqual((str(again), vars(again)), (str(error), vars(error)))
+                    self.assertEqual(told_by(again), told_by(error))
 
     def test_reads_any_length(self):
         for length in LENGTHS:

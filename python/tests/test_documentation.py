@@ -39,7 +39,7 @@ class Documentation(unittest.TestCase):
     def test_names_no_module_of_its_own_in_pickles(self):
         for value in [
             "duration_str.Duration",
-            "duration_str.DurationError('', '', 2, help=1).help",
+            "duration_str.DurationError('1.5h', 0, False, None, False).help",
         ]:
             program = f"import duration_str, pickle; print(pickle.dumps({value}))"
             run = subprocess.run([sys.executable, "-c", program], capture_output=True, text=True)

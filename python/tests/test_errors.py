@@ -7,7 +7,7 @@ import unittest
 
 from duration_str import Cause, DurationError, Expected, Help, parse_ns
 from tests import vectors
-from tests.vectors import CHOICES, VECTORS, words_of
+from tests.vectors import CHOICES, VECTORS, told_by, words_of
 
 
 error_of = functools.partial(vectors.error_of, parse_ns)
@@ -114,7 +114,7 @@ class Errors(unittest.TestCase):
         self.assertEqual((str(error), error.report), (line, line))
 
     def test_costs_little(self):
-        """A refusal calls one function that is written in Python."""
+        """A refusal calls no function that is written in Python."""
         called = []
         sys.setprofile(
             lambda frame, event, _: called.append(frame.f_code.co_name) if event == "call" else None
@@ -125,7 +125,7 @@ class Errors(unittest.TestCase):
             pass
         finally:
             sys.setprofile(None)
-        self.assertEqual(called, ["__init__"])
+        self.assertEqual(called, [])
 
     def test_can_be_copied_and_pickled(self):
         for text in ["", "1µs …", "600y", "1\ud800", "5 mins", "1.5h"]:
@@ -134,7 +134,6 @@ class Errors(unittest.TestCase):
             error.job = "backup"
             error.__notes__ = ["of the second job"]
             for other in [copy.copy(error), pickle.loads(pickle.dumps(error))]:
-                self.assertEqual(
-                    (type(other), str(other), vars(other)), (JobError, str(error), vars(error))
-                )
-                self.assertEqual((other.report, other.help), (error.report, error.help))
+                self.assertEqual((type(other), vars(other)), (JobError, vars(error)))
+                self.assertEqual(told_by(other), told_by(error))
+                self.assertEqual(repr(other), f"JobError({str(error)!r})")

@@ -67,6 +67,12 @@ def error_of(call, *arguments, **words):
     raise AssertionError(f"{arguments} is read as {value}")
 
 
+def told_by(error):
+    """Returns all that an error says."""
+    names = "text cause place pos expected found help suggestion span mended index report".split()
+    return {"line": str(error)} | {name: getattr(error, name) for name in names}
+
+
 def near(words):
     """Words with a character more, less or exchanged at each place, and the words themselves."""
     found = set()

@@ -69,14 +69,11 @@ class DurationTypeError(TypeError, ValueError):
     doesn't take a plain TypeError for a refusal."""
 
 
-_CAUSES = {int(cause): cause for cause in Cause}
-_EXPECTED = [Expected(bits) for bits in range(16)]
-
-
 class DurationError(ValueError):
     """A text is refused. `str(error)` is one line for people: it says what is
-    wrong, for a syntax fault also where, and often what to write. For a text
-    of a column, the line begins with the index, such as `at index 1`.
+    wrong, for a syntax fault also where, and often what to write. If a call
+    raises it for a text of a column, the line begins with the index, such as
+    `at index 1`.
 
     >>> try:
     ...     duration_str.parse("3h 2 mins")
@@ -91,54 +88,65 @@ class DurationError(ValueError):
     DID_YOU_MEAN min '3h 2 min'
     """
 
-    text: str
-    """The whole text."""
-    cause: Cause
-    """Why the text is refused."""
-    place: int | None
-    """Where the fault is: an offset in bytes of UTF-8. It is None if the fault has no place."""
-    pos: int | None
-    """The same place in characters. For a syntax fault `text[pos:]` begins with `found`, if that is
-    not None. The column that `str(error)` names is one more, since columns count from 1."""
-    expected: Expected
-    """What could stand at the place of a syntax fault. For other faults no flag is set."""
-    found: str | None
-    """The token at the place of a syntax fault. It is None at the end of the text, and for other
-    faults."""
-    suggestion: str | None
-    """What to write in place of the part of the text that is wrong, such as `90min` for `1.5h`. It
-    is the empty text if that part is to be removed, such as the sign of `+5m`. It is None if it
-    isn't certain what to write."""
-    index: int | None
-    """The position of the text in its column, or None if it is in no column."""
-    report: str
-    """The report for a terminal: the text, a caret below the place, and the line. If the fault is
-    no syntax fault, and for some texts, it is the line alone (docs/GRAMMAR.md in the repository
-    says for which)."""
+    # The extension module makes the errors. The rest is computed when a program asks for it.
+    args: tuple[str, int, bool, int | None, bool]
 
-    def __init__(
-        self, report: str, text: str, cause: int, place: int | None = None, expected: int = 0,
-        found: str | None = None, index: int | None = None, help: int = 0,
-        suggestion: str | None = None, mend: tuple[int, int, int, int] | None = None,
-    ) -> None:  # fmt: skip
-        above, feed, line = report.rpartition("\n")
-        line = line if index is None else f"at index {index}: {line}"
-        super().__init__(line)
-        self.report = above + feed + line
-        self.text = text
-        self.cause = _CAUSES[cause]
-        self.place = place
-        self.expected = _EXPECTED[expected]
-        self.found = found
-        self.index = index
-        self.suggestion = suggestion
-        self._help = help
-        # The bytes at which the part to replace begins and ends, the options of the call, and the
-        # most nanoseconds that it reads
-        self._mend = mend
-        self.pos = place
-        if place is not None and not text.isascii():
-            self.pos = len(text.encode()[:place].decode())
+    def __str__(self) -> str:
+        *_, index, names_index = self.args
+        return f"at index {index}: {self._answer[0]}" if names_index else self._answer[0]
+
+    def __repr__(self) -> str:
+        return f"{type(self).__name__}({str(self)!r})"
+
+    @property
+    def _answer(self) -> "tuple[str, int, int | None, int | None, int, str | None]":
+        from ._native import answer
+
+        return answer(*self.args[:2])
+
+    @property
+    def _advice(self) -> "tuple[int, str | None, int, int]":
+        from ._native import help
+
+        return help(*self.args[:2])
+
+    @property
+    def text(self) -> str:
+        """The whole text."""
+        return self.args[0]
+
+    @property
+    def index(self) -> int | None:
+        """The position of the text in its column, or None if it is in no column."""
+        return self.args[3]
+
+    @property
+    def cause(self) -> Cause:
+        """Why the text is refused."""
+        return Cause(self._answer[1])
+
+    @property
+    def place(self) -> int | None:
+        """Where the fault is: an offset in bytes of UTF-8. It is None if the fault has no place."""
+        return self._answer[2]
+
+    @property
+    def pos(self) -> int | None:
+        """The same place in characters. For a syntax fault `text[pos:]` begins with `found`, if
+        that is not None. The column that `str(error)` names is one more, since columns count from
+        1."""
+        return self._answer[3]
+
+    @property
+    def expected(self) -> Expected:
+        """What could stand at the place of a syntax fault. For other faults no flag is set."""
+        return Expected(self._answer[4])
+
+    @property
+    def found(self) -> str | None:
+        """The token at the place of a syntax fault. It is None at the end of the text, and for
+        other faults."""
+        return self._answer[5]
 
     @property
     def help(self) -> "Help | None":
@@ -146,17 +154,22 @@ class DurationError(ValueError):
         # The import of the package takes less time without the many items of this enumeration.
         from ._help import Help
 
-        return Help(self._help) if self._help else None
+        number = self._advice[0]
+        return Help(number) if number else None
+
+    @property
+    def suggestion(self) -> str | None:
+        """What to write in place of the part of the text that is wrong, such as `90min` for `1.5h`.
+        It is the empty text if that part is to be removed, such as the sign of `+5m`. It is None if
+        it isn't certain what to write."""
+        return self._advice[1]
 
     @property
     def span(self) -> tuple[int, int] | None:
         """Where the part that the suggestion replaces begins and ends, in characters. It is None if
         `suggestion` is None."""
-        if self._mend is None:
-            return None
-        encoded = self.text.encode()
-        start, end = (len(encoded[:place].decode()) for place in self._mend[:2])
-        return start, end
+        _, suggestion, start, end = self._advice
+        return None if suggestion is None else (start, end)
 
     @property
     def mended(self) -> str | None:
@@ -165,10 +178,19 @@ class DurationError(ValueError):
         fault what to write, or if the text needs more than 32 suggestions."""
         from ._native import mended
 
-        return None if self._mend is None else mended(self.text, *self._mend[2:])
+        text, options, in_timedelta64, *_ = self.args
+        found = mended(text, options)
+        return None if found is None or (in_timedelta64 and found[1] >= 2**63) else found[0]
 
-    def __reduce__(self) -> tuple[object, ...]:
-        return type(self), (str(self), self.text, self.cause), self.__dict__
+    @property
+    def report(self) -> str:
+        """The report for a terminal: the text, a caret below the place, and the line. If the fault
+        is no syntax fault, and for some texts, it is the line alone (docs/GRAMMAR.md in the
+        repository says for which)."""
+        from ._native import report
+
+        above, feed, _ = report(*self.args[:2]).rpartition("\n")
+        return above + feed + str(self)
 
 
 def type_error_of(value: "Any", takes_numbers: bool, index: int) -> DurationTypeError:
@@ -187,15 +209,6 @@ def type_error_of(value: "Any", takes_numbers: bool, index: int) -> DurationType
     if is_number(value):
         help = ": to read numbers, name their unit, such as by default_unit='ms'"
     return DurationTypeError(f"{where}a duration's text must be a str, not {what}{help}")
-
-
-def surrogate_error_of(text: str, index: int) -> DurationError:
-    """The index -1 stands for none."""
-    try:
-        text.encode()
-    except UnicodeEncodeError as error:
-        report = f"not UTF-8: a lone surrogate at index {error.start}"
-    return DurationError(report, text, Cause.NOT_TEXT, index=None if index < 0 else index)
 
 
 def is_number(value: "Any") -> bool:

@@ -6,10 +6,10 @@
 #define MISSING ((uint64_t)INT64_MIN)
 #define MOST_DAYS 106750
 
-static int add_position(PyObject *list, Py_ssize_t position) {
-    PyObject *number = PyLong_FromSsize_t(position);
-    const int failed = !number || PyList_Append(list, number);
-    Py_XDECREF(number);
+/* Takes over the reference to the item. If that is NULL, there is an error already. */
+static int append(PyObject *list, PyObject *item) {
+    const int failed = !item || PyList_Append(list, item);
+    Py_XDECREF(item);
     return failed ? -1 : 0;
 }
 
@@ -29,8 +29,8 @@ static Py_ssize_t length_of(const struct list *list) {
     return length < list->room ? length : list->room;
 }
 
-/* `*missing` is the last value for which the function has returned NaT. If a value is the same
- * object, it becomes NaT without a call. */
+/* Returns 1 if the value is kept, and -1 with an error. `*missing` is the last value for which the
+ * function has returned NaT. If a value is the same object, it becomes NaT without a call. */
 static int keep(struct state *state, const struct list *list, Py_ssize_t at, PyObject *value,
     PyObject **missing) {
     long parts[3];
@@ -38,7 +38,7 @@ static int keep(struct state *state, const struct list *list, Py_ssize_t at, PyO
         PyFloat_CheckExact(value) && PyFloat_AsDouble(value) != PyFloat_AsDouble(value);
     if (Py_IsNone(value) || value == *missing || is_nan) {
         list->nanos[at] = MISSING;
-        return 0;
+        return 1;
     }
     if (Py_IS_TYPE(value, (PyTypeObject *)state->kept[TIMEDELTA])) {
         if (parts_of(state, value, parts))
@@ -46,7 +46,7 @@ static int keep(struct state *state, const struct list *list, Py_ssize_t at, PyO
         if (parts[0] >= -MOST_DAYS && parts[0] <= MOST_DAYS) {
             const int64_t secs = (int64_t)parts[0] * 86400 + parts[1];
             list->nanos[at] = (uint64_t)(secs * SECOND + (int64_t)parts[2] * 1000);
-            return 0;
+            return 1;
         }
     }
     PyObject *kept = PyObject_CallFunction(list->function, "On", value, list->first + at);
@@ -58,32 +58,7 @@ static int keep(struct state *state, const struct list *list, Py_ssize_t at, PyO
         Py_XDECREF(*missing);
         *missing = Py_NewRef(value);
     }
-    return PyErr_Occurred() ? -1 : 0;
-}
-
-static void raise_beyond(struct state *state, PyObject *given, Py_ssize_t index) {
-    const struct duration_str_answer answer = {.cause = DURATION_STR_CAUSE_OVERFLOW};
-    const struct help none = {.number = DURATION_STR_HELP_NONE};
-    PyObject *line = PyUnicode_FromString(
-        "duration of 2^63 nanoseconds or more, which timedelta64 doesn't have");
-    raise_error(state, line, PyUnicode_FromObject(given), &answer, NULL, index, none, 0, 0);
-}
-
-/* Returns what read_str does. If there is a function, a value that timedelta64 can't hold is
- * refused, too. */
-static int read_text(
-    struct state *state, const struct list *list, Py_ssize_t at, PyObject *text, bool raises) {
-    const uint64_t most = list->function ? INT64_MAX : UINT64_MAX;
-    int is_read = read_str(
-        state, text, list->reading.options, list->nanos + at, raises, list->first + at, most);
-    if (is_read == 1 && list->nanos[at] > most) {
-        is_read = raises ? -1 : 0;
-        if (raises)
-            raise_beyond(state, text, list->first + at);
-    }
-    if (!is_read)
-        list->nanos[at] = list->function ? MISSING : 0;
-    return is_read;
+    return PyErr_Occurred() ? -1 : 1;
 }
 
 /* Returns 1 if the value is kept, 0 if it is refused, and -1 with an error. A ValueError that is
@@ -94,11 +69,10 @@ static int read_other(struct state *state, const struct list *list, Py_ssize_t a
         if (!PyErr_ExceptionMatches(PyExc_ValueError))
             return -1;
         PyErr_Clear();
-        list->nanos[at] = list->function ? MISSING : 0;
         return 0;
     }
     if (list->function)
-        return keep(state, list, at, value, missing) ? -1 : 1;
+        return keep(state, list, at, value, missing);
     if (!list->raises)
         return 0;
     raise_type_error(state, value, &list->reading, list->first + at);
@@ -109,24 +83,28 @@ static int read_value(struct state *state, const struct list *list, Py_ssize_t a
     PyObject *refused, PyObject **missing) {
     PyObject *value = Py_NewRef(PyList_GetItem(list->values, at));
     PyObject *text = text_given(state, value, &list->reading);
-    const int is_read = text ? read_text(state, list, at, text, false)
+    const int is_read = text ? read_str(text, &list->reading, list->nanos + at)
                              : read_other(state, list, at, value, missing);
     Py_XDECREF(text);
     Py_DECREF(value);
     if (is_read)
         return is_read < 0 ? -1 : 0;
-    return add_position(refused, at);
+    list->nanos[at] = list->function ? MISSING : 0;
+    return append(refused, PyLong_FromSsize_t(at));
 }
 
+/* Returns -1 with the error of the first refused text or number, if there is one. */
 static int raise_first(struct state *state, const struct list *list, PyObject *refused) {
     const Py_ssize_t at =
         PyList_Size(refused) ? PyLong_AsSsize_t(PyList_GetItem(refused, 0)) : length_of(list);
     if (at >= length_of(list))
         return 0;
+    const Py_ssize_t index = list->first + at;
     PyObject *text = text_given(state, PyList_GetItem(list->values, at), &list->reading);
-    const bool is_raised = text && read_text(state, list, at, text, true) < 0;
+    if (text)
+        raise_made(error_of(state, text, &list->reading, index, index >= 0));
     Py_XDECREF(text);
-    return is_raised || PyErr_Occurred() ? -1 : 0;
+    return PyErr_Occurred() ? -1 : 0;
 }
 
 /* read_list(values, nanos, reading, raises, first, function): reads the texts in a list into a
@@ -152,6 +130,7 @@ PyObject *module_read_list(PyObject *module, PyObject *arguments) {
     list.room = nanos.len / 8;
     if (Py_IsNone(list.function))
         list.function = NULL;
+    list.reading.in_timedelta64 = list.function;
     for (Py_ssize_t at = 0; refused && at < length_of(&list); at++)
         if (read_value(state, &list, at, refused, &missing) ||
             ((at + 1) % A_TURN == 0 && end_turn()))

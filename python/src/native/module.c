@@ -33,6 +33,9 @@ static PyMethodDef module_methods[] = {
     {"limits", FAST(module_limits), NULL},
     {"format_list", module_format_list, METH_VARARGS, NULL},
     {"read_list", module_read_list, METH_VARARGS, NULL},
+    {"answer", module_answer, METH_VARARGS, NULL},
+    {"report", module_report, METH_VARARGS, NULL},
+    {"help", module_help, METH_VARARGS, NULL},
     {"mended", module_mended, METH_VARARGS, NULL},
     {NULL, NULL, 0, NULL},
 };
@@ -44,7 +47,6 @@ static int module_exec(PyObject *module) {
         state->kept[at] = PyUnicode_InternFromString(kept_names[at]);
     state->kept[ERROR] = member("duration_str._errors", "DurationError");
     state->kept[TYPE_ERROR_OF] = member("duration_str._errors", "type_error_of");
-    state->kept[SURROGATE_ERROR_OF] = member("duration_str._errors", "surrogate_error_of");
     state->kept[NANOS_OF] = member("duration_str._errors", "nanos_of");
     state->kept[WHOLE_OF] = member("duration_str._errors", "whole_of");
     state->kept[UNNAMED] = member("duration_str._errors", "UNNAMED");

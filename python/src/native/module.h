@@ -52,7 +52,6 @@ enum kept {
     MICROSECONDS,
     ERROR,
     TYPE_ERROR_OF,
-    SURROGATE_ERROR_OF,
     NANOS_OF,
     WHOLE_OF,
     UNNAMED,
@@ -88,7 +87,8 @@ int end_turn(void);
 
 struct reading {
     uint32_t options;
-    int takes_numbers; /* whether a whole number that is not a text is read */
+    int takes_numbers;   /* whether a whole number that is not a text is read */
+    bool in_timedelta64; /* whether durations of 2^63 nanoseconds or more are refused */
 };
 
 int name_of(struct state *state, const char *call, PyObject *keyword, int first, int last);
@@ -108,36 +108,20 @@ static inline bool has_one(const char *call, Py_ssize_t count) {
 
 /* errors.c */
 
-/* A text in UTF-8. Its str owns the bytes. */
-struct text {
-    const char *bytes;
-    size_t length;
-};
-
-/* The help for a refused text: a number of `enum duration_str_help_kind`, and the suggestion, with
- * the part that it replaces. If nothing is certain, the suggestion is empty and the numbers are
- * 0. */
-struct help {
-    uint32_t number;
-    char suggestion[DURATION_STR_SUGGESTION_BUFFER_SIZE];
-    size_t start, replaced_length;
-};
-
-struct help help_of(struct text text, uint32_t options);
-void raise_error(struct state *state, PyObject *report, PyObject *text,
-    const struct duration_str_answer *answer, const char *bytes, Py_ssize_t index, struct help help,
-    uint32_t options, uint64_t most);
+PyObject *error_of(struct state *state, PyObject *given, const struct reading *reading,
+    Py_ssize_t index, bool names_index);
 void raise_made(PyObject *error);
 void raise_type_error(
     struct state *state, PyObject *value, const struct reading *reading, Py_ssize_t index);
-PyObject *report_of(struct text text, uint32_t options, struct duration_str_answer *answer);
-PyObject *module_mended(PyObject *module, PyObject *args);
+PyObject *module_answer(PyObject *module, PyObject *arguments);
+PyObject *module_report(PyObject *module, PyObject *arguments);
+PyObject *module_help(PyObject *module, PyObject *arguments);
+PyObject *module_mended(PyObject *module, PyObject *arguments);
 
 /* reading.c */
 
 PyObject *digits_of(struct state *state, PyObject *value);
-int read_str(struct state *state, PyObject *given, uint32_t options, uint64_t *nanos, bool raises,
-    Py_ssize_t index, uint64_t most);
+int read_str(PyObject *given, const struct reading *reading, uint64_t *nanos);
 PyObject *module_parse_ns(
     PyObject *module, PyObject *const *arguments, Py_ssize_t count, PyObject *keywords);
 PyObject *module_parse(

@@ -5,37 +5,24 @@
 #define INEXACT 9007199254740992.0
 
 /* Reads the text of a str, whatever a subclass says that it holds. Returns 1 if the text is read,
- * and 0 if it is refused and `raises` is false. Otherwise returns -1 with an error. `most` is only
- * for the error: the nanoseconds that its mended text can have. */
-int read_str(struct state *state, PyObject *given, uint32_t options, uint64_t *nanos, bool raises,
-    Py_ssize_t index, uint64_t most) {
+ * 0 if it is refused, and -1 with an error. */
+int read_str(PyObject *given, const struct reading *reading, uint64_t *nanos) {
     Py_ssize_t length;
-    struct duration_str_answer answer;
-    struct text text = {.bytes = PyUnicode_AsUTF8AndSize(given, &length)};
-    if (!text.bytes) {
-        if (!PyErr_ExceptionMatches(PyExc_UnicodeEncodeError))
-            return -1;
-        PyErr_Clear();
-        if (!raises)
-            return 0;
-        raise_made(PyObject_CallFunction(
-            state->kept[SURROGATE_ERROR_OF], "Nn", PyUnicode_FromObject(given), index));
+    const char *bytes = PyUnicode_AsUTF8AndSize(given, &length);
+    if (!bytes && !PyErr_ExceptionMatches(PyExc_UnicodeEncodeError))
         return -1;
+    if (!bytes) {
+        PyErr_Clear();
+        return 0;
     }
-    text.length = (size_t)length;
+    struct duration_str_answer answer;
+    const uint32_t options = reading->options;
     /* The call without options is faster, but doesn't say why it refuses a text. */
-    const bool is_read = options
-                             ? duration_str_parse_with(text.bytes, text.length, options, &answer)
-                             : duration_str_parse(text.bytes, text.length, nanos);
+    const bool is_read = options ? duration_str_parse_with(bytes, (size_t)length, options, &answer)
+                                 : duration_str_parse(bytes, (size_t)length, nanos);
     if (is_read && options)
         *nanos = answer.nanos;
-    if (is_read || !raises)
-        return is_read;
-    PyObject *report = report_of(text, options, &answer);
-    const struct help help = help_of(text, options);
-    PyObject *whole = PyUnicode_FromObject(given);
-    raise_error(state, report, whole, &answer, text.bytes, index, help, options, most);
-    return -1;
+    return is_read && !(reading->in_timedelta64 && *nanos > INT64_MAX);
 }
 
 /* The text that the library is given for a number, such as its digits. Returns NULL without an
@@ -66,15 +53,19 @@ PyObject *digits_of(struct state *state, PyObject *value) {
 
 static int read_call(struct state *state, const char *call, PyObject *const *arguments,
     Py_ssize_t count, PyObject *keywords, uint64_t *nanos) {
-    struct reading reading;
-    if (!has_one(call, count) || take_options(state, call, arguments + 1, keywords, &reading))
+    struct reading reading = {.options = 0};
+    if (!has_one(call, count))
+        return -1;
+    if (keywords && take_options(state, call, arguments + 1, keywords, &reading))
         return -1;
     PyObject *text = text_given(state, arguments[0], &reading);
     if (!text && !PyErr_Occurred())
         raise_type_error(state, arguments[0], &reading, -1);
     if (!text)
         return -1;
-    const int is_read = read_str(state, text, reading.options, nanos, true, -1, UINT64_MAX);
+    const int is_read = read_str(text, &reading, nanos);
+    if (!is_read)
+        raise_made(error_of(state, text, &reading, -1, false));
     Py_DECREF(text);
     return is_read == 1 ? 0 : -1;
 }
