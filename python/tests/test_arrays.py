@@ -12,12 +12,19 @@ from duration_str import (
     DurationError,
     DurationTypeError,
     breakdown,
+    errors_of,
     format,
     format_many,
     parse_many,
     to_timedelta,
 )
-from tests.vectors import REFUSED_IN_MILLIS, value_columns
+from tests.vectors import (
+    REFUSED_IN_MILLIS,
+    error_of,
+    refused_positions,
+    told_by,
+    value_columns,
+)
 
 try:
     import numpy
@@ -51,6 +58,13 @@ class Nothing(unittest.TestCase):
 
     def test_prints_lists(self):
         self.assertEqual(format_many([MINUTE, None, datetime.timedelta(1)]), ["1min", None, "1d"])
+
+    def test_tells_the_errors_of_lists(self):
+        errors = errors_of(["1s", "5 mins", None, float("nan"), 5, datetime.timedelta.max])
+        self.assertEqual(
+            [*map(type, errors.values())], [DurationError, DurationTypeError, OverflowError]
+        )
+        self.assertEqual([*errors], [1, 4, 5])
 
 
 @unittest.skipUnless(numpy, "NumPy or pandas is missing")
@@ -508,6 +522,152 @@ class Reading(unittest.TestCase):
         ]
         for column in [pandas.Series(texts), pandas.Series([*texts, None])]:
             pandas.testing.assert_series_equal(to_timedelta(column), pandas.to_timedelta(column))
+
+
+@unittest.skipUnless(numpy, "NumPy or pandas is missing")
+class Errors(unittest.TestCase):
+    def test_says_of_each_text_what_it_alone_raises(self):
+        for options, rows in value_columns():
+            texts = [text for text, _ in rows]
+            values = [value if value is not None and value < 2**63 else None for _, value in rows]
+            refused = refused_positions(values)
+            for column in (texts, tuple(texts), numpy.array(texts, dtype=object)):
+                errors = errors_of(column, **options)
+                with self.subTest(type=type(column), **options):
+                    self.assertEqual([*errors], refused)
+            for at, error in errors.items():
+                with self.subTest(text=texts[at], **options):
+                    alone = error_of(to_timedelta, texts[at], **options)
+                    self.assertEqual(told_by(error), {**told_by(alone), "index": at})
+
+    def test_keeps_the_labels_of_a_series(self):
+        took = ["1s", "5 mins", None, "soon", "5 mins"]
+        wanted = [(1, "5 min"), (3, None), (4, "5 min")]
+        for index in (
+            None,
+            list("abcde"),
+            list("aabba"),
+            pandas.MultiIndex.from_product([["x"], range(5)], names=["job", "run"]),
+            pandas.date_range("2026-01-01", periods=5),
+        ):
+            for kind in (object, "string", "category"):
+                series = pandas.Series(took, index=index, name="took", dtype=kind)
+                errors = errors_of(series)
+                with self.subTest(index=index, kind=kind):
+                    self.assertEqual((errors.name, errors.dtype), ("took", object))
+                    pandas.testing.assert_index_equal(errors.index, series.index[[1, 3, 4]])
+                    self.assertEqual([(error.index, error.mended) for error in errors], wanted)
+        sparse = pandas.Series(pandas.arrays.SparseArray(numpy.array(took, dtype=object)))
+        self.assertEqual([*errors_of(sparse).index], [1, 3, 4])
+
+    def test_gives_positions_for_other_columns(self):
+        table = numpy.array([["1s", "x"], ["y", "2s"]])
+        columns = [table, table.ravel(), [*table.ravel()], pandas.Index(table.ravel())]
+        columns += [pandas.array([*table.ravel()], dtype="string"), iter(table.ravel().tolist())]
+        for column in columns:
+            with self.subTest(type=type(column)):
+                errors = errors_of(column)
+                self.assertIs(type(errors), dict)
+                self.assertEqual(
+                    [(at, error.text) for at, error in errors.items()], [(1, "x"), (2, "y")]
+                )
+
+    def test_tells_all_or_nothing(self):
+        for values, rows in (
+            ([], []),
+            (["1s", "2m"], []),
+            ([None, float("nan"), pandas.NA, pandas.NaT, numpy.timedelta64("NaT")], []),
+            (["x", "1.5h", ""], [0, 1, 2]),
+            (["x"] * 10_000, [*range(10_000)]),
+        ):
+            self.assertEqual([*errors_of(values)], rows)
+            for kind in (object, "category"):
+                errors = errors_of(pandas.Series(values, dtype=kind))
+                self.assertEqual((type(errors), [*errors.index]), (pandas.Series, rows))
+        for kind in ("float64", "string", "timedelta64[ns]"):
+            self.assertEqual(len(errors_of(pandas.Series([None], dtype=kind))), 0)
+
+    def test_takes_the_options_of_reading(self):
+        for text, options in (
+            ("5 mins", {"more_names": True}),
+            ("5分", {"cn_unit": True}),
+            (1500, {"default_unit": "ms"}),
+            (numpy.int64(5), {"default_unit": "s"}),
+        ):
+            self.assertEqual([*errors_of([text])], [0])
+            self.assertEqual(errors_of([text], **options), {})
+        for text, options in (
+            ("5", {"require_unit": True}),
+            ("1M", {"lowercase": True}),
+            ("1s+1s", {"no_calc": True}),
+            ("2*3", {"default_unit": "ms"}),
+        ):
+            self.assertEqual(errors_of([text]), {})
+            self.assertEqual([*errors_of([text], **options)], [0])
+        errors = errors_of(["5 mins 1.5h"], require_unit=True, more_names=True)
+        self.assertEqual(errors[0].mended, "5 mins 90min")
+        for options in ({"default_unit": "mins"}, {"default_unit": "s", "require_unit": True}):
+            self.assertRaises(ValueError, errors_of, ["1s"], **options)
+
+    def test_tells_what_timedelta64_lacks(self):
+        line = "duration of 2^63 nanoseconds or more, which timedelta64 doesn't have"
+        for text in (f"{2**63}ns", "300y", f"{2**64 - 1}ns"):
+            (error,) = errors_of([text]).values()
+            self.assertEqual((str(error), error.cause), (line, Cause.OVERFLOW))
+            self.assertEqual((error.report, error.help, error.mended), (line, None, None))
+        self.assertEqual(errors_of([f"{2**63 - 1}ns"]), {})
+        self.assertEqual(errors_of(["293 yrs", "292 yrs"])[0].mended, None)
+        self.assertEqual(errors_of(["293 yrs", "292 yrs"])[1].mended, "292 y")
+        days = numpy.array([1, 2**40], dtype="timedelta64[D]")
+        self.assertEqual(
+            [(at, type(error)) for at, error in errors_of(days).items()], [(1, OverflowError)]
+        )
+        self.assertEqual(errors_of(days[:1]), {})
+
+    def test_tells_why_other_values_are_refused(self):
+        values = [b"1s", True, datetime.date(2026, 1, 1), 90, 1.5, datetime.timedelta.max, "x"]
+        values += [numpy.float32(1), numpy.timedelta64(1, "Y"), datetime.timedelta(1)]
+        errors = errors_of(values)
+        self.assertEqual([*errors], [*range(9)])
+        for at, error in errors.items():
+            with self.subTest(value=values[at]):
+                with self.assertRaises((DurationTypeError, OverflowError, DurationError)) as raised:
+                    to_timedelta([values[at]])
+                told = f"at index 0: {error}"
+                self.assertEqual(
+                    (type(error), told), (type(raised.exception), str(raised.exception))
+                )
+                if not isinstance(error, DurationError):
+                    self.assertEqual((error.help, error.mended), (None, None))
+        for value, line in REFUSED_IN_MILLIS:
+            (error,) = errors_of([value], default_unit="ms").values()
+            self.assertEqual(str(error), line)
+        (error,) = errors_of([10**5_000], default_unit="ms").values()
+        self.assertIs(type(error), ValueError)
+        self.assertIn("4300 digits", str(error))
+        self.assertEqual((error.help, error.mended), (None, None))
+        for value in (-1, 1.5):
+            (error,) = errors_of([value], default_unit="ms").values()
+            self.assertEqual((type(error), error.text), (DurationError, str(value)))
+
+    def test_tells_of_each_row_that_is_coerced(self):
+        column = pandas.Series(
+            ["1h", "5 mins", None, b"1s", "2 hrs", True, "300y", "", "1.5h"] * 50
+        )
+        missing = to_timedelta(column, errors="coerce").isna() & column.notna()
+        self.assertEqual([*errors_of(column).index], [*column[missing].index])
+        mended = errors_of(column).map(lambda error: error.mended).dropna()
+        self.assertEqual({*mended}, {"5 min", "2 h", "90min"})
+        self.assertEqual(len(errors_of(mended)), 0)
+
+    def test_refuses_no_column(self):
+        for column in ("5 mins", b"5 mins", 5, None):
+            self.assertRaises(TypeError, errors_of, column)
+        with self.assertRaisesRegex(TypeError, "^a DataFrame is no column"):
+            errors_of(pandas.DataFrame({"took": ["1s"]}))
+        for values in ([], [pandas.NaT]):
+            with self.assertRaisesRegex(DurationTypeError, r"type datetime64\[ns\]$"):
+                errors_of(pandas.Series(values, dtype="datetime64[ns]"))
 
 
 @unittest.skipUnless(numpy, "NumPy or pandas is missing")

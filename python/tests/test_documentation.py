@@ -39,7 +39,7 @@ class Documentation(unittest.TestCase):
     def test_names_no_module_of_its_own_in_pickles(self):
         for value in [
             "duration_str.Duration",
-            "duration_str.DurationError('1.5h', 0, False, None, False).help",
+            "duration_str.errors_of(['1.5h'])[0].help",
         ]:
             program = f"import duration_str, pickle; print(pickle.dumps({value}))"
             run = subprocess.run([sys.executable, "-c", program], capture_output=True, text=True)
@@ -84,7 +84,7 @@ class Documentation(unittest.TestCase):
         for name, more in ("format", ", style='short'"), ("breakdown", ""):
             signature = inspect.signature(getattr(duration_str, name))
             self.assertEqual(f"(value, /, *, {limits}{more})", str(signature))
-        for name in ["parse_many", "to_timedelta", "DurationField"]:
+        for name in ["parse_many", "to_timedelta", "errors_of", "DurationField"]:
             signature = inspect.signature(getattr(duration_str, name))
             parameters = [*map(str, signature.parameters.values())]
             self.assertEqual(parameters[-6], "no_calc: 'bool' = False")

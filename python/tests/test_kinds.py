@@ -8,7 +8,7 @@ import datetime
 import re
 import unittest
 
-from duration_str import DurationTypeError, format_many, parse_many, to_timedelta
+from duration_str import DurationTypeError, errors_of, format_many, parse_many, to_timedelta
 
 try:
     import numpy
@@ -266,6 +266,17 @@ class Kinds(unittest.TestCase):
                 for column in as_columns(kind, values):
                     for words in [{}, {"default_unit": "ns"}, {"errors": "coerce"}]:
                         self.check_values(kind, column, values, words)
+                    for words in [{}, {"default_unit": "ns"}]:
+                        with self.subTest(kind=kind, type=type(column), words=words):
+                            self.check_errors(column, values, words)
+
+    def check_errors(self, column, values, words):
+        def told(given):
+            # The error of a timedelta shows it as the column gives it.
+            rows = errors_of(given, **words).items()
+            return [(at, type(error), str(error).partition(": ")[0]) for at, error in rows]
+
+        self.assertEqual(told(column), told(values))
 
     @unittest.skipUnless(numpy, "NumPy or pandas is missing")
     def test_takes_no_value_apart(self):

@@ -15,6 +15,7 @@ import duration_str
 from duration_str import (
     DurationError,
     breakdown,
+    errors_of,
     format,
     format_many,
     parse,
@@ -148,6 +149,36 @@ class Safety(unittest.TestCase):
                 duration_str._native.read_list(
                     [Odd()], array("Q", [0]), (0, False), True, 0, lambda value, index: kept
                 )
+        errors = []
+
+        def change_errors(value, index):
+            errors.clear()
+            values.clear()
+            return ValueError("odd")
+
+        values = ["x", Odd(), "x"]
+        nanos = array("Q", bytes(24))
+        arguments = (values, nanos, (0, False), False, 0, change_errors)
+        self.assertEqual(duration_str._native.read_list(*arguments, errors), [0, 1])
+        self.assertEqual([*map(str, errors)], ["odd"])
+        # Only errors_of takes an error for an answer.
+        values += [Odd()]
+        self.assertRaises(TypeError, duration_str._native.read_list, *arguments)
+
+    def test_leaves_the_garbage_collector_on_or_off(self):
+        def fail(value, index):
+            raise ZeroDivisionError
+
+        self.addCleanup(gc.enable)
+        arguments = (["x", Odd()], array("Q", bytes(16)), (0, False), False, 0)
+        for switch in (gc.disable, gc.enable):
+            switch()
+            is_on = gc.isenabled()
+            errors_of(["x"])
+            self.assertEqual(gc.isenabled(), is_on)
+            with self.assertRaises(ZeroDivisionError):
+                duration_str._native.read_list(*arguments, fail, [])
+            self.assertEqual(gc.isenabled(), is_on)
 
     @unittest.skipUnless(
         sys.version_info >= (3, 12), "interpreters share a lock before CPython 3.12"
@@ -204,6 +235,9 @@ class Safety(unittest.TestCase):
                 parse_many(["1s", "x", None, "\ud800"] * 200, errors="coerce")
                 mixed = ["1s", 1_500, 1.5, 2e3, None, True, 10**5_000, -1_000]
                 parse_many(mixed * 20, errors="coerce", default_unit="ms")
+                for error in errors_of(["5 mins", "300y", "\ud800", *mixed] * 20).values():
+                    error.mended
+                errors_of(mixed * 20, default_unit="ms")
                 missing = [b"x" * 10_000, b"y" * 10_000]
                 duration_str._native.read_list(
                     missing, array("Q", [0, 0]), (0, False), True, 0, lambda *_: -(2**63)

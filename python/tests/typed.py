@@ -79,6 +79,8 @@ assert_type(duration_str.parse_many(["1m", None], errors="coerce"), tuple[array[
 duration_str.parse_many(["1m"], errors="ignore")  # type: ignore[call-overload]
 assert_type(duration_str.to_timedelta(["1m"]), "NDArray[numpy.timedelta64]")
 duration_str.to_timedelta(["1m"], errors="ignore")  # type: ignore[call-overload]
+assert_type(duration_str.errors_of(["1m"]), dict[int, Exception])
+duration_str.errors_of(["1m"], errors="coerce")  # type: ignore[call-overload]
 timeout: duration_str.Duration = datetime.timedelta(1)
 pause: Annotated[datetime.timedelta, duration_str.DurationField(default_unit="ms")] = timeout
 try:

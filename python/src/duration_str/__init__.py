@@ -75,6 +75,7 @@ For a column:
 
   parse_many    reads texts into an array of nanoseconds
   to_timedelta  reads texts for NumPy or pandas
+  errors_of     says why to_timedelta refuses values
   format_many   prints durations
 
 For a validator that takes a regular expression, `pattern` returns one.
@@ -103,7 +104,7 @@ TYPE_CHECKING = False
 if TYPE_CHECKING:
     from typing import Any
 
-    from ._arrays import format_many, to_timedelta
+    from ._arrays import errors_of, format_many, to_timedelta
     from ._columns import parse_many
     from ._help import Help
     from ._lists import PrintedUnit, Rounding, Style, Unit
@@ -129,6 +130,7 @@ __all__ = [
 ]
 __all__ += [
     "breakdown",
+    "errors_of",
     "format_many",
     "parse",
     "parse_many",

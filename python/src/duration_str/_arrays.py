@@ -22,7 +22,17 @@ from ._columns import (
     values_of,
 )
 from ._lists import Rounding, Style, Unit
-from ._errors import NANOS, UNNAMED, UNSAID, is_number, nanos_a_step, nanos_of, type_error_of
+from ._errors import (
+    NANOS,
+    UNNAMED,
+    UNSAID,
+    DurationError,
+    DurationTypeError,
+    is_number,
+    nanos_a_step,
+    nanos_of,
+    type_error_of,
+)
 
 if TYPE_CHECKING:
     import numpy
@@ -57,24 +67,39 @@ def _like(values: Any, result: Any) -> Any:
     return result.reshape(values.shape) if hasattr(values, "shape") else result
 
 
-def _nanos_of_value(value: Any, index: int, raises: bool, takes_numbers: bool) -> int:
-    """Returns the nanoseconds of a value that has no text. They stand for NaT if the value is
-    missing, or if it is refused and `raises` is false. Even then it raises an error for a number if
-    `takes_numbers` is false."""
-    import numpy
-
+def _nanos_or_error(value: Any, index: int, takes_numbers: bool) -> int | Exception:
+    """Returns the nanoseconds of a value that has no text, or the error if it is refused. If it is
+    missing, its nanoseconds stand for NaT. The index -1 stands for none."""
+    numpy: Any = sys.modules.get("numpy")
     if is_missing(value):
         return _NAT
     is_kept = isinstance(value, datetime.timedelta)
-    if isinstance(value, numpy.timedelta64):
+    if numpy and isinstance(value, numpy.timedelta64):
         is_kept = numpy.datetime_data(value.dtype)[0] in NANOS
-    if is_kept and abs(nanos := nanos_of(value)) < 2**63:
+    if not is_kept:
+        return type_error_of(value, takes_numbers, index)
+    nanos = nanos_of(value)
+    if abs(nanos) < 2**63:
         return nanos
-    if raises and is_kept:
-        where = "" if index < 0 else f"at index {index}: "
-        raise OverflowError(f"{where}timedelta64 doesn't have 2**63 nanoseconds or more: {value!r}")
-    if raises:
-        raise type_error_of(value, takes_numbers, index)
+    where = "" if index < 0 else f"at index {index}: "
+    return OverflowError(f"{where}timedelta64 doesn't have 2**63 nanoseconds or more: {value!r}")
+
+
+def _nanos_or_raised(value: Any, index: int, takes_numbers: bool) -> int:
+    nanos = _nanos_or_error(value, index, takes_numbers)
+    if isinstance(nanos, int):
+        return nanos
+    raise nanos
+
+
+def _nanos_or_coerced(value: Any, index: int, takes_numbers: bool) -> int:
+    """For a refused value it returns nanoseconds that stand for NaT. But for a number it raises an
+    error if `takes_numbers` is false."""
+    import numpy
+
+    nanos = _nanos_or_error(value, index, takes_numbers)
+    if isinstance(nanos, int):
+        return nanos
     if not takes_numbers and (is_number(value) or isinstance(value, numpy.floating)):
         raise coerced_error_of(value, takes_numbers, index)
     return _NAT
@@ -194,13 +219,110 @@ def to_timedelta(
         return values.copy() if is_same else _like(values, lengths)
     texts = [values] if is_one else values_of(values, kind)
     nanos = array("Q", [0]) * len(texts)
-    other = partial(_nanos_of_value, raises=raises, takes_numbers=reading[1])
+    other = partial(_nanos_or_raised if raises else _nanos_or_coerced, takes_numbers=reading[1])
     _native.read_list(texts, nanos, reading, raises, -1 if is_one else 0, other)
     result = numpy.asarray(nanos).view("timedelta64[ns]")
     if not is_one:
         return _like(values, result)
     pandas = sys.modules.get("pandas")
     return pandas.Timedelta(result[0]) if pandas is not None else result[0]
+
+
+@overload
+def errors_of(
+    values: list[Any] | tuple[Any, ...] | NDArray[Any],
+    *,
+    no_calc: bool = ...,
+    lowercase: bool = ...,
+    cn_unit: bool = ...,
+    require_unit: bool = ...,
+    more_names: bool = ...,
+    default_unit: Unit = ...,
+) -> dict[int, Exception]:
+    ...
+
+
+@overload
+def errors_of(
+    values: Any,
+    *,
+    no_calc: bool = ...,
+    lowercase: bool = ...,
+    cn_unit: bool = ...,
+    require_unit: bool = ...,
+    more_names: bool = ...,
+    default_unit: Unit = ...,
+) -> Any:
+    ...
+
+
+def errors_of(
+    values: Any,
+    *,
+    no_calc: bool = UNSAID,
+    lowercase: bool = False,
+    cn_unit: bool = False,
+    require_unit: bool = False,
+    more_names: bool = False,
+    default_unit: Unit = UNNAMED,
+) -> Any:
+    """Reads a column as `to_timedelta` does, and returns the error of each
+    value that it refuses. The options are those of `parse_ns`.
+
+    For a Series it returns a Series of the errors, with the same name and with
+    the labels of the refused rows. For any other column, such as a list, it
+    returns a dict. Its keys are the positions of the refused values, in order,
+    and of an array of several dimensions those in the flat array.
+
+    The error of a text is a DurationError, and so is that of a number if you
+    name a default unit. Its `index` is the position, but its line doesn't
+    begin with it. Other values have the errors that `to_timedelta` raises for
+    them, mostly a DurationTypeError. So have numbers if you name no default
+    unit. The `help` and `mended` of these errors are None. Missing values have
+    no error.
+
+    For a column of a type that is never read, such as datetime64, it raises
+    DurationTypeError, and for a value that is no column, such as a single
+    text, TypeError.
+
+    >>> errors = duration_str.errors_of(["1h", "5 mins", None, "soon"])
+    >>> for position, error in errors.items():
+    ...     print(position, error.mended, error)
+    1 5 min unknown unit "mins" at column 3 (did you mean "min"?)
+    3 None expected a number at column 1, found "soon"
+    """
+    reading = _native.reading(
+        no_calc=no_calc,
+        lowercase=lowercase,
+        cn_unit=cn_unit,
+        require_unit=require_unit,
+        more_names=more_names,
+        default_unit=default_unit,
+    )
+    kind = kind_of(values)
+    texts = values_of(values, kind) if _in_nanos(values, kind) is None else []
+    nanos = array("Q", [0]) * len(texts)
+    errors: list[Any] = []
+
+    def other(value: Any, _: int) -> int | Exception:
+        return _nanos_or_error(value, -1, reading[1])
+
+    rows = _native.read_list(texts, nanos, reading, False, 0, other, errors)
+    for error in errors:
+        # A program can ask each error for these.
+        if not isinstance(error, (DurationError, DurationTypeError)):
+            error.help = error.mended = None
+    pandas = sys.modules.get("pandas")
+    if pandas is None or not isinstance(values, pandas.Series):
+        return dict(zip(rows, errors))
+    import numpy
+
+    labels = values.index.take(numpy.array(rows, dtype="int64"))
+    result = numpy.empty(len(errors), dtype=object)
+    # If the whole list were assigned, NumPy would look for items in each error, which takes longer.
+    for place, error in enumerate(errors):
+        result[place] = error
+    return pandas.Series(result, index=labels, name=values.name)
 
 
 def format_many(

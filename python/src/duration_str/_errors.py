@@ -68,6 +68,10 @@ class DurationTypeError(TypeError, ValueError):
     float of 2**53 or more. This error is also a ValueError, since pydantic
     doesn't take a plain TypeError for a refusal."""
 
+    # A program can ask each error of a column for these.
+    help: None = None
+    mended: None = None
+
 
 class DurationError(ValueError):
     """A text is refused. `str(error)` is one line for people: it says what is

@@ -136,7 +136,8 @@ def read_list(
     reading: tuple[int, bool],
     raises: bool,
     first: int,
-    function: Callable[[Any, int], int] | None,
+    function: Callable[[Any, int], int | Exception] | None,
+    errors: list[Exception] = ...,
     /,
 ) -> list[int]: ...
 def answer(

@@ -13,6 +13,16 @@ static int append(PyObject *list, PyObject *item) {
     return failed ? -1 : 0;
 }
 
+/* Returns the error that is raised, and raises it no longer. */
+static PyObject *take_raised(void) {
+    PyObject *type, *error, *traceback;
+    PyErr_Fetch(&type, &error, &traceback);
+    PyErr_NormalizeException(&type, &error, &traceback);
+    Py_XDECREF(type);
+    Py_XDECREF(traceback);
+    return error;
+}
+
 struct list {
     PyObject *values;
     uint64_t *nanos;
@@ -21,6 +31,7 @@ struct list {
     int raises;
     Py_ssize_t first;   /* the index of the first value, or -1 for a value by itself */
     PyObject *function; /* for timedelta64: called for values not read here; otherwise NULL */
+    PyObject *errors;   /* gets the error of each refused value, or is NULL */
 };
 
 /* A function that is called may have made the list longer or shorter. */
@@ -29,8 +40,9 @@ static Py_ssize_t length_of(const struct list *list) {
     return length < list->room ? length : list->room;
 }
 
-/* Returns 1 if the value is kept, and -1 with an error. `*missing` is the last value for which the
- * function has returned NaT. If a value is the same object, it becomes NaT without a call. */
+/* Returns 1 if the value is kept, 0 if the function returns its error, and -1 with an error.
+ * `*missing` is the last value for which the function has returned NaT. If a value is the same
+ * object, it becomes NaT without a call. */
 static int keep(struct state *state, const struct list *list, Py_ssize_t at, PyObject *value,
     PyObject **missing) {
     long parts[3];
@@ -52,6 +64,8 @@ static int keep(struct state *state, const struct list *list, Py_ssize_t at, PyO
     PyObject *kept = PyObject_CallFunction(list->function, "On", value, list->first + at);
     if (!kept)
         return -1;
+    if (list->errors && PyExceptionInstance_Check(kept))
+        return append(list->errors, kept);
     list->nanos[at] = (uint64_t)PyLong_AsLongLong(kept);
     Py_DECREF(kept);
     if (list->nanos[at] == MISSING) {
@@ -68,6 +82,8 @@ static int read_other(struct state *state, const struct list *list, Py_ssize_t a
     if (PyErr_Occurred()) {
         if (!PyErr_ExceptionMatches(PyExc_ValueError))
             return -1;
+        if (list->errors)
+            return append(list->errors, take_raised());
         PyErr_Clear();
         return 0;
     }
@@ -83,8 +99,11 @@ static int read_value(struct state *state, const struct list *list, Py_ssize_t a
     PyObject *refused, PyObject **missing) {
     PyObject *value = Py_NewRef(PyList_GetItem(list->values, at));
     PyObject *text = text_given(state, value, &list->reading);
-    const int is_read = text ? read_str(text, &list->reading, list->nanos + at)
-                             : read_other(state, list, at, value, missing);
+    int is_read = text ? read_str(text, &list->reading, list->nanos + at)
+                       : read_other(state, list, at, value, missing);
+    if (text && !is_read && list->errors)
+        is_read =
+            append(list->errors, error_of(state, text, &list->reading, list->first + at, false));
     Py_XDECREF(text);
     Py_DECREF(value);
     if (is_read)
@@ -107,22 +126,25 @@ static int raise_first(struct state *state, const struct list *list, PyObject *r
     return PyErr_Occurred() ? -1 : 0;
 }
 
-/* read_list(values, nanos, reading, raises, first, function): reads the texts in a list into a
- * buffer of zeros, and also its numbers, if `reading` allows that. Returns a list of the positions
- * of the values that it refuses. These are refused texts and numbers, and without a function also
- * values of other types.
+/* read_list(values, nanos, reading, raises, first, function, errors): reads the texts in a list
+ * into a buffer of zeros, and also its numbers, if `reading` allows that. Returns a list of the
+ * positions of the values that it refuses. These are refused texts and numbers, without a function
+ * also values of other types, and with one those whose error the function returns.
  *
  * If `raises` is true, it raises an error instead: that of the first value of another type, or, if
  * there is none, that of the first refused text or number. The error counts positions from `first`.
  *
  * If `function` is not None, the buffer gets numbers of timedelta64. None, NaN and a refused text
- * become NaT. For a value that is not read here, the function returns the number. */
+ * become NaT. For a value that is not read here, the function returns the number.
+ *
+ * `errors` is a list, or is left out. Each value that is refused appends its error to the list. For
+ * a value that is not read here, the function can return the error. */
 PyObject *module_read_list(PyObject *module, PyObject *arguments) {
-    struct list list;
+    struct list list = {.errors = NULL};
     Py_buffer nanos;
-    if (!PyArg_ParseTuple(arguments, "O!w*(Ip)pnO", &PyList_Type, &list.values, &nanos,
+    if (!PyArg_ParseTuple(arguments, "O!w*(Ip)pnO|O!", &PyList_Type, &list.values, &nanos,
             &list.reading.options, &list.reading.takes_numbers, &list.raises, &list.first,
-            &list.function))
+            &list.function, &PyList_Type, &list.errors))
         return NULL;
     struct state *state = PyModule_GetState(module);
     PyObject *refused = PyList_New(0), *missing = NULL;
@@ -131,12 +153,17 @@ PyObject *module_read_list(PyObject *module, PyObject *arguments) {
     if (Py_IsNone(list.function))
         list.function = NULL;
     list.reading.in_timedelta64 = list.function;
+    /* Errors are in no cycles. For some thousands of them the garbage collector would look through
+     * the whole column. */
+    const bool pauses = list.errors && PyGC_Disable();
     for (Py_ssize_t at = 0; refused && at < length_of(&list); at++)
         if (read_value(state, &list, at, refused, &missing) ||
             ((at + 1) % A_TURN == 0 && end_turn()))
             Py_CLEAR(refused);
     if (refused && list.raises && raise_first(state, &list, refused))
         Py_CLEAR(refused);
+    if (pauses)
+        PyGC_Enable();
     Py_XDECREF(missing);
     PyBuffer_Release(&nanos);
     return refused;
