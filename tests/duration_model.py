@@ -163,7 +163,8 @@ def read(data, options):
 
 
 def field_in(line, options):
-    """The place of a field, without the blanks and quotation marks at its ends."""
+    """The places where a field begins, its text begins and ends, and the field ends. The text is
+    without the blanks and quotation marks at the field's ends."""
     pattern, quoted = "[^{0}]+", r'"(?:[^"]|"")*"(?=\r?\Z|{0})'
     if "delimiter" in options:
         quoted = "" if options["delimiter"] == '"' else quoted + "|"
@@ -174,7 +175,7 @@ def field_in(line, options):
         return None
     text = field[0].strip(EDGES)
     begin = field.start() + field[0].index(text)
-    return begin, begin + len(text)
+    return field.start(), begin, begin + len(text), field.end()
 
 
 def json_object(text, answer, options, where):
@@ -219,14 +220,26 @@ def left_of(line, begin, end, options):
     return line + end_of(options)
 
 
+def converted(line, places, nanos, options):
+    """The line with the duration in place of its text. A number loses quotation marks around it,
+    unless it has the delimiter."""
+    first, begin, end, last = places
+    shown, edges = printed(nanos, options).encode(), (line[first:begin], line[end:last])
+    is_bare = "to" in options and options.get("delimiter", '"').encode() not in shown
+    if is_bare and [edge.count(b'"') for edge in edges] == [1, 1]:
+        edges = [edge.replace(b'"', b"") for edge in edges]
+    return line[:first] + edges[0] + shown + edges[1] + line[last:]
+
+
 def said_of(line, options, where, before=None):
     """`where` is, for example, `line 1`. `before` is the argument before, if there is one."""
-    too_long, begin, end, whole = len(line) > LONGEST_LINE, 0, len(line), line
+    too_long, places, whole = len(line) > LONGEST_LINE, (0, 0, len(line), len(line)), line
     if "field" in options:
-        begin, end = field_in(line, options) or (None, None)
+        places = field_in(line, options) or [None] * 4
     elif where.startswith("line"):
         ending = b"" if "zero-terminated" in options else b"\r"
         line = b"" if too_long else line.removesuffix(ending)
+    _, begin, end, _ = places
     if too_long:
         answer = refused("LINE_TOO_LONG", "line of over 1,048,576 bytes")
     elif begin is None:
@@ -243,9 +256,7 @@ def said_of(line, options, where, before=None):
     if "sum" in options and not isinstance(answer, Refused):
         return Said(answer, b"", 0)
     if not isinstance(answer, Refused):
-        return Said(
-            line[:begin] + printed(answer, options).encode() + line[end:] + end_of(options), b"", 0
-        )
+        return Said(converted(line, places, answer, options) + end_of(options), b"", 0)
     field = f", field {options['field']}" if "field" in options else ""
     left = left_of(whole if too_long else line, begin, end, options)
     if "json-errors" in options:

@@ -69,6 +69,24 @@ fn of_input(error: io::Error) -> io::Error {
     io::Error::other(format!("standard input: {error}"))
 }
 
+/// A line in pieces. The field is `open`, `text` and `close`. Around the text are blanks and
+/// quotation marks.
+#[derive(Clone, Copy, Default)]
+struct Cut<'a> {
+    before: &'a [u8],
+    open: &'a [u8],
+    text: &'a [u8],
+    close: &'a [u8],
+    after: &'a [u8],
+}
+
+impl<'a> Cut<'a> {
+    /// The line with this in place of the text.
+    fn with(self, text: &'a [u8]) -> [&'a [u8]; 5] {
+        [self.before, self.open, text, self.close, self.after]
+    }
+}
+
 struct Run<'a> {
     output: BufWriter<Box<dyn Write>>,
     end: u8,
@@ -205,25 +223,45 @@ impl Run<'_> {
     }
 
     fn line(&mut self, line: &[u8], number: u64) -> io::Result<()> {
-        let Some([before, text, after]) = self.cut(line) else {
+        let Some(cut) = self.cut(line) else {
             self.tell(Refusal::new("NO_FIELD", "no such field"), line, number)?;
             return match self.choices.refused() {
                 Refused::Drop => Ok(()),
                 _ => self.put(&[line]),
             };
         };
-        match reading::read(text, self.choices) {
-            Err(refusal) => self.refuse(refusal, [before, text, after], number),
-            Ok((_, nanos)) if self.choices.sum => {
-                self.total += u128::from(nanos);
-                Ok(())
+        match reading::read(cut.text, self.choices) {
+            Err(refusal) => self.refuse(refusal, cut, number),
+            Ok((text, nanos)) => self.answer(cut, &text, nanos),
+        }
+    }
+
+    fn answer(&mut self, cut: Cut, text: &str, nanos: u64) -> io::Result<()> {
+        if self.choices.sum {
+            self.total += u128::from(nanos);
+            return Ok(());
+        }
+        if self.choices.json {
+            return self.object(text, nanos);
+        }
+        let mut buffer = [0; FORMAT_BUFFER_SIZE];
+        let printed = self.choices.printed(nanos, &mut buffer);
+        self.put_converted(cut, printed.as_bytes())
+    }
+
+    /// A number needs no quotation marks around it, unless it has the delimiter. awk would take it
+    /// for 0 in them.
+    fn put_converted(&mut self, cut: Cut, printed: &[u8]) -> io::Result<()> {
+        let has_delimiter = self
+            .choices
+            .delimiter
+            .is_some_and(|delimiter| printed.contains(&delimiter));
+        let is_bare = self.choices.to.is_some() && !has_delimiter;
+        match (around_a_mark(cut.open), around_a_mark(cut.close)) {
+            (Some([first, second]), Some([third, last])) if is_bare => {
+                self.put(&[cut.before, first, second, printed, third, last, cut.after])
             }
-            Ok((text, nanos)) if self.choices.json => self.object(&text, nanos),
-            Ok((_, nanos)) => {
-                let mut buffer = [0; FORMAT_BUFFER_SIZE];
-                let printed = self.choices.printed(nanos, &mut buffer);
-                self.put(&[before, printed.as_bytes(), after])
-            }
+            _ => self.put(&cut.with(printed)),
         }
     }
 
@@ -249,10 +287,12 @@ impl Run<'_> {
         self.put(&[])
     }
 
-    /// Cuts a line into what is before the text, the text, and what is after it.
-    fn cut<'a>(&self, line: &'a [u8]) -> Option<[&'a [u8]; 3]> {
+    fn cut<'a>(&self, line: &'a [u8]) -> Option<Cut<'a>> {
         let Some(number) = self.choices.field else {
-            return Some([b"", line, b""]);
+            return Some(Cut {
+                text: line,
+                ..Cut::default()
+            });
         };
         let is_blank = |byte: &u8| b" \t\r\n".contains(byte);
         let field = match self.choices.delimiter {
@@ -264,19 +304,25 @@ impl Run<'_> {
         };
         let is_inside = |byte: &u8| !b" \t\r\n\"".contains(byte);
         let start = field.as_ptr().addr() - line.as_ptr().addr();
-        let first = start + field.iter().position(is_inside).unwrap_or(0);
-        let end = start + field.iter().rposition(is_inside).map_or(0, |last| last + 1);
-        Some([&line[..first], &line[first..end], &line[end..]])
+        let first = field.iter().position(is_inside).unwrap_or(0);
+        let end = field.iter().rposition(is_inside).map_or(0, |last| last + 1);
+        Some(Cut {
+            before: &line[..start],
+            open: &field[..first],
+            text: &field[first..end],
+            close: &field[end..],
+            after: &line[start + field.len()..],
+        })
     }
 
-    fn refuse(&mut self, refusal: Refusal, line: [&[u8]; 3], number: u64) -> io::Result<()> {
-        self.tell(refusal, line[1], number)?;
+    fn refuse(&mut self, refusal: Refusal, cut: Cut, number: u64) -> io::Result<()> {
+        self.tell(refusal, cut.text, number)?;
         let is_between_blanks = self.choices.field.is_some() && self.choices.delimiter.is_none();
         // Between blanks, the next field would take the place of an empty one.
         let empty: &[u8] = if is_between_blanks { b"-" } else { b"" };
         match self.choices.refused() {
-            Refused::Keep => self.put(&line),
-            Refused::Empty => self.put(&[line[0], empty, line[2]]),
+            Refused::Keep => self.put(&cut.with(cut.text)),
+            Refused::Empty => self.put(&cut.with(empty)),
             Refused::Drop => Ok(()),
         }
     }
@@ -357,6 +403,13 @@ impl Run<'_> {
             std::slice::from_ref(&end)
         })
     }
+}
+
+/// If there is one quotation mark, returns what is before it and after it.
+fn around_a_mark(edge: &[u8]) -> Option<[&[u8]; 2]> {
+    let mark = edge.iter().position(|byte| *byte == b'"')?;
+    let after = &edge[mark + 1..];
+    (!after.contains(&b'"')).then_some([&edge[..mark], after])
 }
 
 /// The field with this number, from 1.

@@ -191,6 +191,26 @@ fn divides_csv_at_delimiters() {
             "{words} {line}"
         );
     }
+    // A number loses the marks around it.
+    for (words, line, wanted) in [
+        ("-d, --field 2", r#"a,"90s",b"#, "a,90,b"),
+        ("-d, --field 1", r#" "1m 30s" ,"b""#, r#" 90 ,"b""#),
+        ("-d; --field 1", "\" 1.5h \"\r\n", " 5400 \r\n"),
+        ("--field 2", r#"a "90s" b"#, "a 90 b"),
+        // Two marks within a field stand for one.
+        ("-d, --field 1", r#""""90s""""#, r#""""90""""#),
+        ("-d, --field 1", r#""90s,1"#, r#""90,1"#),
+        ("-d, --field 1", r#"90s",1"#, r#"90",1"#),
+        ("-d. --field 1", r#""1500ms".a"#, r#""1.5".a"#),
+        ("-d. --field 1", r#""90s".a"#, "90.a"),
+    ] {
+        let words = format!("{words} --to s --mend");
+        assert_eq!(
+            run(&words.split(' ').collect::<Vec<_>>(), line.as_bytes()),
+            (0, wanted.into(), "".into()),
+            "{words} {line}"
+        );
+    }
     // The last field ends before a carriage return.
     for line in ["\"a,90\"\r\n", "\"a,90\""] {
         let errors = "duration: line 1, field 2: no such field\n";
