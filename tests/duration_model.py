@@ -178,15 +178,17 @@ def field_in(line, options):
     return field.start(), begin, begin + len(text), field.end()
 
 
-def json_object(text, answer, options, where):
+def json_object(text, answer, options, where, mended=None):
     if isinstance(answer, Refused):
         kind, number = where.split()
         return compact({"text": text, kind: int(number), **answer._asdict()})
     shown = printed(answer, options) if "to" in options else quoted(printed(answer, options))
     parts, rest = parts_of(answer, options)
     listed = ",".join(f'{{"count":{count},"unit":"{name}"}}' for count, name in parts)
+    mended = f'"mended":{compact(mended)},' if "mend" in options else ""
     return (
-        f'{{"text":{quoted(text)},"nanoseconds":"{answer}","seconds":{number_in(answer, "s")},'
+        f'{{"text":{quoted(text)},{mended}"nanoseconds":"{answer}",'
+        f'"seconds":{number_in(answer, "s")},'
         f'"printed":{shown},"parts":[{listed}],"rest_ns":"{rest}"}}'
     )
 
@@ -246,12 +248,13 @@ def said_of(line, options, where, before=None):
         answer = refused("NO_FIELD", "no such field")
     else:
         answer = read(line[begin:end], options)
-    text = line.decode(errors="replace")
-    if "mend" in options and isinstance(answer, Refused) and answer.mended is not None:
-        text = answer.mended
-        answer = read(text.encode(), options)
+    text, mended = line.decode(errors="replace"), None
+    if "mend" in options and isinstance(answer, Refused):
+        mended = answer.mended
+        if mended is not None:
+            answer = read(mended.encode(), options)
     if "json" in options:
-        output = json_object(text, answer, options, where).encode()
+        output = json_object(text, answer, options, where, mended).encode()
         return Said(output + b"\n", b"", int(isinstance(answer, Refused)))
     if "sum" in options and not isinstance(answer, Refused):
         return Said(answer, b"", 0)

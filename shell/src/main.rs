@@ -7,7 +7,7 @@ mod reading;
 
 use duration_str::{FORMAT_BUFFER_SIZE, TimeUnit};
 use options::{Choices, Refused, Round};
-use reading::Refusal;
+use reading::{Refusal, Value};
 use std::ffi::{CStr, OsStr, OsString, c_char, c_int};
 use std::fs::File;
 use std::io::{self, BufRead, BufReader, BufWriter, IsTerminal, Read, Write};
@@ -232,20 +232,20 @@ impl Run<'_> {
         };
         match reading::read(cut.text, self.choices) {
             Err(refusal) => self.refuse(refusal, cut, number),
-            Ok((text, nanos)) => self.answer(cut, &text, nanos),
+            Ok(value) => self.answer(cut, &value),
         }
     }
 
-    fn answer(&mut self, cut: Cut, text: &str, nanos: u64) -> io::Result<()> {
+    fn answer(&mut self, cut: Cut, value: &Value) -> io::Result<()> {
         if self.choices.sum {
-            self.total += u128::from(nanos);
+            self.total += u128::from(value.nanos);
             return Ok(());
         }
         if self.choices.json {
-            return self.object(text, nanos);
+            return self.object(value);
         }
         let mut buffer = [0; FORMAT_BUFFER_SIZE];
-        let printed = self.choices.printed(nanos, &mut buffer);
+        let printed = self.choices.printed(value.nanos, &mut buffer);
         self.put_converted(cut, printed.as_bytes())
     }
 
@@ -266,9 +266,14 @@ impl Run<'_> {
     }
 
     /// `nanoseconds` and `rest_ns` are strings, since some programs drop digits of long numbers.
-    fn object(&mut self, text: &str, nanos: u64) -> io::Result<()> {
+    fn object(&mut self, value: &Value) -> io::Result<()> {
+        let nanos = value.nanos;
         self.output.write_all(b"{\"text\":")?;
-        serde_json::to_writer(&mut self.output, text)?;
+        serde_json::to_writer(&mut self.output, value.text)?;
+        if self.choices.mend {
+            self.output.write_all(b",\"mended\":")?;
+            serde_json::to_writer(&mut self.output, &value.mended)?;
+        }
         let seconds = options::in_unit(nanos, TimeUnit::Second, None, Round::Down);
         let mark = if self.choices.to.is_some() { "" } else { "\"" };
         let mut buffer = [0; FORMAT_BUFFER_SIZE];

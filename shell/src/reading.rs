@@ -3,7 +3,6 @@ use crate::lists::HELPS;
 use crate::options::{Choices, Round};
 use duration_str::{Cause, DurationError, Expected, Fault, Mend, Rules, TimeUnit, parse_by};
 use serde_json::json;
-use std::borrow::Cow;
 
 /// `error` is the library's, if it has read the text.
 pub struct Refusal {
@@ -117,8 +116,25 @@ fn kinds_of(expected: Expected) -> Vec<&'static str> {
     could_stand.map(|(_, name)| name).collect()
 }
 
-/// Returns the text, or the mended text that was read instead, and its nanoseconds.
-pub fn read<'a>(bytes: &'a [u8], choices: &Choices) -> Result<(Cow<'a, str>, u64), Refusal> {
+/// A text that was read, and its nanoseconds. If it was mended, `mended` is the text that was read
+/// in its place.
+pub struct Value<'a> {
+    pub text: &'a str,
+    pub mended: Option<String>,
+    pub nanos: u64,
+}
+
+impl<'a> Value<'a> {
+    fn of(text: &'a str, nanos: u64) -> Value<'a> {
+        Value {
+            text,
+            mended: None,
+            nanos,
+        }
+    }
+}
+
+pub fn read<'a>(bytes: &'a [u8], choices: &Choices) -> Result<Value<'a>, Refusal> {
     let text = std::str::from_utf8(bytes).map_err(|_| Refusal::new("NOT_TEXT", "not UTF-8"))?;
     if let Some((number, nanos)) = choices
         .from
@@ -129,7 +145,7 @@ pub fn read<'a>(bytes: &'a [u8], choices: &Choices) -> Result<(Cow<'a, str>, u64
             let message = format!("duration of over 584 years in \"{number:.40}\"{dots}");
             Refusal::new("OVERFLOW", &message)
         };
-        return Ok((text.into(), u64::try_from(nanos).map_err(too_large)?));
+        return Ok(Value::of(text, u64::try_from(nanos).map_err(too_large)?));
     }
     let unit = choices.from.unwrap_or(TimeUnit::Second);
     let default_unit = (!choices.require_unit).then_some(unit);
@@ -140,13 +156,16 @@ pub fn read<'a>(bytes: &'a [u8], choices: &Choices) -> Result<(Cow<'a, str>, u64
         own
     };
     let fault = match parse_by(text, rules) {
-        Ok(duration) => return Ok((text.into(), duration.as_nanos() as u64)),
+        Ok(duration) => return Ok(Value::of(text, duration.as_nanos() as u64)),
         Err(fault) => fault,
     };
     let mended = if choices.mend { fault.mended() } else { None };
     let mended = mended.ok_or(fault)?;
     let nanos = parse_by(&mended, rules)?.as_nanos() as u64;
-    Ok((mended.into(), nanos))
+    Ok(Value {
+        mended: Some(mended),
+        ..Value::of(text, nanos)
+    })
 }
 
 /// If a text is only a number with a fraction or an exponent, such as `12.5`, `.5` or `1.2e-05`,

@@ -109,8 +109,13 @@ fn reads_mended_texts() {
     let output = "a,\"2h 1min 30s\"\nb,1h\nc,16h 40min 30s\n";
     assert_eq!(run(&words, lines), (0, output.into(), "".into()));
     let json = answer(&["--mend", "--json", "5 mins", "+5m"]);
-    assert!(json.starts_with(r#"{"text":"5 min","nanoseconds":"300000000000","#));
-    assert!(json.contains("\n{\"text\":\"5m\","), "{json}");
+    assert!(json.starts_with(r#"{"text":"5 mins","mended":"5 min","nanoseconds":"300000000000","#));
+    assert!(
+        json.contains("\n{\"text\":\"+5m\",\"mended\":\"5m\","),
+        "{json}"
+    );
+    let json = answer(&["--mend", "--json", "5m"]);
+    assert!(json.starts_with(r#"{"text":"5m","mended":null,"nanoseconds":"#));
     // The mended text still has the name.
     let words = ["--mend", "--more-names", "5 mins 1.5h", "1.5mins"];
     assert_eq!(answer(&words), "1h 35min\n1min 30s\n");
