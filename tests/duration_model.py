@@ -42,7 +42,7 @@ VALUES = (
     }
     | dict.fromkeys(
         """json json-errors quiet zero-terminated lowercase cn-unit more-names require-unit pattern
-        sum mend""".split(),
+        sum mend count-mended""".split(),
         [""],
     )
 )
@@ -60,7 +60,7 @@ Refused = collections.namedtuple(
     "cause column expected found help suggestion span mended message",
     defaults=[None] * 9,
 )
-Said = collections.namedtuple("Said", "output errors status")
+Said = collections.namedtuple("Said", "output errors status mended", defaults=[0])
 quoted = json.JSONEncoder(ensure_ascii=False).encode
 compact = json.JSONEncoder(ensure_ascii=False, separators=(",", ":")).encode
 
@@ -253,13 +253,14 @@ def said_of(line, options, where, before=None):
         mended = answer.mended
         if mended is not None:
             answer = read(mended.encode(), options)
+    count = int(mended is not None)
     if "json" in options:
         output = json_object(text, answer, options, where, mended).encode()
-        return Said(output + b"\n", b"", int(isinstance(answer, Refused)))
+        return Said(output + b"\n", b"", int(isinstance(answer, Refused)), count)
     if "sum" in options and not isinstance(answer, Refused):
-        return Said(answer, b"", 0)
+        return Said(answer, b"", 0, count)
     if not isinstance(answer, Refused):
-        return Said(converted(line, places, answer, options) + end_of(options), b"", 0)
+        return Said(converted(line, places, answer, options) + end_of(options), b"", 0, count)
     field = f", field {options['field']}" if "field" in options else ""
     left = left_of(whole if too_long else line, begin, end, options)
     if "json-errors" in options:
@@ -310,15 +311,16 @@ def wanted(options, texts, data):
         said_of(line, options, f"{kind} {number}", before)
         for number, line, before in zip(itertools.count(header + 1), lines[header:], befores)
     ]
+    count = sum(each.mended for each in said)
     if "sum" in options:
         said = [said_of_sum(said, options)]
     elif {"field", "header"} & set(options) and data and not (texts or data.endswith(end)):
         said[-1] = said[-1]._replace(output=said[-1].output.removesuffix(end))
-    output, errors, statuses = zip(*said) if said else ((), (), ())
-    return Said(
-        *(b"" if "quiet" in options else b"".join(part) for part in (output, errors)),
-        max(statuses, default=0),
-    )
+    output, errors, statuses, _ = zip(*said) if said else ((), (), (), ())
+    output, errors = (b"" if "quiet" in options else b"".join(part) for part in (output, errors))
+    if "count-mended" in options:
+        errors += b"duration: %d text%s mended\n" % (count, b"" if count == 1 else b"s")
+    return Said(output, errors, max(statuses, default=0))
 
 
 def is_wrong(options, texts):
@@ -334,9 +336,10 @@ def is_wrong(options, texts):
         and "field" not in names
     )
     units = {"from", "require-unit"} <= names
+    mends = "count-mended" in names and ("mend" not in names or "json-errors" in names)
     pattern = "pattern" in names and (texts or names - WITH_PATTERN)
     header = "header" in names and texts
-    return bool(numbers or fields or units or pattern or header or not units_of(options))
+    return bool(numbers or fields or units or mends or pattern or header or not units_of(options))
 
 
 class Commands(Texts):

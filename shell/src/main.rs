@@ -54,9 +54,15 @@ fn run(words: impl Iterator<Item = OsString>) -> io::Result<c_int> {
         is_open: false,
         choices: &choices,
         total: 0,
+        mended: 0,
         has_refused: false,
     };
-    run.all().map(|()| run.has_refused.into())
+    run.all()?;
+    if choices.count_mended {
+        let what = if run.mended == 1 { "text" } else { "texts" };
+        writeln!(io::stderr(), "duration: {} {what} mended", run.mended)?;
+    }
+    Ok(run.has_refused.into())
 }
 
 /// A stream as a file, or an error if the stream is closed. The streams of Rust's library hide that
@@ -95,6 +101,8 @@ struct Run<'a> {
     choices: &'a Choices,
     /// The sum of the durations, if only that is printed.
     total: u128,
+    /// How many texts were mended and read.
+    mended: u64,
     has_refused: bool,
 }
 
@@ -232,7 +240,10 @@ impl Run<'_> {
         };
         match reading::read(cut.text, self.choices) {
             Err(refusal) => self.refuse(refusal, cut, number),
-            Ok(value) => self.answer(cut, &value),
+            Ok(value) => {
+                self.mended += u64::from(value.mended.is_some());
+                self.answer(cut, &value)
+            }
         }
     }
 

@@ -108,6 +108,9 @@ pub struct Choices {
     /// Instead of a refused text read its mended text, if it has one: 90min for 1.5h
     #[arg(long)]
     pub mend: bool,
+    /// At the end, print on standard error how many texts were mended
+    #[arg(long, requires = "mend", conflicts_with = "json_errors")]
+    pub count_mended: bool,
     /// Print the regular expression of the texts that the grammar allows, for validators
     #[arg(long, conflicts_with_all = SHAPES, conflicts_with_all = ["texts", "to", "decimals",
         "round", "field", "delimiter", "header", "refused", "sum", "json", "json_errors", "quiet",

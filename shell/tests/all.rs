@@ -135,6 +135,22 @@ fn reads_mended_texts() {
 }
 
 #[test]
+fn counts_mended_texts() {
+    for (words, output, errors) in [
+        ("1.5h 5m", "1h 30min\n5min\n", "duration: 1 text mended\n"),
+        ("--sum 1.5h +5m", "1h 35min\n", "duration: 2 texts mended\n"),
+        ("-q 5m", "", "duration: 0 texts mended\n"),
+    ] {
+        let all = format!("--mend --count-mended {words}");
+        let ran = run(&all.split(' ').collect::<Vec<_>>(), b"");
+        assert_eq!(ran, (0, output.into(), errors.into()), "{words}");
+    }
+    let (status, _, errors) = run(&["--mend", "--count-mended"], b"1.5h\n1:30\n");
+    let refused = format!("duration: line 2: {}\n", line("1:30"));
+    assert_eq!((status, errors), (1, refused + "duration: 1 text mended\n"));
+}
+
+#[test]
 fn names_the_cause_of_what_is_no_text() {
     let lines = [&b"1\xff\n"[..], &[b'9'; (1 << 20) + 1]].concat();
     let json = run(&["--json"], &lines).1;
@@ -392,6 +408,8 @@ fn refuses_wrong_usage() {
         &["--pattern", "--refused", "keep"],
         &["--pattern", "--json-errors"],
         &["--pattern", "--mend"],
+        &["--count-mended", "1h"],
+        &["--mend", "--count-mended", "--json-errors", "1h"],
         &["--json", "--refused", "keep", "1h"],
         &["--sum", "--refused", "drop", "1h"],
         &["--sum", "--json-errors", "1h"],
