@@ -162,6 +162,34 @@ def read(data, options):
     )
 
 
+def mended_in_part(text, options):
+    """The refusal of a text that has no mended text. If some of its faults have a suggestion, and
+    then one has none, it is that fault, with its column in the text."""
+    choice, places, now = choice_of(options), [*range(len(text) + 1)], text
+    for _ in range(1 + reference.MOST_SUGGESTIONS):
+        answer = choice.answer(now)
+        if answer.mend is None:
+            break
+        begin, end, written = answer.mend
+        now = now[:begin] + written + now[end:]
+        # The characters that a suggestion has written have no place in the text.
+        places[begin:end] = [None] * len(written)
+    if answer.mend or now == text:
+        return read(text.encode(), options)
+    place = places[answer.place] if answer.cause == "syntax" else None
+    found, line = reference.help_of(now, answer), reference.one_line(now, answer)
+    if place is not None:
+        line = line.replace(f" at column {answer.place + 1}", f" at column {place + 1}", 1)
+    return Refused(
+        cause=answer.cause.replace(" ", "_").upper(),
+        column=None if place is None else place + 1,
+        expected=[kind for kind in vectors.KINDS if kind in answer.expected],
+        found=answer.found or None,
+        help=found.code() if found else None,
+        message=line,
+    )
+
+
 def field_in(line, options):
     """The places where a field begins, its text begins and ends, and the field ends. The text is
     without the blanks and quotation marks at the field's ends."""
@@ -253,6 +281,8 @@ def said_of(line, options, where, before=None):
         mended = answer.mended
         if mended is not None:
             answer = read(mended.encode(), options)
+        elif answer.suggestion is not None:
+            answer = mended_in_part(line[begin:end].decode(), options)
     count = int(mended is not None)
     if "json" in options:
         output = json_object(text, answer, options, where, mended).encode()

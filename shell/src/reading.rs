@@ -4,11 +4,18 @@ use crate::options::{Choices, Round};
 use duration_str::{Cause, DurationError, Expected, Fault, Mend, Rules, TimeUnit, parse_by};
 use serde_json::json;
 
-/// `error` is the library's, if it has read the text.
+/// A text that needs more suggestions than this has no mended text.
+const MOST_SUGGESTIONS: usize = 32;
+
+/// `error` is the library's, if it has read the text. If the text was mended in part, the error is
+/// that of the text that this made.
 pub struct Refusal {
     pub message: String,
     cause: &'static str,
     error: Option<DurationError>,
+    /// The place of the error in the text as it was written
+    place: Option<usize>,
+    is_mended_in_part: bool,
 }
 
 impl Refusal {
@@ -17,19 +24,37 @@ impl Refusal {
             message: message.to_string(),
             cause,
             error: None,
+            place: None,
+            is_mended_in_part: false,
         }
     }
 
+    /// Some faults of the text that was written are mended, and this is the next one. It isn't
+    /// before the last suggestion, so what follows its place is as it was written.
+    fn in_part_mended(fault: Fault<'_>, written: &str) -> Refusal {
+        let column = |text: &str, place| format!(" at column {}", length(&text[..place]) + 1);
+        let mut refusal = Refusal::from(fault);
+        refusal.is_mended_in_part = true;
+        refusal.place = None;
+        if let (Some(place), Some(_)) = (fault.place(), fault.expected()) {
+            let written_place = written.len() - (fault.text().len() - place);
+            let (there, here) = (column(fault.text(), place), column(written, written_place));
+            refusal.message = refusal.message.replacen(&there, &here, 1);
+            refusal.place = Some(written_place);
+        }
+        refusal
+    }
+
+    /// If the text was mended in part, the report is the line alone.
     pub fn report(&self) -> String {
-        self.error
-            .as_ref()
-            .map_or_else(|| self.message.clone(), DurationError::report)
+        let error = self.error.as_ref().filter(|_| !self.is_mended_in_part);
+        error.map_or_else(|| self.message.clone(), DurationError::report)
     }
 
     /// The token's first character, if the syntax fault is at the start of the text.
     pub fn first(&self) -> Option<char> {
         let error = self.error.as_ref()?;
-        let found = error.found().filter(|_| error.place() == Some(0))?;
+        let found = error.found().filter(|_| self.place == Some(0))?;
         found.chars().next()
     }
 
@@ -44,7 +69,7 @@ impl Refusal {
         let error = self.error.as_ref();
         let text = String::from_utf8_lossy(text);
         let expected = error.and_then(DurationError::expected);
-        let place = expected.and(error.and_then(DurationError::place));
+        let place = expected.and(self.place);
         let help = error.and_then(DurationError::help);
         let mend = error.and_then(DurationError::mend);
         let fields = [
@@ -89,7 +114,9 @@ impl From<Fault<'_>> for Refusal {
         Refusal {
             message: fault.to_string(),
             cause: name_of(fault.cause()),
+            place: fault.place(),
             error: Some(fault.into_owned()),
+            is_mended_in_part: false,
         }
     }
 }
@@ -155,17 +182,37 @@ pub fn read<'a>(bytes: &'a [u8], choices: &Choices) -> Result<Value<'a>, Refusal
     } else {
         own
     };
-    let fault = match parse_by(text, rules) {
-        Ok(duration) => return Ok(Value::of(text, duration.as_nanos() as u64)),
-        Err(fault) => fault,
-    };
-    let mended = if choices.mend { fault.mended() } else { None };
-    let mended = mended.ok_or(fault)?;
-    let nanos = parse_by(&mended, rules)?.as_nanos() as u64;
-    Ok(Value {
-        mended: Some(mended),
-        ..Value::of(text, nanos)
-    })
+    match parse_by(text, rules) {
+        Ok(duration) => Ok(Value::of(text, duration.as_nanos() as u64)),
+        Err(fault) if choices.mend => read_mended(fault, rules),
+        Err(fault) => Err(fault.into()),
+    }
+}
+
+/// Reads the mended text in place of the refused one. If there is none, since a fault has no
+/// suggestion, that fault is the refusal.
+fn read_mended<'a>(fault: Fault<'a>, rules: Rules) -> Result<Value<'a>, Refusal> {
+    let mut mended = with_suggestion(fault.mend().ok_or(fault)?);
+    for _ in 0..MOST_SUGGESTIONS {
+        let later = match parse_by(&mended, rules) {
+            Ok(duration) => {
+                return Ok(Value {
+                    mended: Some(mended),
+                    ..Value::of(fault.text(), duration.as_nanos() as u64)
+                });
+            }
+            Err(later) => later,
+        };
+        let Some(mend) = later.mend() else {
+            return Err(Refusal::in_part_mended(later, fault.text()));
+        };
+        mended = with_suggestion(mend);
+    }
+    Err(fault.into())
+}
+
+fn with_suggestion(mend: Mend<'_>) -> String {
+    format!("{}{}{}", mend.front, mend.suggestion, mend.rest)
 }
 
 /// If a text is only a number with a fraction or an exponent, such as `12.5`, `.5` or `1.2e-05`,

@@ -135,6 +135,51 @@ fn reads_mended_texts() {
 }
 
 #[test]
+fn tells_which_fault_is_not_mended() {
+    for (text, message) in [
+        (
+            "5 mins x",
+            r#"expected a number, '+', '*' or the end at column 8, found "x""#,
+        ),
+        (
+            "5 μs 1.5h §",
+            r#"expected a number, '+', '*' or the end at column 11, found "§""#,
+        ),
+        // The number is mended twice.
+        (
+            "1_000.5 mins - 2h",
+            r#"expected a number, '+', '*' or the end at column 14, found "-""#,
+        ),
+        (
+            "+5m x",
+            r#"expected a number, '+', '*' or the end at column 5, found "x""#,
+        ),
+        ("5 mins +", "expected a number at column 9, found the end"),
+        ("600 yrs", r#"duration of over 584 years in "600 y""#),
+    ] {
+        let errors = format!("duration: argument 1: {message}\n");
+        assert_eq!(
+            run(&["--mend", "--", text], b""),
+            (1, "".into(), errors),
+            "{text}"
+        );
+    }
+    // Too many faults, each with a suggestion
+    let many = format!("0{}s", "_000".repeat(33));
+    let first = format!("duration: argument 1: {}\n", line(&many));
+    assert_eq!(run(&["--mend", &many], b""), (1, "".into(), first));
+    let many = format!("0{}s x", "_000".repeat(32));
+    let (_, json, _) = run(&["--mend", "--json", &many], b"");
+    let wanted = format!(
+        r#"{{"text":"{many}","argument":1,"cause":"SYNTAX","column":{},"#,
+        many.len()
+    );
+    assert!(json.starts_with(&wanted), "{json}");
+    let rest = r#""found":"x","help":null,"suggestion":null,"span":null,"mended":null,"#;
+    assert!(json.contains(rest), "{json}");
+}
+
+#[test]
 fn counts_mended_texts() {
     for (words, output, errors) in [
         ("1.5h 5m", "1h 30min\n5min\n", "duration: 1 text mended\n"),
