@@ -127,6 +127,10 @@ class Errors(unittest.TestCase):
             sys.setprofile(None)
         self.assertEqual(called, [])
 
+    def test_can_be_made_with_other_arguments(self):
+        self.assertEqual(str(DurationError("too short")), "too short")
+        self.assertEqual(repr(DurationError()), "DurationError('')")
+
     def test_can_be_copied_and_pickled(self):
         for text in ["", "1µs …", "600y", "1\ud800", "5 mins", "1.5h"]:
             error = error_of(text, no_calc=True)

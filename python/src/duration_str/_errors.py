@@ -96,6 +96,9 @@ class DurationError(ValueError):
     args: tuple[str, int, bool, int | None, bool]
 
     def __str__(self) -> str:
+        # A program can make an error of other arguments, such as in its tests.
+        if len(self.args) != 5:
+            return super().__str__()
         *_, index, names_index = self.args
         return f"at index {index}: {self._answer[0]}" if names_index else self._answer[0]
 
