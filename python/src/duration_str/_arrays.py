@@ -285,6 +285,8 @@ def errors_of(
     DurationTypeError, and for a value that is no column, such as a single
     text, TypeError.
 
+    While it reads, Python's garbage collector is off, also for other threads.
+
     >>> errors = duration_str.errors_of(["1h", "5 mins", None, "soon"])
     >>> for position, error in errors.items():
     ...     print(position, error.mended, error)
