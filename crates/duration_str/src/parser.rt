@@ -1,5 +1,5 @@
 //! Reading: the duration that a text means, or why it means none.
-ghost use Rattle.std.specs.Prelude.{◌≡◌, ◌≤◌, length, Some, None, IfErr, OnOk};
+ghost use Rattle.std.specs.Prelude.{◌≡◌, ◌≤◌, length, Some, IfErr, OnOk};
 ghost use Rattle.std.specs.Str.{chars};
 ghost use Rattle.duration_str_base.specs.Rules.{rules_of, rules_with};
 ghost use Rattle.duration_str.specs.Results.{Parses};

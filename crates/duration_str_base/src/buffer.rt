@@ -1,5 +1,5 @@
 //! Bytes and numbers written to a buffer.
-ghost use Rattle.std.specs.Prelude.{◌≡◌, ◌≤◌, ◌^◌, ◌++◌, ◌<◌, length, take, decimal};
+ghost use Rattle.std.specs.Prelude.{◌≤◌, ◌^◌, ◌++◌, ◌<◌, length, take, decimal};
 ghost use Rattle.duration_str_base.specs.Buffers.{IsInFront};
 ghost use Rattle.duration_str_base.specs.Internal.Writing.{IsWritten};
 

@@ -1,5 +1,5 @@
 //! The units of time and their names. The module also exports the options and the operators.
-ghost use Rattle.std.specs.Prelude.{◌≡◌, ◌/◌, ◌%◌, None, Some, encode_utf8_all};
+ghost use Rattle.std.specs.Prelude.{◌≡◌, ◌/◌, ◌%◌, Some, encode_utf8_all};
 ghost use Rattle.std.specs.Fmt.{padded};
 ghost use Rattle.duration_str_base.specs.declared.unit.TimeUnit.TheVariants.{Second};
 ghost use Rattle.duration_str_base.specs.Units.{nanos_of, rank_of, row_of};

@@ -1,5 +1,5 @@
 //! Durations broken down into units.
-ghost use Rattle.std.specs.Prelude.{◌≡◌, ℕ, ◌+◌, ◌*◌, ◌^◌, ◌<◌, ◌≤◌, ◌⊎◌, Any, IfNone, IfSome, IsFalse, IsTrue};
+ghost use Rattle.std.specs.Prelude.{◌≡◌, ◌+◌, ◌*◌, ◌^◌, ◌<◌, ◌≤◌, ◌⊎◌, Any, IfNone, IfSome, IsFalse, IsTrue};
 ghost use Rattle.duration_str_printing.specs.Breakdown.{nanos_left, parts_left, sum_of_parts};
 ghost use Rattle.duration_str_printing.specs.declared.format.Style.TheVariants.{Short};
 ghost use Rattle.duration_str_base.specs.Units.{rank_of};

@@ -1,5 +1,5 @@
 //! Durations that are given by numbers, and how they are rounded.
-ghost use Rattle.std.specs.Prelude.{◌≡◌, ℕ, ◌+◌, ◌*◌, ◌<◌, ◌⊎◌, IfSome, IfNone};
+ghost use Rattle.std.specs.Prelude.{◌≡◌, ◌+◌, ◌*◌, ◌<◌, ◌⊎◌, IfSome, IfNone};
 ghost use Rattle.std.specs.Duration.{FitsDuration, as_nanos};
 ghost use Rattle.duration_str_c.specs.Rounding.{AreRight, rounding_numbered};
 

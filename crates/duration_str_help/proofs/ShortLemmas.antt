@@ -1,7 +1,6 @@
 -- Bytes that are short, plain and UTF-8.
-use Rattle.duration_str_help.proofs.Common.{and_parts, ap, arith, Bool, chars, chars-encodes, decimal, decimal_by_steps, encode_ascii, encode_utf8_all, encodes-append, IfSome, if◌then◌else◌, IsTrue, IsUtf8, leb-true, length, length-append, length-decimal-le, List, list_all, list_all-append, lit<, ltb-true, nat_le, nat_tests, None, Option, refl, rules, scalar, scalars, Some, take, TimeUnit, true, [], ℕ, ◌%◌, ◌&&◌, ◌++◌, ◌+◌, ◌<◌, ◌^◌, ◌∷◌, ◌≡◌, ◌≤◌}
+use Rattle.duration_str_help.proofs.Common.{and_parts, arith, Bool, chars, chars-encodes, decimal, decimal_by_steps, encode_ascii, encode_utf8_all, encodes-append, IfSome, if◌then◌else◌, IsTrue, IsUtf8, leb-true, length, length-append, length-decimal-le, List, list_all, list_all-append, lit<, ltb-true, nat_le, nat_tests, None, Option, refl, rules, scalar, scalars, Some, TimeUnit, true, [], ℕ, ◌%◌, ◌&&◌, ◌++◌, ◌+◌, ◌<◌, ◌^◌, ◌∷◌, ◌≡◌, ◌≤◌}
 use Rattle.std.proofs.Common.{nat_lt}
-use Rattle.std.proofs.lemmas.List.{length-take}
 use Rattle.duration_str_help.specs.declared.suggestion.Suggestion.{Suggestion}
 use Rattle.duration_str_help.specs.Mends.{count_text, suggestion_text, unit_text}
 use Rattle.duration_str_help.specs.Help.{help_name}

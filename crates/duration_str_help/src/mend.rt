@@ -1,5 +1,5 @@
 //! Which part of a refused text to replace, and by what.
-ghost use Rattle.std.specs.Prelude.{◌≡◌, ℕ, ◌^◌, ◌<◌, ◌≤◌, ◌+◌, ◌++◌, ◌==◌, ◌||◌, not, length, take, encode_utf8_all, option_map, IfSome, Some};
+ghost use Rattle.std.specs.Prelude.{◌≡◌, ◌<◌, ◌+◌, ◌++◌, ◌==◌, ◌||◌, encode_utf8_all, IfSome, Some};
 ghost use Rattle.std.specs.Str.{chars, IsCharBoundary};
 ghost use Rattle.duration_str_base.specs.Internal.Positions.{ahead};
 ghost use Rattle.duration_str_help.specs.Internal.Mends.{IsCutOut};

@@ -1,5 +1,5 @@
 //! The breakdown of a duration into parts.
-ghost use Rattle.std.specs.Prelude.{◌≡◌, ◌∷◌, ◌/◌, ◌%◌, ◌<◌, ◌^◌, IfNone, IfSome, [], MatchOption, ◌+◌, ◌*◌};
+ghost use Rattle.std.specs.Prelude.{◌≡◌, ◌<◌, IfNone, IfSome, MatchOption, ◌+◌, ◌*◌};
 ghost use Rattle.std.specs.Duration.{as_nanos};
 ghost use Rattle.std.specs.Iterator.{YieldsFirstBy, item_count};
 ghost use Rattle.duration_str_printing.specs.Breakdown.{AreParts, ArePartsRounded, YieldsPart, nanos_left, parts_left};

@@ -1,5 +1,5 @@
 //! The tokens of a text: numbers, words, operators, and other single characters except blanks.
-ghost use Rattle.std.specs.Prelude.{◌≡◌, ◌+◌, ◌%◌, ◌^◌, ◌≤◌, ◌<◌, [], ◌&&◌, ◌||◌, ◌==◌, true, length, take, is_some, Option, IsTrue, if◌then◌else◌, false, Some};
+ghost use Rattle.std.specs.Prelude.{◌≡◌, ◌+◌, ◌%◌, ◌^◌, ◌≤◌, ◌<◌, [], ◌&&◌, ◌||◌, ◌==◌, length, take, is_some, Option, IsTrue, if◌then◌else◌, false, Some};
 ghost use Rattle.std.specs.List.{list_all};
 ghost use Rattle.std.specs.Option.{ForSome, ForNone};
 ghost use Rattle.std.specs.Str.{chars};
@@ -119,7 +119,7 @@ impl<'a> Tokens<'a> {
     ghost use Rattle.duration_str_reading.specs.Iteration.{source, options_of, cut_place, looks_of};
     ghost use Rattle.duration_str_reading.specs.Iteration.{tokens_left, what_of, KeepsInput};
     ghost use Rattle.duration_str_reading.specs.Internal.Steps.{IsAhead, LooksAhead, LooksForNumber, TakesNumber};
-    ghost use Rattle.duration_str_reading.specs.Internal.Steps.{TakesToken, TakesTokenWith, TakesSign, sort_of};
+    ghost use Rattle.duration_str_reading.specs.Internal.Steps.{TakesToken, TakesTokenWith, TakesSign};
 
     /// Returns an iterator over the tokens of a text, which is cut under these options.
     ///

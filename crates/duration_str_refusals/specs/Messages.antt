@@ -1,5 +1,5 @@
 -- The messages of faults, and a law about their ends.
-use Rattle.std.specs.Prelude.{◌≢◌, ℕ, Bool, ◌++◌, Option, Some, None, if◌then◌else◌, chars, codes, length, take, replicate, decimal, encode_utf8_all, ◌==◌}
+use Rattle.std.specs.Prelude.{◌≢◌, ℕ, Bool, ◌++◌, Option, Some, None, if◌then◌else◌, codes, replicate, decimal, encode_utf8_all, ◌==◌}
 use Rattle.std.specs.List.{list_any, last_or}
 use Rattle.duration_str_base.specs.declared.cause.Cause.{Cause}
 use Rattle.duration_str_refusals.specs.declared.layout.Layout.{Layout}

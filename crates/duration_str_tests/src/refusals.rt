@@ -1,4 +1,4 @@
-use crate::assertions::{holds, holds_in_memory};
+use crate::assertions::holds_in_memory;
 use crate::comparisons::{is_fault, prints};
 use crate::rows::{cause_of, list_at, listed, named_options, text_at, vectors};
 use crate::shared::{NUMBER, OFF, OPERATORS, START, TOO_LARGE, UNITS, syntax};
@@ -8,7 +8,6 @@ use duration_str::{
 };
 use serde_json::Value;
 use std::alloc::{AllocError, Global};
-use std::process::Abort;
 
 fn is_refused(text: &str, fault: Fault<'_>) -> bool {
     is_fault(parse(text), fault)
