@@ -1,7 +1,14 @@
 -- The result of a call, in terms of the sentences of the text.
-use Rattle.duration_str.proofs.Common.{answer, arith, as_nanos, Cause, chars, Err, Fault, IfErr, IsOkAnd, List, MatchResult, off, Ok, Parses, refl, Result, Rules, rules, rules_of, ℕ, ◌≡◌}
+use Rattle.duration_str_reading.specs.Answer.{answer}
+use Rattle.std.proofs.Common.{arith, chars, Err, List, Ok, refl, Result, rules, ℕ, ◌≡◌}
+use Rattle.std.specs.Duration.{as_nanos}
+use Rattle.duration_str_base.specs.declared.cause.Cause.{Cause}
+use Rattle.duration_str_refusals.specs.declared.fault.Fault.{Fault}
+use Rattle.duration_str_base.specs.Options.{off}
+use Rattle.duration_str.specs.Results.{Parses}
+use Rattle.duration_str_base.specs.Rules.{Rules, rules_of}
 use Rattle.std.specs.declared.time.Duration.{Duration}
-use Rattle.std.specs.Prelude.{pos}
+use Rattle.std.specs.Prelude.{pos, IfErr, IsOkAnd, MatchResult}
 use Rattle.duration_str.specs.Configuration.{ParsesAs}
 use Rattle.duration_str.specs.OtherResults.{IsValueOrFault, Reads}
 use Rattle.duration_str_reading.proofs.Sentences.AnswerLemmas.{answer_read, answer_refused, read_below}

@@ -1,9 +1,9 @@
 -- Lemmas about the canonical text of a value.
 use Rattle.std.proofs.Common.{List, Option, refl, ℕ, ◌<◌, ◌^◌}
-use Rattle.duration_str.proofs.Common.{counts_of, EqualTexts, FitsDuration, GreatestBreakdown, IsPrintedIn, IsRead, off, OneReading, ReadsBack, unit_lengths, rules_of, rules_with}
+use Rattle.std.specs.Duration.{FitsDuration}
 use Rattle.duration_str_printing.specs.declared.format.Style.{Style}
 use Rattle.duration_str_base.specs.declared.unit.TimeUnit.{TimeUnit}
-use Rattle.uses.proofs.Common.{Options}
+use Rattle.uses.proofs.Common.{Options, counts_of, EqualTexts, GreatestBreakdown, IsPrintedIn, IsRead, off, OneReading, ReadsBack, unit_lengths, rules_of, rules_with}
 use Rattle.uses.specs.Cache.{canonical_text, IsCanonical, IsKey}
 
 pub printed_is_key : GreatestBreakdown → EqualTexts → (style : Style) (nanos : ℕ) (key : List ℕ) → FitsDuration nanos

@@ -1,6 +1,8 @@
 -- The same lexemes spell a line and the line's text.
 use Rattle.std.proofs.Common.{ap, inl, inr, IsUtf8, List, refl, rules, [], ℕ, ◌+◌, ◌∙◌, ◌∷◌, ◌≡◌}
-use Rattle.duration_str.proofs.Common.{BlanksFree, cases_Bool, chars-append, goes_on, IsSentenceOf, lexemes_of, OneSentence, Rules, Spells, tokens_from, width}
+use Rattle.uses.proofs.Common.{BlanksFree, goes_on, IsSentenceOf, lexemes_of, OneSentence, Rules, Spells, tokens_from, width}
+use Rattle.std.proofs.lemmas.Bool.{cases_Bool}
+use Rattle.std.proofs.lemmas.Str.{chars-append}
 use Rattle.uses.proofs.Common.{IsReadAsBefore, Options, run-not_blank, true≢false, with_line_feed}
 use Rattle.std.specs.Str.{chars}
 

@@ -1,6 +1,6 @@
 -- Lemmas about texts that multiply two parts, in either order.
 use Rattle.std.proofs.Common.{arith, inl, inr, List, mul_comm, refl, rules, ℕ, ◌*◌, ◌/◌, ◌<◌, ◌^◌, ◌↔◌, ◌≡◌}
-use Rattle.duration_str.proofs.Common.{IsRead, nanos_of, one_second, Rules, TwoFactors}
+use Rattle.uses.proofs.Common.{IsRead, nanos_of, one_second, Rules, TwoFactors}
 use Rattle.uses.proofs.Common.{MultipliesInEitherOrder, nanos_in, Part, Plus, Star, term_of_part}
 use Rattle.duration_str_base.specs.declared.unit.TimeUnit.{TimeUnit}
 use Rattle.duration_str_base.specs.declared.unit.TimeUnit.TheVariants.{Year}

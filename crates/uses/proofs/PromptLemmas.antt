@@ -1,11 +1,10 @@
 -- Lemmas about a text that is refused for a syntax fault.
 use Rattle.std.proofs.Common.{append-nil, ap, arith, eqb-true, Err, false, List, None, Ok, Option, refl, Result, rules, Some, true, ℕ, ◌&&◌, ◌++◌, ◌∙◌, ◌∷◌, ◌==◌, ◌≡◌, [], chars, IfSome, IsUtf8, length, ◌*◌, ◌+◌, ◌^◌, ◌≤◌}
-use Rattle.duration_str.proofs.Common.{CanFollow, early, expected_after, IsRead, IsRefused, IsRefusedAt, last_of, late, number, number_of, OneReading, operator, other, PlaceAndKinds, Rules, syntax_fault, Terminal, word}
 use Rattle.duration_str_reading.proofs.OnePass.PlaceLemmas.{early_stands, late_stands}
 use Rattle.std.specs.Result.{result_ok}
 use Rattle.duration_str.specs.Results.{Parses}
 use Rattle.uses.specs.Common.{as_nanos, Duration, Fault}
-use Rattle.uses.proofs.Common.{Cause, Expected, Syntax}
+use Rattle.uses.proofs.Common.{Cause, Expected, Syntax, CanFollow, early, expected_after, IsRead, IsRefused, IsRefusedAt, last_of, late, number, number_of, OneReading, operator, other, PlaceAndKinds, Rules, syntax_fault, Terminal, word}
 use Rattle.duration_str_help.specs.declared.mend.Mend.{Mend}
 use Rattle.duration_str_base.specs.declared.rules.Rules.{Rules as CodeRules}
 use Rattle.duration_str_base.specs.Meaning.{meaning_of}

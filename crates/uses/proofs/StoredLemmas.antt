@@ -1,11 +1,11 @@
 -- Lemmas about results of reading, given the value or the cause of the text.
 use Rattle.std.proofs.Common.{ap, Bool, chars, Err, false, IsErrAnd, IsOkAnd, List, Ok, Option, refl, Result, Some, true, ℕ, ◌↔◌, ◌∙◌, ◌≡◌}
-use Rattle.duration_str.proofs.Common.{as_nanos, HasNoCapital, HasNoOperator, IsRead, IsRefused, nanos_of, NoCalcAgrees, older_row_of, older_rules, OlderTexts, OneReading, OptionsIdle, Parses, Rules, rules_of, unit_of_word}
+use Rattle.std.specs.Duration.{as_nanos}
 use Rattle.duration_str_reading.specs.ReadingLaws.{with_lowercase, with_no_calc}
 use Rattle.duration_str.specs.OtherResults.{Reads}
 use Rattle.duration_str_base.specs.Units.{UnitRow}
 use Rattle.duration_str_base.specs.declared.unit.TimeUnit.{TimeUnit}
-use Rattle.uses.proofs.Common.{Cause, Duration, Fault, Options}
+use Rattle.uses.proofs.Common.{Cause, Duration, Fault, Options, HasNoCapital, HasNoOperator, IsRead, IsRefused, nanos_of, NoCalcAgrees, older_row_of, older_rules, OlderTexts, OneReading, OptionsIdle, Parses, Rules, rules_of, unit_of_word}
 
 module _ (law : OneReading) (o : Options) (bytes : List ℕ) where
   pub value_answered : (result : Result Duration Fault) (nanos : ℕ) → Parses (rules_of o) bytes result

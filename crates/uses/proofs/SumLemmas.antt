@@ -1,6 +1,6 @@
 use Rattle.std.proofs.Common.{if◌then◌else◌, List, map, Option, refl, rules, [], ℕ, ◌==◌, ◌∷◌, ◌≡◌}
 use Rattle.std.specs.List.{sum_by}
-use Rattle.duration_str.proofs.Common.{IsRead, Reorder, rules_with, times_in, value_of_term}
+use Rattle.uses.proofs.Common.{IsRead, Reorder, rules_with, times_in, value_of_term}
 use Rattle.uses.proofs.Common.{IsPermutation, nanos_in, Options, Part, Plus, sum_by-IsPermutation, term_of_part}
 use Rattle.std.proofs.lemmas.List.Sums.{sum_by-cons}
 use Rattle.uses.specs.Sum.{Adds}

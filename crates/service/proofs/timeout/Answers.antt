@@ -1,4 +1,5 @@
-use Rattle.duration_str.proofs.Common.{off, rules_of}
+use Rattle.duration_str_base.specs.Options.{off}
+use Rattle.duration_str_base.specs.Rules.{rules_of}
 use Rattle.service.proofs.timeout.Goals as goal
 
 pub returns-in-Ok-clause-read : goal.returns-in-Ok-clause-read

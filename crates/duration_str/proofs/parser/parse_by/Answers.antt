@@ -1,4 +1,4 @@
-use Rattle.duration_str.proofs.Common.{meaning_of}
+use Rattle.duration_str_base.specs.Meaning.{meaning_of}
 use Rattle.duration_str.proofs.ResultLemmas.{parses_text}
 use Rattle.duration_str.proofs.parser.parse_by.Goals as goal
 

@@ -1,5 +1,5 @@
 use Rattle.duration_str.proofs.ResultLemmas.{parses_text, same_on_err}
-use Rattle.duration_str.proofs.Common.{rules_of}
+use Rattle.duration_str_base.specs.Rules.{rules_of}
 use Rattle.duration_str_reading.specs.Place.{ReachesPlace}
 use Rattle.duration_str.proofs.parser.parse_looked.Goals as goal
 

@@ -1,5 +1,5 @@
 use Rattle.std.proofs.Common.{arith}
-use Rattle.duration_str.proofs.Common.{as_nanos, FitsDuration}
+use Rattle.std.specs.Duration.{as_nanos, FitsDuration}
 use Rattle.uses.proofs.CacheLemmas.{printed_is_key}
 use Rattle.uses.proofs.cache.key.Goals as goal
 

@@ -1,4 +1,5 @@
-use Rattle.duration_str.proofs.Common.{as_nanos, chars}
+use Rattle.std.specs.Duration.{as_nanos}
+use Rattle.std.proofs.Common.{chars}
 use Rattle.uses.proofs.countdown.in_parts.Goals as goal
 
 pub returns : goal.returns

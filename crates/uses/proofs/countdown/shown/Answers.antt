@@ -1,4 +1,5 @@
-use Rattle.duration_str.proofs.Common.{as_nanos, ℕ}
+use Rattle.std.specs.Duration.{as_nanos}
+use Rattle.std.proofs.Common.{ℕ}
 use Rattle.duration_str_printing.specs.Rounding.{IsRoundedDown}
 use Rattle.uses.specs.Countdown.{coarse}
 use Rattle.uses.proofs.countdown.shown.Goals as goal

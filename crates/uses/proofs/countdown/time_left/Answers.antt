@@ -1,4 +1,7 @@
-use Rattle.duration_str.proofs.Common.{map, nanos_of, refl, shorter_units, unit_lengths, units_within, ◌++◌, ◌≡◌, arith, as_nanos, cases_lt, chars, inl, inr, IsMostWithin, IsPrintedWithin, List, ℕ}
+use Rattle.std.proofs.Common.{map, refl, ◌++◌, ◌≡◌, arith, chars, inl, inr, List, ℕ}
+use Rattle.uses.proofs.Common.{nanos_of, shorter_units, unit_lengths, units_within, IsMostWithin, IsPrintedWithin}
+use Rattle.std.specs.Duration.{as_nanos}
+use Rattle.std.proofs.lemmas.Bool.{cases_lt}
 use Rattle.uses.specs.Countdown.{coarse}
 use Rattle.duration_str_printing.specs.Format.{chosen, is_in}
 use Rattle.uses.proofs.countdown.time_left.Goals as goal

@@ -1,5 +1,5 @@
 use Rattle.std.proofs.Common.{refl}
-use Rattle.duration_str.proofs.Common.{off, rules_of}
+use Rattle.uses.proofs.Common.{off, rules_of}
 use Rattle.std.specs.Str.{chars}
 use Rattle.uses.proofs.help.default_timeout.Goals as goal
 
