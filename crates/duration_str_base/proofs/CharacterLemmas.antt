@@ -1,6 +1,6 @@
 -- Lemmas about characters: their classes, their widths and their bytes.
 use Rattle.duration_str_base.proofs.Common.{[], add-zero, ahead, and_from, and_parts, arith, Bool, byte_len, chars, chars-nil, chars_past_char, drop, drop_all, drop_more, drop_past_char, encode_ascii, encode_utf8, encode_utf8_all, encodes-chars, false, false_from_ne_true, get_or, is_blank, is_digit, is_unit_letter, IsCharBoundary, IsCharBoundary-past_char, IsTrue, IsUtf8, IsUtf8-drop, leb, len_utf8, length, List, list_all, nat_tests, Options, refl, rules, scalar, scalar_cases, scalars, scalars-chars, Stands, suc, sym, true, width, zero, ℕ, ◌&&◌, ◌++◌, ◌+◌, ◌<◌, ◌∷◌, ◌≡◌, ◌≤◌, ◌⊎◌, ap, append-nil, encodes, length-append, length-encode, ◌∙◌, IsUtf8-take, length-le-encodes}
-use Rattle.duration_str_base.specs.Text.{chars_before}
+use Rattle.duration_str_base.specs.Causes.{chars_before}
 use Rattle.std.proofs.lemmas.List.{nil_from_length}
 
 pub all_weaker : (p q : ℕ → Bool) (cs : List ℕ) → ((c : ℕ) → p c ≡ true → q c ≡ true) → IsTrue (list_all p cs)

@@ -1,6 +1,6 @@
--- The place and the line of a cause.
-use Rattle.std.specs.Prelude.{ℕ, Option, Some, None, ◌++◌, if◌then◌else◌, codes}
-use Rattle.duration_str_base.specs.Text.{Characters}
+-- The place and the line of a cause, and the characters before a place.
+use Rattle.std.specs.Prelude.{ℕ, Option, Some, None, ◌++◌, if◌then◌else◌, codes, chars, length, take}
+use Rattle.duration_str_base.specs.Text.{Bytes, Characters}
 use Rattle.duration_str_base.specs.declared.cause.Cause.{Cause}
 use Rattle.duration_str_base.specs.declared.cause.Cause.TheVariants.{NumberTooLarge, Overflow, Syntax, Empty, Mixed, OutOfRange, NotText}
 use Rattle.duration_str_base.specs.declared.operator.CondUnit.{CondUnit}
@@ -12,6 +12,10 @@ place_of (Syntax place expected) = Some place
 place_of (NumberTooLarge place) = place
 place_of (Overflow place) = place
 place_of cause = None
+
+-- how many characters a text has before this byte, given its bytes
+abbrev pub chars_before : Bytes → ℕ → ℕ
+chars_before text place = length (chars (take place text))
 
 abbrev pub sign_of : CondUnit → Characters
 sign_of Plus = codes "+"

@@ -1,5 +1,5 @@
 -- Texts as lists of character codes, the classes of characters, and the numbers that digits write.
-use Rattle.std.specs.Prelude.{ℕ, ◌+◌, ◌*◌, ◌-◌, Bool, ◌&&◌, ◌||◌, List, [], ◌∷◌, nat_le, ◌==◌, IsTrue, Option, Some, None, if◌then◌else◌, codes, chars, length, take}
+use Rattle.std.specs.Prelude.{ℕ, ◌+◌, ◌*◌, ◌-◌, Bool, ◌&&◌, ◌||◌, List, [], ◌∷◌, nat_le, ◌==◌, IsTrue, Option, Some, None, if◌then◌else◌, codes}
 use Rattle.std.specs.Char.{is_ascii_digit, is_ascii_alphabetic, len_utf8}
 use Rattle.std.specs.List.{list_any, list_all}
 use Rattle.duration_str_base.specs.declared.options.Options.{Options}
@@ -60,7 +60,3 @@ width c = if nat_le 0xD800 c && nat_le c 0xDFFF then 4 else len_utf8 c
 abbrev pub byte_len : Characters → ℕ
 byte_len [] = 0
 byte_len (c ∷ text) = width c + byte_len text
-
--- how many characters a text has before this byte, given its bytes
-abbrev pub chars_before : Bytes → ℕ → ℕ
-chars_before text place = length (chars (take place text))

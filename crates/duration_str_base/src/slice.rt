@@ -2,7 +2,7 @@
 //! test that again, and would contain the code that reports a place inside a character.
 ghost use Rattle.std.specs.Prelude.{◌≡◌, ◌≤◌, ◌+◌, drop, length, slice_range};
 ghost use Rattle.std.specs.Str.{IsCharBoundary};
-ghost use Rattle.duration_str_base.specs.Text.{chars_before};
+ghost use Rattle.duration_str_base.specs.Causes.{chars_before};
 
 /// Returns `&text[..to]`.
 #[inline(always)]

@@ -1,7 +1,7 @@
 use Rattle.duration_str_refusals.proofs.Common.{ahead, and_parts, ap, append-nil, append_assoc, arith, Bool, bytes_eq, bytes_eq-Decides, cases_Bool, Cause, chars, chars-encodes, chars_from_encodes, chars_past_char, codes, common_steps, cond, div-le_self, drop, Empty, encode_ascii, encode_utf8, encode_utf8_all, encodes-chars, eqb-true, Expected, false, fits, ForSome, if◌then◌else◌, inl, inr, is_blank, is_digit, IsCharBoundary, IsUtf8, IsUtf8-drop, leb-true, len_utf8_bounds, length, length-encode, List, list_all, Mixed, nat_le, nat_tests, None, NotText, number_of, NumberTooLarge, Option, option_map, OutOfRange, Overflow, place_of, refl, rules, Rules, scalar, scalars, scalars-chars, Some, suc, sym, Syntax, take, take_while, take_while-cons, TimeUnit, true, zero, [], ℕ, ◌%◌, ◌&&◌, ◌*◌, ◌++◌, ◌+◌, ◌-◌, ◌/◌, ◌<◌, ◌==◌, ◌^◌, ◌||◌, ◌∙◌, ◌∷◌, ◌≡◌, ◌≤◌}
 use Rattle.std.proofs.Common.{lit≤, nat_lt}
 use Rattle.std.proofs.lemmas.Bool.{le-leb, lt-leb}
-use Rattle.duration_str_base.specs.Text.{chars_before}
+use Rattle.duration_str_base.specs.Causes.{chars_before}
 use Rattle.duration_str_help.specs.declared.help.Help.{Help}
 use Rattle.duration_str_help.specs.declared.help.Help.TheVariants.{DidYouMean, Fraction, MissingUnit, Zero}
 use Rattle.duration_str_help.specs.declared.suggestion.Replacement.{Replacement}

@@ -4,8 +4,8 @@ use Rattle.std.specs.List.{list_any, last_or}
 use Rattle.duration_str_base.specs.declared.cause.Cause.{Cause}
 use Rattle.duration_str_refusals.specs.declared.layout.Layout.{Layout}
 use Rattle.duration_str_refusals.specs.declared.layout.Layout.TheVariants.{Line, Byte, Caret}
-use Rattle.duration_str_base.specs.Text.{Bytes, chars_before}
-use Rattle.duration_str_base.specs.Causes.{place_of, line_of}
+use Rattle.duration_str_base.specs.Text.{Bytes}
+use Rattle.duration_str_base.specs.Causes.{place_of, chars_before, line_of}
 
 -- the text, below it a caret after this many spaces, and below that the line
 abbrev pub caret_text : Bytes → ℕ → Bytes → Bytes

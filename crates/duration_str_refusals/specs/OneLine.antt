@@ -9,9 +9,9 @@ use Rattle.duration_str_help.specs.declared.help.Help.{Help}
 use Rattle.duration_str_help.specs.declared.help.Help.TheVariants.{Fraction}
 use Rattle.duration_str_help.specs.declared.suggestion.Replacement.{Replacement}
 use Rattle.duration_str_help.specs.declared.suggestion.Suggestion.{Suggestion}
-use Rattle.duration_str_base.specs.Text.{Bytes, Characters, chars_before}
+use Rattle.duration_str_base.specs.Text.{Bytes, Characters}
 use Rattle.duration_str_base.specs.Rules.{Rules}
-use Rattle.duration_str_base.specs.Causes.{line_of}
+use Rattle.duration_str_base.specs.Causes.{chars_before, line_of}
 use Rattle.duration_str_help.specs.Quotes.{quoted}
 use Rattle.duration_str_help.specs.Help.{first_piece, help_words, is_unknown_unit, help_of}
 use Rattle.duration_str_help.specs.Mends.{suggestion_text, replacement_of}
