@@ -1,4 +1,6 @@
 // Each check is a function, so that it is proved once, and not again in each test.
+// `duration_str_tests` has the same two in its tests. A crate can't export them, since the gate
+// refuses `Abort` outside tests.
 use std::alloc::AllocError;
 use std::process::Abort;
 
