@@ -1,5 +1,5 @@
 -- Lemmas about a text that is split after its first piece.
-use Rattle.duration_str_help.proofs.Common.{ahead, and_parts, drop-drop, get_or, is_ascii_alphabetic, is_blank, list_all, nat_lt, nat_tests, IfSome, IsUtf8-drop, Option, take-append-drop, ◌+◌, ◌-◌, ◌≤◌, [], ap, arith, Bool, cases_Bool, chars, drop, encode_utf8_all, encodes-append, encodes-chars, false, false_from_ne_true, inl, inr, IsCharBoundary, IsCharBoundary-at_seam, IsUtf8, length, List, refl, scalars, scalars-chars, suc, sym, take, take_while, take_while-cons, true, zero, ℕ, ◌++◌, ◌<◌, ◌∙◌, ◌∷◌, ◌≡◌}
+use Rattle.duration_str_help.proofs.Common.{ahead, and_from, and_parts, chars-encodes, drop-drop, get_or, is_ascii_alphabetic, is_blank, list_all, nat_lt, nat_tests, IfSome, IsUtf8-drop, Option, take-append-drop, ◌+◌, ◌-◌, ◌≤◌, [], ap, arith, Bool, cases_Bool, chars, drop, encode_utf8_all, encodes-append, encodes-chars, false, false_from_ne_true, inl, inr, IsCharBoundary, IsCharBoundary-at_seam, IsUtf8, length, List, refl, scalars, scalars-chars, Stops, suc, sym, take, take_while, take_while-cons, true, zero, ℕ, ◌++◌, ◌<◌, ◌∙◌, ◌∷◌, ◌≡◌}
 use Rattle.std.proofs.lemmas.Str.{IsCharBoundary-from_rest}
 use Rattle.duration_str_help.specs.declared.suggestion.Replacement.{Replacement}
 use Rattle.duration_str_help.specs.Internal.Mends.{IsCutOut}
@@ -8,79 +8,87 @@ use Rattle.duration_str_help.specs.Help.{begins_with_letter, first_piece, is_let
 use Rattle.duration_str_help.specs.Mends.{ends_with_letter, removed_if}
 use Rattle.std.proofs.lemmas.List.Folds.{list_all_at}
 
-run_parts : (test : ℕ → Bool) (most : ℕ) (text : List ℕ)
-    → text ≡ take most (take_while test text) ++ drop (length (take most (take_while test text))) text
-run_parts test zero text = refl
-run_parts test (suc most) [] = refl
-run_parts test (suc most) (c ∷ text) = elim (cases_Bool (test c)) [
-  | inl passes ↦ rw (take_while-cons test c text, passes) (ap (λ (cs : List ℕ). c ∷ cs) (run_parts test most text))
-  | inr fails ↦ rw (take_while-cons test c text, fails) refl
+-- The text begins with this run of characters that pass the test. If it has fewer than so many,
+-- no such character follows it.
+record IsRun (test : ℕ → Bool) (most : ℕ) (text run : List ℕ) : Type 0 where
+  parts : text ≡ run ++ drop (length run) text
+  all : list_all test run ≡ true
+  stops : length run < most → Stops test (drop (length run) text)
+
+is_run : (test : ℕ → Bool) (most : ℕ) (text : List ℕ) → IsRun test most text (take most (take_while test text))
+is_run test zero text = record { parts = refl; all = refl; stops = λ short. absurd (omega (arith, short)) }
+is_run test (suc most) [] = record { parts = refl; all = refl; stops = λ short. tt }
+is_run test (suc most) (c ∷ text) = elim (cases_Bool (test c)) [
+  | inl passes ↦
+      let later = is_run test most text in
+      rw (take_while-cons test c text, passes) (record {
+        parts = ap (λ (cs : List ℕ). c ∷ cs) later.parts;
+        all = and_from _ _ passes later.all;
+        stops = λ short. later.stops (omega (arith, short));
+      })
+  | inr fails ↦ rw (take_while-cons test c text, fails) (record { parts = refl; all = refl; stops = λ short. fails })
 ]
 
 pub piece_parts : (text : List ℕ) → text ≡ first_piece text ++ drop (length (first_piece text)) text
 piece_parts [] = refl
-piece_parts (c ∷ text) = ap (λ (cs : List ℕ). c ∷ cs) (run_parts (is_like c) 40 text)
+piece_parts (c ∷ text) = ap (λ (cs : List ℕ). c ∷ cs) (is_run (is_like c) 40 text).parts
 
-other_letter : (c d : ℕ) → is_letter c ≡ true → is_like c d ≡ false → is_letter d ≡ false
-other_letter c d letter other = false_from_ne_true (is_letter d) (λ t. grind arith)
+-- The rest of a piece is like its first character, and what follows a piece that is shorter than
+-- the longest one is not.
+pub like_run : (c : ℕ) (text : List ℕ) → length (first_piece (c ∷ text)) < 41
+    → let run = take 40 (take_while (is_like c) text) in
+    (list_all (is_like c) run ≡ true) × Stops (is_like c) (drop (length run) text)
+like_run c text short =
+    let run = is_run (is_like c) 40 text in (run.all, run.stops (omega (arith, short)))
 
-run_stops : (c most : ℕ) (text : List ℕ) → is_letter c ≡ true
-    → length (take most (take_while (is_like c) text)) < most
-    → begins_with_letter (drop (length (take most (take_while (is_like c) text))) text) ≡ false
-run_stops c zero text letter short = absurd (omega (arith, short))
-run_stops c (suc most) [] letter short = refl
-run_stops c (suc most) (d ∷ text) letter short = elim (cases_Bool (is_like c d)) [
-  | inl like ↦
-      let fewer = rw (take_while-cons (is_like c) d text, like) at short in
-      rw (take_while-cons (is_like c) d text, like) (run_stops c most text letter (omega (arith, fewer)))
-  | inr other ↦ rw (take_while-cons (is_like c) d text, other) (other_letter c d letter other)
-]
+no_letter_after : (c : ℕ) (rest : List ℕ) → is_letter c ≡ true → Stops (is_like c) rest → begins_with_letter rest ≡ false
+no_letter_after c [] letter stops = refl
+no_letter_after c (d ∷ rest) letter stops = false_from_ne_true (is_letter d) (λ t. grind arith)
 
 -- No letter follows a word that is shorter than the longest piece.
 pub piece_stops : (text : List ℕ) → begins_with_letter (first_piece text) ≡ true → length (first_piece text) < 41
     → begins_with_letter (drop (length (first_piece text)) text) ≡ false
 piece_stops [] letter short = refl
-piece_stops (c ∷ text) letter short = run_stops c 40 text letter (omega (arith, short))
+piece_stops (c ∷ text) letter short = no_letter_after c _ letter (like_run c text short).1
 
+abbrev pub after_piece : List ℕ → List ℕ
+after_piece bytes = drop (length (encode_utf8_all (first_piece (chars bytes)))) bytes
+
+-- The bytes of a text are those of its first piece, and those after it.
 pub record IsCut (bytes : List ℕ) : Type 0 where
-  pub rest : List ℕ
-  pub parts : chars bytes ≡ first_piece (chars bytes) ++ rest
-  pub same : rest ≡ drop (length (first_piece (chars bytes))) (chars bytes)
-  pub whole : bytes ≡ encode_utf8_all (first_piece (chars bytes)) ++ encode_utf8_all rest
-  pub utf8 : IsUtf8 (encode_utf8_all rest)
-  pub are : scalars rest ≡ true
+  pub parts : bytes ≡ encode_utf8_all (first_piece (chars bytes)) ++ after_piece bytes
+  pub piece_utf8 : IsUtf8 (encode_utf8_all (first_piece (chars bytes)))
+  pub piece : chars (encode_utf8_all (first_piece (chars bytes))) ≡ first_piece (chars bytes)
+  pub rest_utf8 : IsUtf8 (after_piece bytes)
+  pub rest : chars (after_piece bytes) ≡ drop (length (first_piece (chars bytes))) (chars bytes)
 
-scalars_after : (xs ys : List ℕ) → scalars (xs ++ ys) ≡ true → scalars ys ≡ true
-scalars_after [] ys e = e
-scalars_after (x ∷ xs) ys e = grind (arith, scalars_after xs ys)
+scalars_parts : (xs ys : List ℕ) → scalars (xs ++ ys) ≡ true → (scalars xs ≡ true) × (scalars ys ≡ true)
+scalars_parts [] ys e = (refl, e)
+scalars_parts (x ∷ xs) ys e = grind (arith, scalars_parts xs ys)
 
 pub cut_piece : (bytes : List ℕ) → IsUtf8 bytes → IsCut bytes
 cut_piece bytes utf8 =
     let piece = first_piece (chars bytes) in
     let rest = drop (length piece) (chars bytes) in
-    let parts : chars bytes ≡ piece ++ rest = piece_parts (chars bytes) in
-    let are : scalars rest ≡ true = scalars_after piece rest (rw parts at (scalars-chars bytes utf8)) in
+    let spelled : chars bytes ≡ piece ++ rest = piece_parts (chars bytes) in
+    let (first, last) = scalars_parts piece rest (rw spelled at (scalars-chars bytes utf8)) in
+    let parts : bytes ≡ encode_utf8_all piece ++ encode_utf8_all rest =
+    sym (encodes-chars bytes utf8) ∙ ap encode_utf8_all spelled ∙ encodes-append piece rest in
+    let after : after_piece bytes ≡ encode_utf8_all rest =
+    ap (drop (length (encode_utf8_all piece))) parts ∙ drop-append_seam (encode_utf8_all piece) (encode_utf8_all rest) in
     record {
-      rest = rest;
-      parts = parts;
-      same = refl;
-      whole = sym (encodes-chars bytes utf8) ∙ ap encode_utf8_all parts ∙ encodes-append piece rest;
-      utf8 = (rest, (are, refl));
-      are = are;
+      parts = rw after parts;
+      piece_utf8 = (piece, (first, refl));
+      piece = chars-encodes piece first;
+      rest_utf8 = rw after (rest, (last, refl));
+      rest = rw after (chars-encodes rest last);
     }
 
 pub piece_boundary : (bytes piece : List ℕ) → IsUtf8 bytes → piece ≡ encode_utf8_all (first_piece (chars bytes))
     → IsCharBoundary bytes (length piece)
 piece_boundary bytes piece utf8 is =
     let cut : IsCut bytes = cut_piece bytes utf8 in
-    IsCharBoundary-at_seam bytes piece (encode_utf8_all cut.rest) (rw is cut.whole) cut.utf8
-
-pub after_piece : (bytes : List ℕ) (utf8 : IsUtf8 bytes)
-    → drop (length (encode_utf8_all (first_piece (chars bytes)))) bytes ≡ encode_utf8_all (cut_piece bytes utf8).rest
-after_piece bytes utf8 =
-    let piece = encode_utf8_all (first_piece (chars bytes)) in
-    let rest = encode_utf8_all (cut_piece bytes utf8).rest in
-    ap (λ (bs : List ℕ). drop (length piece) bs) (cut_piece bytes utf8).whole ∙ drop-append_seam piece rest
+    IsCharBoundary-at_seam bytes piece (after_piece bytes) (rw is cut.parts) cut.rest_utf8
 
 -- ---- The part that a mend replaces
 

@@ -6,7 +6,7 @@ pub use Rattle.std.proofs.lemmas.Fmt.{decimal_nonempty, digits_decimal, digits_v
 pub use Rattle.std.proofs.lemmas.List.{drop_all, map-append}
 pub use Rattle.std.proofs.lemmas.List.Folds.{list_all-append}
 pub use Rattle.std.proofs.lemmas.Slice.Eq.{bytes_eq-Decides}
-pub use Rattle.std.proofs.lemmas.Str.{chars-append, chars-encodes, chars-nil, encode_ascii, encodes-chars, IsUtf8-append, IsUtf8-drop, IsUtf8-nil, IsUtf8-take, length-le-encodes, scalars-chars}
+pub use Rattle.std.proofs.lemmas.Str.{chars-append, chars-encodes, chars-nil, encode_ascii, encodes-chars, IsUtf8-append, IsUtf8-drop, IsUtf8-nil, IsUtf8-take, length-le-encodes}
 pub use Rattle.std.specs.Char.{is_ascii_alphabetic, to_ascii_lowercase}
 pub use Rattle.std.specs.Duration.{FitsDuration}
 pub use Rattle.std.specs.List.{list_all, list_any, sum_by, take_while}
@@ -40,7 +40,7 @@ pub use Rattle.duration_str_reading.specs.Value.{one_second, sum_of, terms_after
 pub use Rattle.duration_str_base.specs.Text.{byte_len, chinese_letters, is_blank, is_chinese, is_digit, is_unit_letter, IsBlank, number_of, operator_of, width}
 pub use Rattle.duration_str_reading.specs.Tokens.{are_of_one_run, goes_on, lexemes_of, Token, tokens_from, tokens_of, with_first_character}
 pub use Rattle.duration_str_base.specs.Meaning.{meaning_of, table_of}
-pub use Rattle.duration_str_base.specs.MoreNames.{more_names, more_row_of, more_rules}
+pub use Rattle.duration_str_base.specs.MoreNames.{more_names, more_row_of}
 pub use Rattle.duration_str_base.specs.Rules.{comparison_form, Rules, rules_of, rules_with, unit_of_word}
 pub use Rattle.duration_str_base.specs.Internal.UnitTable.{all_names, all_names_in, Table}
 pub use Rattle.duration_str_base.specs.declared.table.UnitTable.{UnitTable}

@@ -1,24 +1,24 @@
 -- What is written for each help, and the tokens of a text with its suggestion.
-use Rattle.duration_str_laws.proofs.Common.{[], add-zero, ahead, and_from, and_parts, ap, append_assoc, arith, byte_len, Cause, chars, chars-append, chars-encodes, chars-nil, drop, encode_utf8_all, Expected, false, is_ascii_alphabetic, is_blank, is_digit, IsRefused, IsUtf8, inl, inr, length, List, list_all, list_all-append, meaning_of, nat_tests, None, Option, option_map, refl, Second, Some, sym, Syntax, take, take-append-drop, tokens_from, tokens_of, true, ℕ, ◌++◌, ◌+◌, ◌==◌, ◌||◌, ◌∙◌, ◌∷◌, ◌≡◌, ◌≢◌, ◌≤◌, ◌⊎◌}
+use Rattle.duration_str_laws.proofs.Common.{[], ahead, and_from, and_parts, ap, append_assoc, arith, byte_len, Cause, chars, chars-append, chars-nil, drop, Expected, false, is_ascii_alphabetic, is_blank, is_digit, IsRefused, IsUtf8, inl, inr, length, List, list_all, list_all-append, meaning_of, nat_tests, None, Option, option_map, refl, Second, Some, sym, Syntax, take, take-append-drop, tokens_from, tokens_of, true, ℕ, ◌++◌, ◌+◌, ◌==◌, ◌||◌, ◌∙◌, ◌∷◌, ◌≡◌, ◌≢◌, ◌≤◌, ◌⊎◌, bytes_eq, bytes_eq-Decides, codes, length-le-encodes, Bool, not, eqb-true, ◌&&◌, ◌<◌}
 use Rattle.duration_str_help.specs.declared.help.Help.{Help}
 use Rattle.duration_str_help.specs.declared.help.Help.TheVariants.{DidYouMean, DigitsOnly, Fraction, Iso8601, LeadingPlus, NoPoint, Zero}
 use Rattle.duration_str_help.specs.declared.suggestion.Replacement.{Replacement}
 use Rattle.duration_str_help.specs.declared.suggestion.Suggestion.{Suggestion}
 use Rattle.duration_str_base.specs.declared.rules.Rules.{Rules as CodeRules}
-use Rattle.duration_str_laws.specs.Mended.{JoinsNumbers, KeepsTokens, mended_text, MendedTexts, MendedTokens, WrittenIsSaid}
-use Rattle.duration_str_help.specs.Help.{begins_with_letter, first_piece, syntax_help}
-use Rattle.duration_str_help.specs.Mends.{mend_of, replacement_for, replacement_of, name_alone, Pieces, pieces_of, suggestion_of, suggestion_text}
-use Rattle.duration_str_help.proofs.MendedHelp.{is_separator, Reason, reason}
-use Rattle.duration_str_laws.proofs.MendedPlaces.{after_place, apart_at_start, IsInPlace, IsJoined, IsMended, IsPlaced, joined_by, name_written, placed, removed_by}
-use Rattle.duration_str_help.proofs.MendedBytes.{first_char, is_small, plain_no_letter}
+use Rattle.duration_str_laws.specs.Mended.{JoinsNumbers, KeepsTokens, mended_text, MendedTexts, MendedTokens, WrittenIsSaid, RefusedTokens}
+use Rattle.duration_str_help.specs.Help.{begins_with_letter}
+use Rattle.duration_str_help.specs.Mends.{mend_of, replacement_for, replacement_of, name_alone, Pieces, pieces_of, suggestion_of, suggestion_text, nothing, removed_if}
+use Rattle.duration_str_help.proofs.MendedHelp.{are_separators, is_separator, Reason, reason}
+use Rattle.duration_str_laws.proofs.MendedPlaces.{after_place, apart_at_start, IsInPlace, IsJoined, IsMended, IsPlaced, name_written, placed, bytes_at, piece_at, joined, removed}
+use Rattle.duration_str_help.proofs.MendedBytes.{first_char, is_small, plain_no_letter, end_cut, EndCut}
 use Rattle.duration_str_laws.proofs.MendedNames.{near_short}
 use Rattle.duration_str_laws.proofs.MendedNumbers.{apart_unless, number_first, number_last, one_number, seamed_kept, seamed_tokens}
-use Rattle.duration_str_laws.proofs.MendedTerms.{fraction_mended}
-use Rattle.duration_str_help.proofs.MendedLemmas.{after_piece, cut_piece, IsCut, piece_stops}
+use Rattle.duration_str_laws.proofs.MendedTerms.{fraction_found, fraction_mended, IsFractionAt}
+use Rattle.duration_str_help.proofs.MendedLemmas.{piece_stops}
 use Rattle.duration_str_base.proofs.CharacterLemmas.{byte_count, byte_len-append}
-
-abbrev pub bytes_at : List ℕ → ℕ → List ℕ
-bytes_at text place = encode_utf8_all (first_piece (ahead text place))
+use Rattle.duration_str_laws.proofs.MendedCuts.{cut_at_piece, cut_at_place, fraction_cut, IsCutApart, tokens_of_cut}
+use Rattle.duration_str_laws.proofs.MendedTokens.{IsApart}
+use Rattle.std.specs.Prelude.{IfSome}
 
 zeros_end : (text : List ℕ) (place : ℕ) → IsUtf8 (drop place text) → list_all (λ b. b == 48 || is_blank b) text ≡ true
     → begins_with_letter (ahead text place) ≡ false
@@ -38,39 +38,81 @@ zeros_end text place utf8 zeros = by (drop place text) utf8 rest
         let plain : is_ascii_alphabetic b ≡ false = grind (arith, nat_tests) in
         rw ((first_char b bytes small utf8).0, plain_no_letter b small plain) refl
 
-mended : (s : CodeRules) (text : List ℕ) (place : ℕ) (expected : Expected) (replacement : Replacement) (help : Option Help)
-    → IsPlaced s text place expected → Reason text place expected (first_piece (ahead text place)) help
-    → replacement_for (meaning_of s) text place expected (bytes_at text place) help ≡ Some replacement
-    → IsMended s text replacement
-mended s text place expected replacement (Some (DidYouMean u)) p why is =
-    let piece = first_piece (ahead text place) in
-    let n = length (bytes_at text place) in
-    let cut : IsCut (drop place text) = cut_piece (drop place text) p.back_utf8 in
-    let both = and_parts expected.unit_word (begins_with_letter piece) why.0 in
-    let short = near_short piece u why.1 in
-    let after = after_place text place n ∙ after_piece (drop place text) p.back_utf8 in
-    let stops : begins_with_letter (chars (drop (place + n) text)) ≡ false =
-    rw (after, chars-encodes cut.rest cut.are, cut.same) (piece_stops (ahead text place) both.1 (omega (arith, short))) in
-    let same : record { start = place; end = place + n; suggestion = name_alone u } ≡ replacement = cc in
-    rw (← same) (name_written s text place n u expected p both.0 stops)
-mended s text place expected replacement (Some Fraction) p why is = fraction_mended s text place expected replacement p why is
-mended s text place expected replacement (Some LeadingPlus) p why is =
-    removed_by s text place (length (bytes_at text place)) expected replacement true p (λ e. apart_at_start s text _ place why.0) is
-mended s text place expected replacement (Some NoPoint) p why is =
-    removed_by s text place (length (bytes_at text place)) expected replacement _ p
-    (λ e. apart_unless s.options (chars (take place text)) _ e) is
-mended s text place expected replacement (Some DigitsOnly) p why is =
-    let cut : IsCut (drop place text) = cut_piece (drop place text) p.back_utf8 in
-    joined_by s text (bytes_at text place) place expected replacement p (encode_utf8_all cut.rest) cut.whole cut.utf8 why.0 why.1 _
-    (λ e. (and_parts (is_separator (bytes_at text place)) _ e).0) is
-mended s text place expected replacement (Some Iso8601) p why is =
-    removed_by s text place (length (bytes_at text place)) expected replacement _ p (λ e. apart_at_start s text _ place why) is
-mended s text place expected replacement (Some Zero) p why is =
-    let same : record { start = place; end = place; suggestion = name_alone Second } ≡ replacement = cc in
-    let written : IsMended s text (record { start = place; end = place + 0; suggestion = name_alone Second }) =
-    name_written s text place 0 Second expected p why.0 (rw add-zero (zeros_end text place p.back_utf8 why.1)) in
-    rw (← same) (rw add-zero at written)
-mended s text place expected replacement help p why is = absurd cc
+-- ---- Each help
+
+-- The replacement mends the text, and no token of the text has characters of two of its parts.
+abbrev IsSound : CodeRules → List ℕ → Replacement → Type 0
+IsSound s text replacement = IsMended s text replacement × IsCutApart s text (pieces_of text replacement)
+
+-- What holds of the removal holds of it if it is made on this condition.
+removed_when : (P : Replacement → Type 0) (b : Bool) (start end : ℕ)
+    → (b ≡ true → P (record { start = start; end = end; suggestion = nothing })) → IfSome (removed_if b start end) P
+removed_when P true start end h = h refl
+removed_when P false start end h = tt
+
+implied : (P Q : Replacement → Type 0) (found : Option Replacement) → ((x : Replacement) → P x → Q x) → IfSome found P → IfSome found Q
+implied P Q None h is = tt
+implied P Q (Some x) h is = h x is
+
+-- A piece of at most two bytes is shorter than the longest piece.
+short_piece : (text : List ℕ) (place : ℕ) → length (bytes_at text place) ≤ 2 → length (piece_at text place) < 41
+short_piece text place few = omega (arith, few, length-le-encodes (piece_at text place))
+
+sign_short : (bytes sign : List ℕ) → bytes_eq bytes sign ≡ true → length sign ≡ 1 → length bytes ≤ 2
+sign_short bytes sign is one = omega (arith, ap length ((bytes_eq-Decides bytes sign).0 is), one)
+
+separator_short : (bytes : List ℕ) → is_separator bytes ≡ true → length bytes ≤ 2
+separator_short bytes is = elim (are_separators bytes is) [
+  | inl line ↦ omega (arith, ap length line)
+  | inr mark ↦ omega (arith, ap length mark)
+]
+
+module _ (s : CodeRules) (text : List ℕ) (place : ℕ) (expected : Expected) (p : IsPlaced s text place expected) where
+  abbrev end : ℕ
+  end = place + length (bytes_at text place)
+
+  removed_piece : length (bytes_at text place) ≤ 2 → IsApart s.options (chars (take place text)) (chars (drop end text))
+      → IsSound s text (record { start = place; end = end; suggestion = nothing })
+  removed_piece few apart =
+      (removed s text place end expected p apart, cut_at_piece s text place expected nothing p (short_piece text place few))
+
+  mended : (help : Option Help) → Reason text place expected (piece_at text place) help
+      → IfSome (replacement_for (meaning_of s) text place expected (bytes_at text place) help) (IsSound s text)
+  mended (Some (DidYouMean u)) why =
+      let both = and_parts expected.unit_word (begins_with_letter (piece_at text place)) why.0 in
+      let short : length (piece_at text place) < 41 = omega (arith, near_short (piece_at text place) u why.1) in
+      let stops : begins_with_letter (chars (drop end text)) ≡ false =
+      rw (after_place text place (length (bytes_at text place)), p.cut.rest) (piece_stops (ahead text place) both.1 short) in
+      (name_written s text place end u expected p both.0 stops, cut_at_piece s text place expected (name_alone u) p short)
+  mended (Some Fraction) why =
+      let cut : EndCut (take place text) = end_cut (take place text) p.front_utf8 in
+      let found = fraction_found s text cut.front place expected p why cut.parts in
+      implied (IsFractionAt s text cut.front _ expected) (IsSound s text) _ (λ replacement f.
+      (fraction_mended s text place expected replacement p cut f, fraction_cut s text place expected replacement cut f)) found
+  mended (Some LeadingPlus) why =
+      removed_piece (sign_short (bytes_at text place) (codes "+") why.1 refl) (apart_at_start s text _ place why.0)
+  mended (Some NoPoint) why = removed_when (IsSound s text) _ place end (λ e.
+      removed_piece (sign_short (bytes_at text place) (codes ".") why refl) (apart_unless s.options (chars (take place text)) _ e))
+  mended (Some DigitsOnly) why = removed_when (IsSound s text) _ place end (λ e.
+      let separator = (and_parts (is_separator (bytes_at text place)) _ e).0 in
+      let short = short_piece text place (separator_short (bytes_at text place) separator) in
+      (joined s text place expected p why.0 (why.1 separator) separator, cut_at_piece s text place expected nothing p short))
+  mended (Some Iso8601) why = removed_when (IsSound s text) _ place end (λ e.
+      let n = length (bytes_at text place) in
+      let time = (and_parts (n == 2 && not s.options.lowercase) _ e).0 in
+      let two = eqb-true n 2 (and_parts (n == 2) _ time).0 in
+      removed_piece (omega (arith, two)) (apart_at_start s text _ place why))
+  mended (Some Zero) why = (
+    name_written s text place place Second expected p why.0 (zeros_end text place p.back_utf8 why.1),
+    cut_at_place s text place expected (name_alone Second) p,
+  )
+  mended help why = tt
+
+mended_at : (s : CodeRules) (text : List ℕ) (cause : Cause) → IsUtf8 text → IsRefused (meaning_of s) (chars text) cause
+    → IfSome (replacement_of (meaning_of s) text cause) (IsSound s text)
+mended_at s text (Syntax place expected) utf8 refused =
+    mended s text place expected (placed s text place expected utf8 refused) _ (reason text place expected (piece_at text place))
+mended_at s text cause utf8 refused = tt
 
 -- The replacement that gives these pieces, and what is known of it.
 pub record IsMendOf (s : CodeRules) (text : List ℕ) (cause : Cause) (new : Pieces) : Type 0 where
@@ -78,15 +120,7 @@ pub record IsMendOf (s : CodeRules) (text : List ℕ) (cause : Cause) (new : Pie
   pub asked : replacement_of (meaning_of s) text cause ≡ Some replacement
   pub pieces : pieces_of text replacement ≡ new
   pub is : IsMended s text replacement
-
-placed_mend : (s : CodeRules) (text : List ℕ) (cause : Cause) (replacement : Replacement) → IsUtf8 text
-    → IsRefused (meaning_of s) (chars text) cause → replacement_of (meaning_of s) text cause ≡ Some replacement
-    → IsMended s text replacement
-placed_mend s text (Syntax place expected) replacement utf8 refused is =
-    let piece = first_piece (ahead text place) in
-    mended s text place expected replacement (syntax_help text place expected piece) (placed s text place expected utf8 refused)
-    (reason text place expected piece) is
-placed_mend s text cause replacement utf8 refused is = absurd cc
+  pub cut : IsCutApart s text (pieces_of text replacement)
 
 pub mend : (s : CodeRules) (text : List ℕ) (cause : Cause) (new : Pieces) → IsUtf8 text → IsRefused (meaning_of s) (chars text) cause
     → mend_of (meaning_of s) text cause ≡ Some new → IsMendOf s text cause new
@@ -95,12 +129,9 @@ mend s text cause new utf8 refused is = by (replacement_of (meaning_of s) text c
     by : (found : Option Replacement) → replacement_of (meaning_of s) text cause ≡ found
         → option_map (pieces_of text) found ≡ Some new → IsMendOf s text cause new
     by None asked is = absurd cc
-    by (Some replacement) asked is = record {
-      replacement = replacement;
-      asked = asked;
-      pieces = cc;
-      is = placed_mend s text cause replacement utf8 refused asked;
-    }
+    by (Some replacement) asked is =
+        let (is_mended, cut) = rw asked at (mended_at s text cause utf8 refused) in
+        record { replacement = replacement; asked = asked; pieces = cc; is = is_mended; cut = cut }
 
 -- ---- The characters of a text with its suggestion
 
@@ -202,3 +233,9 @@ written_holds s text cause new suggestion utf8 refused is asked =
     let m : IsMendOf s text cause new = mend s text cause new utf8 refused is in
     let written : suggestion_text m.replacement.suggestion ≡ new.written = ap (λ (p : Pieces). p.written) m.pieces in
     rw (← written, ← same_suggestion s text cause new suggestion m asked) m.is.said
+
+-- ---- The tokens of a refused text
+
+pub refused_hold : RefusedTokens
+refused_hold s text cause new utf8 refused is =
+    let m : IsMendOf s text cause new = mend s text cause new utf8 refused is in tokens_of_cut s text new (rw m.pieces at m.cut)

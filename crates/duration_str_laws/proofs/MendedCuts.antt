@@ -1,27 +1,21 @@
 -- The tokens of a refused text that has a mend: none has characters of two of the mend's parts.
-use Rattle.duration_str_laws.proofs.Common.{[], ahead, and_from, and_parts, ap, append-nil, append_assoc, are_of_one_run, arith, Bool, bytes_eq, bytes_eq-Decides, cases_Bool, Cause, chars, chars-append, chars-encodes, chars-nil, codes, drop, encode_utf8_all, eqb-true, Expected, false, false_from_ne_true, inl, inr, is_blank, is_digit, is_unit_letter, IsRefused, IsTrue, IsUtf8, IsUtf8-append, IsUtf8-nil, length, length-le-encodes, List, list_all, list_all-append, meaning_of, nat_tests, not, Option, Options, or_cases, or_right, refl, scalars-chars, Second, Some, Stops, suc, sym, Syntax, take, take-append-drop, take_while, take_while-cons, TimeUnit, tokens_of, true, zero, ℕ, ◌&&◌, ◌++◌, ◌+◌, ◌-◌, ◌<◌, ◌==◌, ◌∙◌, ◌∷◌, ◌≡◌, ◌≤◌}
-use Rattle.duration_str_help.specs.declared.help.Help.{Help}
-use Rattle.duration_str_help.specs.declared.help.Help.TheVariants.{DidYouMean, DigitsOnly, Fraction, Iso8601, LeadingPlus, NoPoint, Zero}
+use Rattle.duration_str_laws.proofs.Common.{[], ahead, and_from, and_parts, ap, append-nil, append_assoc, are_of_one_run, arith, chars, chars-append, chars-nil, codes, drop, Expected, false, false_from_ne_true, inl, inr, is_blank, is_digit, is_unit_letter, IsTrue, IsUtf8, IsUtf8-append, IsUtf8-nil, length, List, list_all, list_all-append, meaning_of, nat_tests, Options, or_cases, or_right, refl, Stops, sym, take, take-append-drop, take_while, TimeUnit, tokens_of, true, ℕ, ◌&&◌, ◌++◌, ◌+◌, ◌-◌, ◌<◌, ◌∙◌, ◌∷◌, ◌≡◌, ◌≤◌}
 use Rattle.duration_str_help.specs.declared.suggestion.Replacement.{Replacement}
 use Rattle.duration_str_help.specs.declared.suggestion.Suggestion.{Suggestion}
 use Rattle.duration_str_base.specs.declared.rules.Rules.{Rules as CodeRules}
-use Rattle.duration_str_laws.specs.Mended.{HasTokensOf, RefusedTokens}
+use Rattle.duration_str_laws.specs.Mended.{HasTokensOf}
 use Rattle.duration_str_help.specs.Fraction.{end_run}
-use Rattle.duration_str_help.specs.Help.{begins_with_letter, first_piece, is_letter, is_like, syntax_help}
-use Rattle.duration_str_help.specs.Mends.{fraction_replacement, name_alone, nothing, Pieces, pieces_of, removed_if, replacement_for, replacement_of}
-use Rattle.duration_str_help.proofs.MendedHelp.{is_separator, Reason, reason}
-use Rattle.duration_str_help.proofs.MendedBytes.{blank_small, digit_small, end_cut, EndCut, ends_in, first_digit, is_small, plain_no_letter, small_chars, small_utf8}
-use Rattle.duration_str_help.proofs.MendedLemmas.{after_piece, cut_piece, IsCut}
-use Rattle.duration_str_laws.proofs.Mended.{bytes_at, IsMendOf, mend}
-use Rattle.duration_str_laws.proofs.MendedFractions.{are_letters, meant_letters}
-use Rattle.duration_str_laws.proofs.MendedNames.{near_short, unit_letter_is_letter}
-use Rattle.duration_str_laws.proofs.MendedNumbers.{apart_before, apart_unless, no_unit_letter, apart_digit, ends_digits, no_run, seamed_tokens}
-use Rattle.duration_str_laws.proofs.MendedPlaces.{after_place, IsPlaced, placed}
-use Rattle.duration_str_laws.proofs.MendedTerms.{cut_out, fraction_found, HasUnit, IsFractionAt, scalars_before}
+use Rattle.duration_str_help.specs.Help.{begins_with_letter, first_piece, is_letter, is_like}
+use Rattle.duration_str_help.specs.Mends.{Pieces, pieces_of}
+use Rattle.duration_str_help.proofs.MendedBytes.{blank_small, digit_small, EndCut, ends_in, first_digit, is_small, plain_no_letter, small_chars, small_utf8}
+use Rattle.duration_str_help.proofs.MendedLemmas.{like_run, piece_parts}
+use Rattle.duration_str_laws.proofs.MendedNames.{unit_letter_is_letter, are_letters, meant_letters}
+use Rattle.duration_str_laws.proofs.MendedNumbers.{apart_before, no_unit_letter, apart_digit, ends_digits, no_run, seamed_tokens}
+use Rattle.duration_str_laws.proofs.MendedPlaces.{after_place, IsPlaced, bytes_at, piece_at, replaced_piece}
+use Rattle.duration_str_laws.proofs.MendedTerms.{cut_out, HasUnit, IsFractionAt}
 use Rattle.duration_str_laws.proofs.MendedTokens.{apart_last, apart_nothing, apart_past, cut_before, IsApart}
 use Rattle.duration_str_reading.proofs.Cutting.SortLemmas.{digits_are_lexeme}
 use Rattle.duration_str_base.proofs.CharacterLemmas.{all_weaker, byte_count}
-use Rattle.std.proofs.Math.Seq.{take-append_seam}
 
 -- ---- The end of a piece
 
@@ -66,26 +60,13 @@ apart_like o c e (d ∷ run) rest like all stops =
     let both = and_parts (is_like c d) (list_all (is_like c) run) all in
     apart_like o c d run rest (alike c d both.0) both.1 stops
 
-like_run : (c most : ℕ) (text : List ℕ) → length (take most (take_while (is_like c) text)) < most
-    → (list_all (is_like c) (take most (take_while (is_like c) text)) ≡ true)
-    × Stops (is_like c) (drop (length (take most (take_while (is_like c) text))) text)
-like_run c zero text short = absurd (omega (arith, short))
-like_run c (suc most) [] short = (refl, tt)
-like_run c (suc most) (d ∷ text) short = elim (cases_Bool (is_like c d)) [
-  | inl like ↦
-      let fewer = rw (take_while-cons (is_like c) d text, like) at short in
-      let later = like_run c most text (omega (arith, fewer)) in
-      rw (take_while-cons (is_like c) d text, like) (and_from _ _ like later.0, later.1)
-  | inr other ↦ rw (take_while-cons (is_like c) d text, other) (refl, other)
-]
-
 -- No run goes on after a piece that is shorter than the longest one.
 piece_apart : (o : Options) (front text : List ℕ) → length (first_piece text) < 41
     → IsApart o (front ++ first_piece text) (drop (length (first_piece text)) text)
 piece_apart o front [] short = apart_nothing o (front ++ [])
 piece_apart o front (c ∷ text) short =
     let run = take 40 (take_while (is_like c) text) in
-    let parts = like_run c 40 text (omega (arith, short)) in
+    let parts = like_run c text short in
     apart_past o front c run (drop (length run) text) (apart_like o c c run (drop (length run) text) (refl, refl) parts.0 parts.1)
 
 -- ---- Other seams
@@ -120,49 +101,40 @@ apart_digits o text (c ∷ cs) rest some are stops =
 -- ---- The three parts of a refused text
 
 -- No run goes over the seams of the parts.
-record IsCutApart (s : CodeRules) (text : List ℕ) (new : Pieces) : Type 0 where
+pub record IsCutApart (s : CodeRules) (text : List ℕ) (new : Pieces) : Type 0 where
   parts : text ≡ new.front ++ (new.replaced ++ new.rest)
   front_utf8 : IsUtf8 new.front
   replaced_utf8 : IsUtf8 new.replaced
   first : IsApart s.options (chars new.front) (chars new.replaced)
   last : IsApart s.options (chars new.front ++ chars new.replaced) (chars new.rest)
 
-abbrev piece_at : List ℕ → ℕ → List ℕ
-piece_at text place = first_piece (ahead text place)
-
 apart_at : (s : CodeRules) (text : List ℕ) (place : ℕ) (expected : Expected) → IsPlaced s text place expected
     → IsApart s.options (chars (take place text)) (ahead text place)
 apart_at s text place expected p =
     (cut_before (meaning_of s) (chars (take place text)) (ahead text place) expected p.refused).apart
 
-cut_at_piece : (s : CodeRules) (text : List ℕ) (place : ℕ) (expected : Expected) (suggestion : Suggestion)
-    → IsPlaced s text place expected
-    → IsApart s.options (chars (take place text) ++ piece_at text place) (drop (length (piece_at text place)) (ahead text place))
+pub cut_at_piece : (s : CodeRules) (text : List ℕ) (place : ℕ) (expected : Expected) (suggestion : Suggestion)
+    → IsPlaced s text place expected → length (piece_at text place) < 41
     → IsCutApart s text
     (pieces_of text (record { start = place; end = place + length (bytes_at text place); suggestion = suggestion }))
-cut_at_piece s text place expected suggestion p apart =
+cut_at_piece s text place expected suggestion p short =
     let front = take place text in
     let piece = piece_at text place in
     let bytes = bytes_at text place in
-    let cut : IsCut (drop place text) = cut_piece (drop place text) p.back_utf8 in
-    let n : place + length bytes - place ≡ length bytes = omega arith in
-    let replaced : take (place + length bytes - place) (drop place text) ≡ bytes =
-    rw n (ap (take (length bytes)) cut.whole ∙ take-append_seam bytes (encode_utf8_all cut.rest)) in
-    let rest : drop (place + length bytes) text ≡ encode_utf8_all cut.rest =
-    after_place text place (length bytes) ∙ after_piece (drop place text) p.back_utf8 in
-    let are = scalars_before piece cut.rest (rw cut.parts at (scalars-chars (drop place text) p.back_utf8)) in
-    let own : chars bytes ≡ piece = chars-encodes piece are in
-    let seam : IsApart s.options (chars front) (piece ++ cut.rest) = rw cut.parts at (apart_at s text place expected p) in
+    let replaced = replaced_piece text place p.cut in
+    let rest = after_place text place (length bytes) in
+    let seam = rw (piece_parts (ahead text place)) at (apart_at s text place expected p) in
     record {
       parts = rw (replaced, rest)
-          (sym (take-append-drop place text) ∙ ap (λ (bs : List ℕ). take place text ++ bs) cut.whole);
+          (sym (take-append-drop place text) ∙ ap (λ (bs : List ℕ). take place text ++ bs) p.cut.parts);
       front_utf8 = p.front_utf8;
-      replaced_utf8 = rw replaced (piece, (are, refl));
-      first = rw (replaced, own) (apart_start s.options (chars front) piece cut.rest seam);
-      last = rw (replaced, own, rest, chars-encodes cut.rest cut.are, cut.same) apart;
+      replaced_utf8 = rw replaced p.cut.piece_utf8;
+      first = rw (replaced, p.cut.piece)
+          (apart_start s.options (chars front) piece (drop (length piece) (ahead text place)) seam);
+      last = rw (replaced, p.cut.piece, rest, p.cut.rest) (piece_apart s.options (chars front) (ahead text place) short);
     }
 
-cut_at_place : (s : CodeRules) (text : List ℕ) (place : ℕ) (expected : Expected) (suggestion : Suggestion)
+pub cut_at_place : (s : CodeRules) (text : List ℕ) (place : ℕ) (expected : Expected) (suggestion : Suggestion)
     → IsPlaced s text place expected
     → IsCutApart s text (pieces_of text (record { start = place; end = place; suggestion = suggestion }))
 cut_at_place s text place expected suggestion p =
@@ -174,32 +146,6 @@ cut_at_place s text place expected suggestion p =
       first = rw (n, chars-nil) (apart_nothing s.options (chars (take place text)));
       last = rw (n, chars-nil, append-nil) (apart_at s text place expected p);
     }
-
-cut_removed : (s : CodeRules) (text : List ℕ) (place : ℕ) (expected : Expected) (replacement : Replacement) (b : Bool)
-    → IsPlaced s text place expected
-    → (b ≡ true → IsApart s.options (chars (take place text) ++ piece_at text place)
-    (drop (length (piece_at text place)) (ahead text place)))
-    → removed_if b place (place + length (bytes_at text place)) ≡ Some replacement → IsCutApart s text (pieces_of text replacement)
-cut_removed s text place expected replacement true p apart is =
-    let same : record { start = place; end = place + length (bytes_at text place); suggestion = nothing } ≡ replacement = cc in
-    rw (← same) (cut_at_piece s text place expected nothing p (apart refl))
-cut_removed s text place expected replacement false p apart is = absurd cc
-
--- A piece of at most two bytes is shorter than the longest piece.
-short_apart : (s : CodeRules) (text : List ℕ) (place : ℕ) → length (bytes_at text place) ≤ 2
-    → IsApart s.options (chars (take place text) ++ piece_at text place) (drop (length (piece_at text place)) (ahead text place))
-short_apart s text place few =
-    let short : length (piece_at text place) < 41 = omega (arith, few, length-le-encodes (piece_at text place)) in
-    piece_apart s.options (chars (take place text)) (ahead text place) short
-
-sign_short : (bytes sign : List ℕ) → bytes_eq bytes sign ≡ true → length sign ≡ 1 → length bytes ≤ 2
-sign_short bytes sign is one = omega (arith, ap length ((bytes_eq-Decides bytes sign).0 is), one)
-
-separator_short : (bytes : List ℕ) → is_separator bytes ≡ true → length bytes ≤ 2
-separator_short bytes is = elim (or_cases (bytes_eq bytes (codes "_")) (bytes_eq bytes (codes "'")) is) [
-  | inl line ↦ sign_short bytes (codes "_") line refl
-  | inr mark ↦ sign_short bytes (codes "'") mark refl
-]
 
 -- ---- A number with a fraction
 
@@ -228,19 +174,16 @@ unit_apart s text decimals named rest u (inr (none, default)) some are stops res
     rw (none, chars-nil, append-nil)
     (apart_digits s.options text decimals (chars rest) some are (first_digit rest rest_utf8 (ends none)))
 
-cut_fraction : (s : CodeRules) (text : List ℕ) (place : ℕ) (expected : Expected) (replacement : Replacement)
-    → IsPlaced s text place expected → bytes_eq (bytes_at text place) (codes ".") ≡ true
-    → fraction_replacement (meaning_of s) text place expected ≡ Some replacement → IsCutApart s text (pieces_of text replacement)
-cut_fraction s text place expected replacement p point is =
+-- The text is cut where the number begins and where its unit ends.
+pub fraction_cut : (s : CodeRules) (text : List ℕ) (place : ℕ) (expected : Expected) (replacement : Replacement)
+    → (cut : EndCut (take place text)) → IsFractionAt s text cut.front (end_run is_digit (take place text)) expected replacement
+    → IsCutApart s text (pieces_of text replacement)
+fraction_cut s text place expected replacement cut f =
     let o = s.options in
-    let cut : EndCut (take place text) = end_cut (take place text) p.front_utf8 in
     let run = end_run is_digit (take place text) in
-    let f : IsFractionAt s text cut.front run expected replacement =
-    fraction_found s text cut.front place expected replacement p point cut.parts is in
     let number = (run ++ codes ".") ++ f.decimals in
     let (first, replaced, last) = cut_out text cut.front (run ++ 46 ∷ (f.decimals ++ f.named)) f.rest f.parts in
-    let whole : run ++ 46 ∷ (f.decimals ++ f.named) ≡ number ++ f.named =
-    sym (append_assoc run (codes ".") (f.decimals ++ f.named)) ∙ sym (append_assoc (run ++ codes ".") f.decimals f.named) in
+    let whole : run ++ 46 ∷ (f.decimals ++ f.named) ≡ number ++ f.named = simp append_assoc in
     let runs : list_all is_small run ≡ true = all_weaker is_digit _ run digit_small cut.digits in
     let point_small : list_all is_small (run ++ codes ".") ≡ true =
     list_all-append is_small run (codes ".") ∙ and_from _ _ runs refl in
@@ -250,14 +193,11 @@ cut_fraction s text place expected replacement p point is =
     let utf8 = small_utf8 number small in
     let own : chars (number ++ f.named) ≡ number ++ chars f.named =
     chars-append number f.named utf8 ∙ ap (λ (cs : List ℕ). cs ++ chars f.named) (small_chars number small) in
-    let begins : number ++ chars f.named ≡ run ++ 46 ∷ (f.decimals ++ chars f.named) =
-    append_assoc (run ++ codes ".") f.decimals (chars f.named) ∙ append_assoc run (codes ".") (f.decimals ++ chars f.named) in
+    let begins : number ++ chars f.named ≡ run ++ 46 ∷ (f.decimals ++ chars f.named) = simp append_assoc in
     let seam : IsApart o (chars cut.front) (number ++ chars f.named) =
     rw begins (point_apart o (chars cut.front) run (f.decimals ++ chars f.named) cut.ends cut.digits) in
     let text_before = chars cut.front ++ (run ++ codes ".") in
-    let ends : chars cut.front ++ (number ++ chars f.named) ≡ (text_before ++ f.decimals) ++ chars f.named =
-    sym (append_assoc (chars cut.front) number (chars f.named))
-    ∙ ap (λ (cs : List ℕ). cs ++ chars f.named) (sym (append_assoc (chars cut.front) (run ++ codes ".") f.decimals)) in
+    let ends : chars cut.front ++ (number ++ chars f.named) ≡ (text_before ++ f.decimals) ++ chars f.named = simp append_assoc in
     let end = unit_apart s text_before f.decimals f.named f.rest f.unit f.means f.some f.digits f.stops f.utf8 f.ends in
     rw (← f.is) (record {
       parts = rw (first, replaced, last) f.parts;
@@ -267,50 +207,7 @@ cut_fraction s text place expected replacement p point is =
       last = rw (first, replaced, last, whole, own, ends) end;
     })
 
--- ---- Each help
-
-cut_mend : (s : CodeRules) (text : List ℕ) (place : ℕ) (expected : Expected) (replacement : Replacement) (help : Option Help)
-    → IsPlaced s text place expected → Reason text place expected (piece_at text place) help
-    → replacement_for (meaning_of s) text place expected (bytes_at text place) help ≡ Some replacement
-    → IsCutApart s text (pieces_of text replacement)
-cut_mend s text place expected replacement (Some (DidYouMean u)) p why is =
-    let short : length (piece_at text place) < 41 = omega (arith, near_short (piece_at text place) u why.1) in
-    let same : record { start = place; end = place + length (bytes_at text place); suggestion = name_alone u } ≡ replacement = cc in
-    rw (← same) (cut_at_piece s text place expected (name_alone u) p
-    (piece_apart s.options (chars (take place text)) (ahead text place) short))
-cut_mend s text place expected replacement (Some Fraction) p why is = cut_fraction s text place expected replacement p why is
-cut_mend s text place expected replacement (Some LeadingPlus) p why is =
-    cut_removed s text place expected replacement true p
-    (λ e. short_apart s text place (sign_short (bytes_at text place) (codes "+") why.1 refl)) is
-cut_mend s text place expected replacement (Some NoPoint) p why is =
-    let cut : IsCut (drop place text) = cut_piece (drop place text) p.back_utf8 in
-    let after = after_place text place (length (bytes_at text place)) ∙ after_piece (drop place text) p.back_utf8 in
-    cut_removed s text place expected replacement _ p (λ e. apart_unless s.options (chars (take place text) ++ piece_at text place) _
-    (rw (after, chars-encodes cut.rest cut.are, cut.same) at e)) is
-cut_mend s text place expected replacement (Some DigitsOnly) p why is =
-    cut_removed s text place expected replacement _ p
-    (λ e. short_apart s text place (separator_short (bytes_at text place)
-    (and_parts (is_separator (bytes_at text place)) _ e).0)) is
-cut_mend s text place expected replacement (Some Iso8601) p why is =
-    let n = length (bytes_at text place) in
-    cut_removed s text place expected replacement _ p
-    (λ e. let time = (and_parts (n == 2 && not (meaning_of s).options.lowercase) _ e).0 in
-    let two = eqb-true n 2 (and_parts (n == 2) _ time).0 in short_apart s text place (omega (arith, two))) is
-cut_mend s text place expected replacement (Some Zero) p why is =
-    let same : record { start = place; end = place; suggestion = name_alone Second } ≡ replacement = cc in
-    rw (← same) (cut_at_place s text place expected (name_alone Second) p)
-cut_mend s text place expected replacement help p why is = absurd cc
-
-cut_placed : (s : CodeRules) (text : List ℕ) (cause : Cause) (replacement : Replacement) → IsUtf8 text
-    → IsRefused (meaning_of s) (chars text) cause → replacement_of (meaning_of s) text cause ≡ Some replacement
-    → IsCutApart s text (pieces_of text replacement)
-cut_placed s text (Syntax place expected) replacement utf8 refused is =
-    let piece = piece_at text place in
-    cut_mend s text place expected replacement (syntax_help text place expected piece) (placed s text place expected utf8 refused)
-    (reason text place expected piece) is
-cut_placed s text cause replacement utf8 refused is = absurd cc
-
-tokens_of_cut : (s : CodeRules) (text : List ℕ) (new : Pieces) → IsCutApart s text new
+pub tokens_of_cut : (s : CodeRules) (text : List ℕ) (new : Pieces) → IsCutApart s text new
     → HasTokensOf s.options text new.front new.replaced new.rest
 tokens_of_cut s text new k =
     let spelled : chars text ≡ chars new.front ++ (chars new.replaced ++ chars new.rest) =
@@ -319,8 +216,3 @@ tokens_of_cut s text new k =
     ap (tokens_of s.options) spelled
     ∙ seamed_tokens s.options (chars new.front) (chars new.replaced) (chars new.rest) k.first k.last
     ∙ rw (byte_count new.front k.front_utf8, byte_count new.replaced k.replaced_utf8) refl
-
-pub refused_hold : RefusedTokens
-refused_hold s text cause new utf8 refused is =
-    let m : IsMendOf s text cause new = mend s text cause new utf8 refused is in
-    tokens_of_cut s text new (rw m.pieces at (cut_placed s text cause m.replacement utf8 refused m.asked))

@@ -1,6 +1,6 @@
 -- A text that is only a number with a fraction and its unit: its suggestion has the same value.
 use Rattle.std.specs.List.{prefix_len}
-use Rattle.duration_str_laws.proofs.Common.{[], add-zero, ahead, all_names_in, and_from, and_parts, ap, append-nil, arith, BeginsSentence, Bool, byte_len, bytes_eq, cases_Bool, chars, codes, comparison_form, decimal, drop, drop_all, encode_ascii, encode_utf8_all, encodes-chars, EndsRun, eqb-true, Expected, false, false_from_ne_true, fits, Humantime, if◌then◌else◌, inl, inr, is_ascii_alphabetic, is_blank, is_digit, is_unit_letter, IsBlank, IsRead, IsRefused, IsUtf8, length, length-append, lexemes_of, List, list_all, list_any, map, meaning_of, More, more_names, nat_le, nat_lt, nat_tests, ne_eqb, None, not, number, number_of, off, Option, option_map, Options, or_right, other, Own, refl, Rules, Second, Some, Spells, Stops, suc, sym, Syntax, table_of, take, take_while, take_while-cons, Terminal, terminal_of, terminals_of, TimeUnit, to_ascii_lowercase, Token, tokens_from, tokens_of, true, unit_of_word, units, UnitTable, word, ℕ, ◌&&◌, ◌*◌, ◌++◌, ◌+◌, ◌-◌, ◌/◌, ◌<◌, ◌==◌, ◌^◌, ◌||◌, ◌∙◌, ◌∷◌, ◌≡◌, ◌≤◌}
+use Rattle.duration_str_laws.proofs.Common.{[], add-zero, ahead, and_from, and_parts, ap, append-nil, arith, BeginsSentence, Bool, byte_len, cases_Bool, chars, codes, decimal, drop, drop_all, encode_ascii, encode_utf8_all, encodes-chars, EndsRun, eqb-true, Expected, false, false_from_ne_true, fits, if◌then◌else◌, inl, inr, is_ascii_alphabetic, is_blank, is_digit, is_unit_letter, IsBlank, IsRead, IsRefused, IsUtf8, length, length-append, lexemes_of, List, list_all, map, meaning_of, nat_le, nat_tests, ne_eqb, None, not, number, number_of, off, Option, option_map, Options, or_right, other, refl, Rules, Second, Some, Spells, Stops, suc, sym, Syntax, take, take_while, take_while-cons, Terminal, terminal_of, terminals_of, TimeUnit, Token, tokens_from, tokens_of, true, unit_of_word, word, ℕ, ◌&&◌, ◌*◌, ◌++◌, ◌+◌, ◌-◌, ◌/◌, ◌<◌, ◌==◌, ◌^◌, ◌||◌, ◌∙◌, ◌∷◌, ◌≡◌, ◌≤◌}
 use Rattle.std.proofs.lemmas.List.{drop-drop, get_or-append-add, take_all}
 use Rattle.std.proofs.Math.Nat.{div-le_self}
 use Rattle.std.proofs.Math.Seq.{drop-append_seam, take-append_seam}
@@ -10,21 +10,18 @@ use Rattle.duration_str_help.specs.declared.help.Help.TheVariants.{Fraction}
 use Rattle.duration_str_help.specs.declared.suggestion.Replacement.{Replacement}
 use Rattle.duration_str_base.specs.declared.rules.Rules.{Rules as CodeRules}
 use Rattle.duration_str_help.specs.Fraction.{as_term, longest_whole, nanos_of_fraction}
-use Rattle.duration_str_laws.specs.Mended.{FractionsAreMended, mended_text, MendedFractions}
-use Rattle.duration_str_help.specs.Help.{begins_with_letter, first_piece, help_name, is_letter, is_like, near_unit, small_words, syntax_help, with_micro_sign}
+use Rattle.duration_str_laws.specs.Mended.{FractionsAreMended, IsFraction, mended_text, MendedFractions}
+use Rattle.duration_str_help.specs.Help.{begins_with_letter, first_piece, help_name, is_letter, is_like, syntax_help}
 use Rattle.duration_str_help.specs.Mends.{fraction_replacement, fraction_with, meant_unit, replacement_of, Pieces, pieces_of, unit_ahead}
 use Rattle.duration_str_base.proofs.CharacterLemmas.{all_weaker, digit-not_blank}
 use Rattle.duration_str_reading.proofs.Cutting.RunLemmas.{decimal_terminal}
-use Rattle.duration_str_base.proofs.PackedLemmas.{no_name}
-use Rattle.duration_str_base.proofs.UnitLemmas.{all_units, named_passes}
 use Rattle.duration_str_reading.proofs.Cutting.TokenLemmas.{tokens_step}
 use Rattle.duration_str_help.proofs.FractionLemmas.{end_all, quotient_some}
 use Rattle.duration_str_help.proofs.MendedBytes.{blank_no_letter, blank_small, digit_small, first_char, is_small, past_small, plain_no_letter, run_cons, run_stops, small_len}
-use Rattle.duration_str_laws.proofs.MendedNames.{IsWritten, name_read, own_more, written}
+use Rattle.duration_str_laws.proofs.MendedNames.{IsWritten, name_read, written, meant_letters, are_letters, meant_short}
 use Rattle.duration_str_laws.proofs.MendedNumbers.{digits_token}
-use Rattle.duration_str_laws.proofs.MendedTerms.{scaled, short_meant, term_bytes, value_parts, whole_unit}
+use Rattle.duration_str_laws.proofs.MendedTerms.{scaled, term_bytes, value_parts, whole_unit}
 use Rattle.duration_str_laws.proofs.MendedTokens.{refused_at}
-use Rattle.duration_str_laws.proofs.NearWords.{found_among}
 use Rattle.duration_str_reading.proofs.Sentences.AnswerLemmas.{fitting_sum_read, IsSumOf}
 use Rattle.duration_str_reading.proofs.Sentences.SpellingLemmas.{begins_with}
 
@@ -53,80 +50,6 @@ term_read s count nanos v small below is =
     (rw terminals (small, omega (arith, is, below), tt)) (rw terminals (omega (arith, is))) below
 
 -- ---- The name
-
-abbrev pub are_letters : List ℕ → Bool
-are_letters w = begins_with_letter w && list_all is_letter w
-
-lower_letter : (c : ℕ) → is_letter (to_ascii_lowercase c) ≡ is_letter c
-lower_letter c = elim (cases_Bool (nat_lt c 65)) [
-  | inl below ↦ rw below refl
-  | inr above ↦ elim (cases_Bool (nat_lt c 91)) [
-    | inl capital ↦
-        let own : is_ascii_alphabetic c ≡ true = grind (arith, nat_tests) in
-        let small : is_ascii_alphabetic (c + 32) ≡ true = grind (arith, nat_tests) in
-        rw (above, capital, own, small) refl
-    | inr small ↦ rw (above, small) refl
-  ]
-]
-
-same_letters : (change : ℕ → ℕ) → ((c : ℕ) → is_letter (change c) ≡ is_letter c) → (w : List ℕ)
-    → are_letters (map change w) ≡ are_letters w
-same_letters change same [] = refl
-same_letters change same (c ∷ cs) = rw (same c, all cs) refl
-  where
-    all : (cs : List ℕ) → list_all is_letter (map change cs) ≡ list_all is_letter cs
-    all [] = refl
-    all (c ∷ cs) = rw (same c, all cs) refl
-
-letters_form : (o : Options) (w : List ℕ) → are_letters (comparison_form o w) ≡ are_letters w
-letters_form o w = elim (cases_Bool o.lowercase) [
-  | inl on ↦ rw on refl
-  | inr off ↦ rw off (same_letters to_ascii_lowercase lower_letter w)
-]
-
-letter_names : (table : UnitTable) → list_all (λ u. list_all are_letters (all_names_in (table_of table) u)) units ≡ true
-letter_names Own = refl
-letter_names More = refl
-letter_names Humantime = refl
-
-named_letters : (s : CodeRules) (w : List ℕ) (u : TimeUnit) → unit_of_word (meaning_of s) w ≡ Some u → are_letters w ≡ true
-named_letters s w u named = elim (cases_Bool (are_letters w)) [
-  | inl letters ↦ letters
-  | inr others ↦
-      let clash : None ≡ Some u =
-      no_name (meaning_of s) w are_letters (letter_names s.table) (letters_form s.options w ∙ others) ∙ named in
-      absurd (cc clash)
-]
-
-micro_letter : (c : ℕ) → is_letter (if c == 0x3BC then 0xB5 else c) ≡ is_letter c
-micro_letter c = elim (cases_Bool (c == 0x3BC)) [
-  | inl mu ↦ rw (eqb-true c 0x3BC mu) refl
-  | inr plain ↦ rw plain refl
-]
-
-more_letters : (u : TimeUnit) → list_all are_letters (more_names u) ≡ true
-more_letters = all_units (λ u. list_all are_letters (more_names u)) refl
-
-near_letters : (w : List ℕ) (u : TimeUnit) → near_unit w ≡ Some u → are_letters w ≡ true
-near_letters w u near = elim (cases_Bool (list_any (bytes_eq w) small_words)) [
-  | inl small ↦ named_passes are_letters w small_words refl small
-  | inr large ↦ elim (cases_Bool (list_any (λ c. c == 0x3BC) w)) [
-    | inl greek ↦
-        let letters = named_letters own_more (with_micro_sign w) u (rw (large, greek) at near) in
-        sym (same_letters (λ c. if c == 0x3BC then 0xB5 else c) micro_letter w) ∙ letters
-    | inr latin ↦
-        let found = found_among (map to_ascii_lowercase w) units u (rw (large, latin) at near) in
-        sym (same_letters to_ascii_lowercase lower_letter w)
-        ∙ named_passes are_letters (map to_ascii_lowercase w) (more_names u) (more_letters u) found
-  ]
-]
-
-pub meant_letters : (s : CodeRules) (w : List ℕ) (u : TimeUnit) → meant_unit (meaning_of s) w ≡ Some u → are_letters w ≡ true
-meant_letters s w u meant = by (unit_of_word (meaning_of s) w) refl
-  where
-    by : (unit : Option TimeUnit) → unit_of_word (meaning_of s) w ≡ unit → are_letters w ≡ true
-    by (Some v) named = named_letters s w v named
-    by None named = near_letters w u (rw named at meant)
 
 all_like : (c : ℕ) (cs : List ℕ) → is_letter c ≡ true → list_all is_letter cs ≡ true → take_while (is_like c) cs ≡ cs
 all_like c [] letter all = refl
@@ -304,7 +227,7 @@ unit_found s blanks name unit blank utf8 means =
     let letters = meant_letters s (chars name) unit means in
     let first = (and_parts (begins_with_letter (chars name)) _ letters).0 in
     let run = run_exact is_blank blanks name blank (stops_before_letter is_blank name utf8 first blank_apart) in
-    let piece = whole_piece (chars name) letters (short_meant s (chars name) unit means) in
+    let piece = whole_piece (chars name) letters (meant_short s (chars name) unit means) in
     rw (run, drop-append_seam blanks name, piece, first, means, encodes-chars name utf8) refl
 
 -- the mend of a number with these digits, if these bytes follow it
@@ -349,9 +272,10 @@ IsScaled s whole decimals unit mended =
     (nanos : ℕ) × IsRead (meaning_of s) (chars mended) nanos
     × (nanos * 10 ^ length decimals ≡ number_of (whole ++ decimals) * ((meaning_of s).table unit).nanos)
 
-module _ (s : CodeRules) (whole decimals blanks name : List ℕ) (unit : TimeUnit) where
-  abbrev fraction_text : List ℕ
-  fraction_text = whole ++ 46 ∷ (decimals ++ (blanks ++ name))
+module _ (s : CodeRules) (text whole decimals : List ℕ) (unit : TimeUnit) (f : IsFraction s text whole decimals unit) where
+  -- the bytes after the point
+  abbrev after : List ℕ
+  after = decimals ++ (f.blanks ++ f.word)
 
   abbrev unit_nanos : ℕ
   unit_nanos = ((meaning_of s).table unit).nanos
@@ -360,12 +284,12 @@ module _ (s : CodeRules) (whole decimals blanks name : List ℕ) (unit : TimeUni
   abbrev term_mend : ℕ → Replacement
   term_mend nanos = record {
     start = length whole - length whole;
-    end = length whole + 1 + length decimals + (length blanks + length name);
+    end = length whole + 1 + length decimals + (length f.blanks + length f.word);
     suggestion = as_term (meaning_of s).table unit nanos;
   }
 
   term_scaled : (nanos : ℕ) → nanos_of_fraction whole decimals unit_nanos ≡ Some nanos
-      → let new = pieces_of fraction_text (term_mend nanos) in
+      → let new = pieces_of text (term_mend nanos) in
       IsScaled s whole decimals unit (mended_text new) × (new.front ≡ []) × (new.rest ≡ [])
   term_scaled nanos value =
       let r = meaning_of s in
@@ -375,74 +299,62 @@ module _ (s : CodeRules) (whole decimals blanks name : List ℕ) (unit : TimeUni
       let small : count < 2 ^ 64 = omega (arith, q.fits, div-le_self nanos (r.table v).nanos) in
       let read = term_read s count nanos v small q.fits (whole_unit s unit nanos) in
       let start : length whole - length whole ≡ 0 = omega arith in
-      let long : length fraction_text ≡ length whole + suc (length decimals + (length blanks + length name)) =
-      simp length-append refl in
-      let end = length whole + 1 + length decimals + (length blanks + length name) in
-      let rest : drop end fraction_text ≡ [] = drop_all end fraction_text (omega (arith, long)) in
+      let long : length text ≡ length whole + suc (length decimals + (length f.blanks + length f.word)) =
+      ap length f.parts ∙ simp length-append refl in
+      let end = length whole + 1 + length decimals + (length f.blanks + length f.word) in
+      let rest : drop end text ≡ [] = drop_all end text (omega (arith, long)) in
       rw (start, rest, append-nil)
       ((nanos, rw (term_bytes count v small).1 read, scaled whole decimals unit_nanos nanos q), refl, refl)
 
-  mend_is : (place : ℕ) (expected : Expected) → IsUtf8 fraction_text → list_all is_digit whole ≡ true
-      → list_all is_digit decimals ≡ true → 1 ≤ length decimals → IsBlank blanks
-      → meant_unit (meaning_of s) (chars name) ≡ Some unit
-      → IsRefused (meaning_of s) (chars fraction_text) (Syntax place expected)
-      → replacement_of (meaning_of s) fraction_text (Syntax place expected)
+  mend_is : (place : ℕ) (expected : Expected) → IsUtf8 text → IsRefused (meaning_of s) (chars text) (Syntax place expected)
+      → replacement_of (meaning_of s) text (Syntax place expected)
       ≡ option_map term_mend (nanos_of_fraction whole decimals unit_nanos)
-  mend_is place expected utf8 digits more some blank means refused =
+  mend_is place expected utf8 refused =
       let r = meaning_of s in
-      let bytes = blanks ++ name in
-      let after = decimals ++ bytes in
-      let text = whole ++ 46 ∷ after in
-      let k : IsSpelled whole after = spelled_point whole after digits utf8 in
-      let bytes_utf8 = (past_small decimals bytes (all_weaker is_digit _ decimals digit_small more) k.utf8).1 in
-      let word_utf8 = (past_small blanks name (all_weaker is_blank _ blanks blank_small blank) bytes_utf8).1 in
-      let letters = meant_letters s (chars name) unit means in
-      let first = (and_parts (begins_with_letter (chars name)) _ letters).0 in
-      let stops = stops_after_blanks blanks name blank (stops_before_letter is_digit name word_utf8 first digit_apart) in
-      let at = point_place r whole (chars after) place expected digits (rw k.spelled at refused) in
-      let n : place ≡ length whole = at.0 ∙ small_len whole (all_weaker is_digit _ whole digit_small digits) in
-      let piece : first_piece (ahead text (length whole)) ≡ codes "." =
+      let same = whole ++ 46 ∷ after in
+      let k : IsSpelled whole after = spelled_point whole after f.whole_digits (rw f.parts at utf8) in
+      let small = all_weaker is_digit _ decimals digit_small f.decimal_digits in
+      let bytes_utf8 = (past_small decimals (f.blanks ++ f.word) small k.utf8).1 in
+      let word_utf8 = (past_small f.blanks f.word (all_weaker is_blank _ f.blanks blank_small f.blank) bytes_utf8).1 in
+      let letters = meant_letters s (chars f.word) unit f.means in
+      let first = (and_parts (begins_with_letter (chars f.word)) _ letters).0 in
+      let stops = stops_after_blanks f.blanks f.word f.blank (stops_before_letter is_digit f.word word_utf8 first digit_apart) in
+      let at = point_place r whole (chars after) place expected f.whole_digits (rw (f.parts, k.spelled) at refused) in
+      let n : place ≡ length whole = at.0 ∙ small_len whole (all_weaker is_digit _ whole digit_small f.whole_digits) in
+      let piece : first_piece (ahead same (length whole)) ≡ codes "." =
       ap (λ (bs : List ℕ). first_piece (chars bs)) (drop-append_seam whole (46 ∷ after)) ∙ ap first_piece k.point
       ∙ point_piece (chars after) in
-      let front : list_all is_digit (take (length whole) text) ≡ true =
-      ap (list_all is_digit) (take-append_seam whole (46 ∷ after)) ∙ digits in
-      let next : is_digit (slice_index text (length whole + 1)) ≡ true =
-      ap is_digit (get_or-append-add whole (46 ∷ after) 1 0) ∙ first_decimal decimals bytes some more in
-      let asked : replacement_of r text (Syntax place expected) ≡ fraction_replacement r text (length whole) expected =
-      rw (n, piece, point_help text (length whole) expected front next) refl in
-      asked ∙ mend_found r whole decimals bytes expected digits more stops
+      let front : list_all is_digit (take (length whole) same) ≡ true =
+      ap (list_all is_digit) (take-append_seam whole (46 ∷ after)) ∙ f.whole_digits in
+      let next : is_digit (slice_index same (length whole + 1)) ≡ true =
+      ap is_digit (get_or-append-add whole (46 ∷ after) 1 0)
+      ∙ first_decimal decimals (f.blanks ++ f.word) f.some_decimal f.decimal_digits in
+      let asked : replacement_of r same (Syntax place expected) ≡ fraction_replacement r same (length whole) expected =
+      rw (n, piece, point_help same (length whole) expected front next) refl in
+      ap (λ (bs : List ℕ). replacement_of r bs (Syntax place expected)) f.parts ∙ asked
+      ∙ mend_found r whole decimals (f.blanks ++ f.word) expected f.whole_digits f.decimal_digits stops
       ∙ rw (
-        can_stand (length decimals) (length whole) expected.number some at.1,
-        unit_found s blanks name unit blank word_utf8 means,
+        can_stand (length decimals) (length whole) expected.number f.some_decimal at.1,
+        unit_found s f.blanks f.word unit f.blank word_utf8 f.means,
       ) refl
 
   mended_scaled : (value : Option ℕ) (new : Pieces) → nanos_of_fraction whole decimals unit_nanos ≡ value
-      → option_map (pieces_of fraction_text) (option_map term_mend value) ≡ Some new
-      → IsScaled s whole decimals unit (mended_text new)
+      → option_map (pieces_of text) (option_map term_mend value) ≡ Some new → IsScaled s whole decimals unit (mended_text new)
   mended_scaled None new value is = absurd cc
   mended_scaled (Some nanos) new value is =
-      let same : pieces_of fraction_text (term_mend nanos) ≡ new = cc in rw (← same) (term_scaled nanos value).0
+      let same : pieces_of text (term_mend nanos) ≡ new = cc in rw (← same) (term_scaled nanos value).0
 
 pub mended_fractions_hold : MendedFractions
-mended_fractions_hold s text whole decimals unit (Syntax place expected) new utf8 fraction refused is =
-    let parts = fraction.parts in
-    let blanks = fraction.blanks in
-    let name = fraction.word in
-    let replacement = mend_is s whole decimals blanks name unit place expected (rw parts at utf8) fraction.whole_digits
-    fraction.decimal_digits fraction.some_decimal fraction.blank fraction.means (rw parts at refused) in
-    mended_scaled s whole decimals blanks name unit _ new refl (rw replacement at (rw parts at is))
-mended_fractions_hold s text whole decimals unit cause new utf8 fraction refused is = cc
+mended_fractions_hold s text whole decimals unit (Syntax place expected) new utf8 f refused is =
+    let replacement = mend_is s text whole decimals unit f place expected utf8 refused in
+    mended_scaled s text whole decimals unit f _ new refl (rw replacement at is)
+mended_fractions_hold s text whole decimals unit cause new utf8 f refused is = cc
 
 pub fractions_are_mended : FractionsAreMended
-fractions_are_mended s text whole decimals unit place expected nanos utf8 fraction refused is below =
-    let parts = fraction.parts in
-    let blanks = fraction.blanks in
-    let name = fraction.word in
-    let replacement = mend_is s whole decimals blanks name unit place expected (rw parts at utf8) fraction.whole_digits
-    fraction.decimal_digits fraction.some_decimal fraction.blank fraction.means (rw parts at refused) in
+fractions_are_mended s text whole decimals unit place expected nanos utf8 f refused is below =
     let fit : fits nanos ≡ true = grind (arith, nat_tests) in
-    let value : nanos_of_fraction whole decimals (unit_nanos s whole decimals blanks name unit) ≡ Some nanos =
+    let value : nanos_of_fraction whole decimals ((meaning_of s).table unit).nanos ≡ Some nanos =
     quotient_some nanos _ (length decimals) is ∙ rw fit refl in
-    let (scaled, front, rest) = term_scaled s whole decimals blanks name unit nanos value in
-    let new = pieces_of (fraction_text s whole decimals blanks name unit) (term_mend s whole decimals blanks name unit nanos) in
-    (new, rw (parts, replacement, value) refl, front, rest)
+    let (scaled, front, rest) = term_scaled s text whole decimals unit f nanos value in
+    let new = pieces_of text (term_mend s text whole decimals unit f nanos) in
+    (new, rw (mend_is s text whole decimals unit f place expected utf8 refused, value) refl, front, rest)

@@ -1,11 +1,13 @@
 -- The names of units that a mend writes, and the words that it replaces.
-use Rattle.duration_str_laws.proofs.Common.{[], and_parts, arith, Bool, byte_len, bytes_eq, cases_Bool, chinese_letters, comparison_form, EndsRun, eqb-true, false, false_from_ne_true, find, Humantime, if◌then◌else◌, inl, inr, is_ascii_alphabetic, is_chinese, is_unit_letter, IsLexeme, leb, leb-true, length, List, list_all, list_any, map, meaning_of, More, more_names, more_rules, nat_tests, None, off, Options, or_cases, Own, refl, Rules, scalars, Some, table_of, terminal_of, TimeUnit, to_ascii_lowercase, true, unit_of_word, UnitRow, units, UnitTable, word, ℕ, ◌&&◌, ◌==◌, ◌||◌, ◌∙◌, ◌∷◌, ◌≡◌, ◌≤◌}
+use Rattle.duration_str_laws.proofs.Common.{[], and_parts, arith, Bool, bytes_eq, cases_Bool, chinese_letters, comparison_form, EndsRun, eqb-true, false, false_from_ne_true, find, Humantime, if◌then◌else◌, inl, inr, is_ascii_alphabetic, is_chinese, is_unit_letter, IsLexeme, leb, leb-true, length, List, list_all, list_any, map, meaning_of, More, more_names, nat_tests, None, off, Option, Options, or_cases, Own, refl, Rules, scalars, Some, table_of, terminal_of, TimeUnit, to_ascii_lowercase, true, unit_of_word, UnitRow, units, UnitTable, word, ℕ, ◌&&◌, ◌==◌, ◌||◌, ◌∙◌, ◌∷◌, ◌≡◌, ◌≤◌, all_names_in, nat_lt, ◌+◌, sym}
 use Rattle.duration_str_base.proofs.UnitLemmas.{all_units, each_unit, named_passes}
 use Rattle.duration_str_base.specs.declared.rules.Rules.{Rules as CodeRules}
-use Rattle.duration_str_base.proofs.PackedLemmas.{no_long_name}
+use Rattle.duration_str_base.proofs.PackedLemmas.{no_name}
 use Rattle.duration_str_laws.proofs.NearWords.{advised_small, found_among}
-use Rattle.duration_str_base.proofs.CharacterLemmas.{letter-not_digit, width_some}
+use Rattle.duration_str_base.proofs.CharacterLemmas.{letter-not_digit}
 use Rattle.duration_str_help.specs.Help.{begins_with_letter, help_name, is_letter, near_unit, small_words, with_micro_sign}
+use Rattle.duration_str_help.specs.Mends.{meant_unit}
+use Rattle.std.proofs.lemmas.List.{length-map}
 
 -- ---- A suggested name
 
@@ -66,45 +68,96 @@ same_form o u = elim (cases_Bool o.lowercase) [ inl on ↦ rw on refl | inr off 
 pub name_read : (s : CodeRules) (u : TimeUnit) → unit_of_word (meaning_of s) (help_name u) ≡ Some u
 name_read s u = rw (same_form s.options u) (found_by_table s.table s.options.cn_unit u)
 
--- ---- The word
+-- ---- Words that mean a unit
 
-length-lower : (test : ℕ → ℕ) (cs : List ℕ) → length (map test cs) ≡ length cs
-length-lower test [] = refl
-length-lower test (c ∷ cs) = rw (length-lower test cs) refl
+abbrev pub are_letters : List ℕ → Bool
+are_letters w = begins_with_letter w && list_all is_letter w
 
-pub length-le-bytes : (cs : List ℕ) → length cs ≤ byte_len cs
-length-le-bytes [] = omega arith
-length-le-bytes (c ∷ cs) = omega (arith, width_some c, length-le-bytes cs)
+lower_letter : (c : ℕ) → is_letter (to_ascii_lowercase c) ≡ is_letter c
+lower_letter c = elim (cases_Bool (nat_lt c 65)) [
+  | inl below ↦ rw below refl
+  | inr above ↦ elim (cases_Bool (nat_lt c 91)) [
+    | inl capital ↦
+        let own : is_ascii_alphabetic c ≡ true = grind (arith, nat_tests) in
+        let small : is_ascii_alphabetic (c + 32) ≡ true = grind (arith, nat_tests) in
+        rw (above, capital, own, small) refl
+    | inr small ↦ rw (above, small) refl
+  ]
+]
 
-short_small : (cs : List ℕ) → list_any (bytes_eq cs) small_words ≡ true → length cs ≤ 12
-short_small cs small = leb-true (length cs) 12 (named_passes (λ w. leb (length w) 12) cs small_words refl small)
+same_letters : (change : ℕ → ℕ) → ((c : ℕ) → is_letter (change c) ≡ is_letter c) → (w : List ℕ)
+    → are_letters (map change w) ≡ are_letters w
+same_letters change same [] = refl
+same_letters change same (c ∷ cs) = rw (same c, all cs) refl
+  where
+    all : (cs : List ℕ) → list_all is_letter (map change cs) ≡ list_all is_letter cs
+    all [] = refl
+    all (c ∷ cs) = rw (same c, all cs) refl
 
-short_added : (u : TimeUnit) → list_all (λ name. leb (length name) 12) (more_names u) ≡ true
-short_added = all_units (λ u. list_all (λ name. leb (length name) 12) (more_names u)) refl
+micro_letter : (c : ℕ) → is_letter (if c == 0x3BC then 0xB5 else c) ≡ is_letter c
+micro_letter c = elim (cases_Bool (c == 0x3BC)) [
+  | inl mu ↦ rw (eqb-true c 0x3BC mu) refl
+  | inr plain ↦ rw plain refl
+]
 
-abbrev pub own_more : CodeRules
-own_more = record { table = More; default_unit = None; options = off }
+-- whether a word has letters only, and at most 12
+abbrev is_like_name : List ℕ → Bool
+is_like_name w = are_letters w && leb (length w) 12
 
-short_greek : (cs : List ℕ) (u : TimeUnit) → unit_of_word (more_rules off None) (with_micro_sign cs) ≡ Some u
-    → length cs ≤ 12
-short_greek cs u names = elim (cases_Bool (leb (byte_len (with_micro_sign cs)) 12)) [
-  | inl short ↦ omega (arith, leb-true _ _ short, length-le-bytes (with_micro_sign cs), length-lower (λ c. if c == 0x3BC then 0xB5 else c) cs)
-  | inr long ↦
-      let clash : None ≡ Some u = no_long_name own_more (with_micro_sign cs) (grind (arith, nat_tests)) ∙ names in
+lower_like : (w : List ℕ) → is_like_name (map to_ascii_lowercase w) ≡ is_like_name w
+lower_like w = rw (same_letters to_ascii_lowercase lower_letter w, length-map) refl
+
+micro_like : (w : List ℕ) → is_like_name (with_micro_sign w) ≡ is_like_name w
+micro_like w = rw (same_letters (λ c. if c == 0x3BC then 0xB5 else c) micro_letter w, length-map) refl
+
+form_like : (o : Options) (w : List ℕ) → is_like_name (comparison_form o w) ≡ is_like_name w
+form_like o w = elim (cases_Bool o.lowercase) [ inl on ↦ rw on refl | inr off ↦ rw off (lower_like w) ]
+
+names_like : (table : UnitTable) → list_all (λ u. list_all is_like_name (all_names_in (table_of table) u)) units ≡ true
+names_like Own = refl
+names_like More = refl
+names_like Humantime = refl
+
+name_like : (s : CodeRules) (w : List ℕ) (u : TimeUnit) → unit_of_word (meaning_of s) w ≡ Some u → is_like_name w ≡ true
+name_like s w u named = elim (cases_Bool (is_like_name w)) [
+  | inl like ↦ like
+  | inr other ↦
+      let clash : None ≡ Some u = no_name (meaning_of s) w is_like_name (names_like s.table) (form_like s.options w ∙ other) ∙ named in
       absurd (cc clash)
 ]
 
-pub near_short : (cs : List ℕ) (u : TimeUnit) → near_unit cs ≡ Some u → length cs ≤ 12
-near_short cs u near = elim (cases_Bool (list_any (bytes_eq cs) small_words)) [
-  | inl small ↦ short_small cs small
-  | inr large ↦ elim (cases_Bool (list_any (λ c. c == 0x3BC) cs)) [
-    | inl greek ↦ short_greek cs u (rw (large, greek) at near)
+abbrev own_more : CodeRules
+own_more = record { table = More; default_unit = None; options = off }
+
+added_like : (u : TimeUnit) → list_all is_like_name (more_names u) ≡ true
+added_like = all_units (λ u. list_all is_like_name (more_names u)) refl
+
+near_like : (w : List ℕ) (u : TimeUnit) → near_unit w ≡ Some u → is_like_name w ≡ true
+near_like w u near = elim (cases_Bool (list_any (bytes_eq w) small_words)) [
+  | inl small ↦ named_passes is_like_name w small_words refl small
+  | inr large ↦ elim (cases_Bool (list_any (λ c. c == 0x3BC) w)) [
+    | inl greek ↦ sym (micro_like w) ∙ name_like own_more (with_micro_sign w) u (rw (large, greek) at near)
     | inr latin ↦
-        let found = found_among (map to_ascii_lowercase cs) units u (rw (large, latin) at near) in
-        let short = leb-true _ _ (named_passes (λ w. leb (length w) 12) (map to_ascii_lowercase cs) (more_names u) (short_added u) found) in
-        omega (arith, short, length-lower to_ascii_lowercase cs)
+        let found = found_among (map to_ascii_lowercase w) units u (rw (large, latin) at near) in
+        sym (lower_like w) ∙ named_passes is_like_name (map to_ascii_lowercase w) (more_names u) (added_like u) found
   ]
 ]
+
+meant_like : (s : CodeRules) (w : List ℕ) (u : TimeUnit) → meant_unit (meaning_of s) w ≡ Some u → is_like_name w ≡ true
+meant_like s w u meant = by (unit_of_word (meaning_of s) w) refl
+  where
+    by : (unit : Option TimeUnit) → unit_of_word (meaning_of s) w ≡ unit → is_like_name w ≡ true
+    by (Some v) named = name_like s w v named
+    by None named = near_like w u (rw named at meant)
+
+pub near_short : (w : List ℕ) (u : TimeUnit) → near_unit w ≡ Some u → length w ≤ 12
+near_short w u near = leb-true (length w) 12 (and_parts (are_letters w) _ (near_like w u near)).1
+
+pub meant_short : (s : CodeRules) (w : List ℕ) (u : TimeUnit) → meant_unit (meaning_of s) w ≡ Some u → length w ≤ 12
+meant_short s w u meant = leb-true (length w) 12 (and_parts (are_letters w) _ (meant_like s w u meant)).1
+
+pub meant_letters : (s : CodeRules) (w : List ℕ) (u : TimeUnit) → meant_unit (meaning_of s) w ≡ Some u → are_letters w ≡ true
+meant_letters s w u meant = (and_parts (are_letters w) _ (meant_like s w u meant)).0
 
 -- ---- The characters of a name
 

@@ -1,10 +1,10 @@
 -- The mend of a number with a fraction: one term in place of the number and its unit.
 use Rattle.std.specs.List.{prefix_len}
-use Rattle.duration_str_laws.proofs.Common.{[], ahead, and_from, and_parts, ap, append-nil, append_assoc, arith, Bool, byte_len, bytes_eq, bytes_eq-Decides, cases_Bool, chars, chars-append, chars-encodes, chars-nil, codes, decimal, decimal_nonempty, digits_decimal, digits_value-decimal, div-add-mod', drop, encode_utf8_all, eqb-true, Expected, false, find, fits, Humantime, if◌then◌else◌, inl, inr, is_blank, is_digit, is_some, IsBlank, IsRefused, IsTrue, IsUtf8, IsUtf8-append, leb, leb-true, length, length-append, List, list_all, list_all-append, ltb-true, meaning_of, More, NanoSecond, nat_le, nat_tests, None, not, number, number_of, operator_of, Option, option_map, Own, refl, Rules, scalars, scalars-chars, Some, Stops, subst, suc, sym, Syntax, table_of, take, take-append-drop, terminals_of, TimeUnit, true, unit_of_word, units, UnitTable, unwrap_or, word, zero, ℕ, ◌%◌, ◌&&◌, ◌*◌, ◌++◌, ◌+◌, ◌-◌, ◌/◌, ◌<◌, ◌==◌, ◌^◌, ◌||◌, ◌∙◌, ◌∷◌, ◌≡◌, ◌≢◌, ◌≤◌, ◌⊎◌}
+use Rattle.duration_str_laws.proofs.Common.{[], ahead, and_from, and_parts, ap, append-nil, append_assoc, arith, Bool, byte_len, bytes_eq, bytes_eq-Decides, cases_Bool, chars, chars-append, chars-encodes, chars-nil, codes, decimal, decimal_nonempty, digits_decimal, digits_value-decimal, div-add-mod', drop, encode_utf8_all, eqb-true, Expected, false, find, fits, Humantime, inl, inr, is_blank, is_digit, is_some, IsBlank, IsRefused, IsTrue, IsUtf8, IsUtf8-append, length, length-append, List, list_all, list_all-append, ltb-true, meaning_of, More, NanoSecond, nat_le, nat_tests, None, not, number, number_of, operator_of, Option, option_map, Own, refl, Rules, Some, Stops, subst, suc, sym, Syntax, table_of, take, take-append-drop, terminals_of, TimeUnit, true, units, UnitTable, unwrap_or, word, zero, ℕ, ◌%◌, ◌&&◌, ◌*◌, ◌++◌, ◌+◌, ◌-◌, ◌/◌, ◌<◌, ◌==◌, ◌^◌, ◌||◌, ◌∙◌, ◌∷◌, ◌≡◌, ◌≢◌, ◌≤◌, ◌⊎◌}
 use Rattle.std.proofs.lemmas.List.Folds.{length-prefix_len}
 use Rattle.std.proofs.Math.Nat.{div-le_self}
 use Rattle.std.proofs.Math.Seq.{drop-append_seam, take-append_seam}
-use Rattle.duration_str_laws.specs.Mended.{IsExactly}
+use Rattle.duration_str_laws.specs.Mended.{IsBareFraction, IsExactly, IsFraction}
 use Rattle.duration_str_help.specs.declared.suggestion.Suggestion.{Suggestion}
 use Rattle.duration_str_help.specs.declared.suggestion.Replacement.{Replacement}
 use Rattle.duration_str_base.specs.declared.rules.Rules.{Rules as CodeRules}
@@ -13,38 +13,27 @@ use Rattle.duration_str_help.specs.Help.{begins_with_letter, first_piece, help_n
 use Rattle.duration_str_help.specs.Mends.{can_end_number, fraction_replacement, fraction_with, meant_unit, unit_ahead}
 use Rattle.duration_str_base.proofs.CharacterLemmas.{all_weaker}
 use Rattle.duration_str_base.proofs.NumberLemmas.{decimal_digits}
-use Rattle.duration_str_base.proofs.PackedLemmas.{no_long_name}
-use Rattle.duration_str_help.proofs.MendedBytes.{blank_no_letter, blank_small, digit_small, end_cut, EndCut, first_char, is_small, past_small, plain_no_letter, run_parts, run_stops, RunParts, small_chars, small_utf8}
-use Rattle.duration_str_laws.proofs.MendedNames.{length-le-bytes, name_read, name_scalars, near_short, written}
+use Rattle.duration_str_help.proofs.MendedBytes.{blank_no_letter, blank_small, digit_small, EndCut, first_char, is_small, past_small, plain_no_letter, run_parts, run_stops, RunParts, small_chars, small_utf8}
+use Rattle.duration_str_laws.proofs.MendedNames.{name_read, name_scalars, written, meant_short}
 use Rattle.duration_str_laws.proofs.MendedNumbers.{term_in_place, term_said}
-use Rattle.duration_str_laws.proofs.MendedPlaces.{after_place, IsMended, IsPlaced}
+use Rattle.duration_str_laws.proofs.MendedPlaces.{after_place, IsMended, IsPlaced, bytes_at}
 use Rattle.duration_str_help.proofs.MendedLemmas.{after_piece, cut_piece, IsCut, piece_stops}
+use Rattle.std.specs.Prelude.{IfSome}
 
 -- ---- The parts of a mend
 
--- The mend's unit and nanoseconds.
-pub record IsFractionMend (r : Rules) (whole decimals : List ℕ) (start end : ℕ) (ahead : Option (TimeUnit × ℕ))
-    (replacement : Replacement) : Type 0 where
-  pub unit : TimeUnit
-  pub more : ℕ
-  pub nanos : ℕ
-  pub named : ahead ≡ Some (unit, more)
-  pub value : nanos_of_fraction whole decimals (r.table unit).nanos ≡ Some nanos
-  pub is : record { start = start; end = end + more; suggestion = as_term r.table unit nanos } ≡ replacement
-
-pub fraction_parts : (r : Rules) (whole decimals : List ℕ) (start end : ℕ) (ahead : Option (TimeUnit × ℕ)) (replacement : Replacement)
-    → fraction_with r whole decimals start end ahead ≡ Some replacement → IsFractionMend r whole decimals start end ahead replacement
-fraction_parts r whole decimals start end None replacement is = absurd cc
-fraction_parts r whole decimals start end (Some (u, more)) replacement is =
-    by (nanos_of_fraction whole decimals (r.table u).nanos) refl is
+-- What holds of each replacement by a term holds of this one, if there is one.
+fraction_some : (r : Rules) (whole decimals : List ℕ) (start end : ℕ) (ahead : Option (TimeUnit × ℕ)) (P : Replacement → Type 0)
+    → ((u : TimeUnit) (more nanos : ℕ) → ahead ≡ Some (u, more) → nanos_of_fraction whole decimals (r.table u).nanos ≡ Some nanos
+    → P (record { start = start; end = end + more; suggestion = as_term r.table u nanos }))
+    → IfSome (fraction_with r whole decimals start end ahead) P
+fraction_some r whole decimals start end None P holds = tt
+fraction_some r whole decimals start end (Some (u, more)) P holds = by (nanos_of_fraction whole decimals (r.table u).nanos) refl
   where
     by : (nanos : Option ℕ) → nanos_of_fraction whole decimals (r.table u).nanos ≡ nanos
-        → option_map (λ nanos. record { start = start; end = end + more; suggestion = as_term r.table u nanos }) nanos
-        ≡ Some replacement
-        → IsFractionMend r whole decimals start end (Some (u, more)) replacement
-    by None value is = absurd cc
-    by (Some nanos) value is =
-        record { unit = u; more = more; nanos = nanos; named = refl; value = value; is = cc }
+        → IfSome (option_map (λ n. record { start = start; end = end + more; suggestion = as_term r.table u n }) nanos) P
+    by None value = tt
+    by (Some nanos) value = holds u more nanos refl value
 
 -- The nanoseconds are the quotient without a remainder, and below 2^64.
 pub record IsQuotient (m n nanos : ℕ) : Type 0 where
@@ -102,18 +91,6 @@ whole_unit s u nanos = by (find (is_whole_in (table_of s.table) u nanos) units) 
 
 -- ---- What follows the number
 
-pub short_meant : (s : CodeRules) (w : List ℕ) (u : TimeUnit) → meant_unit (meaning_of s) w ≡ Some u → length w ≤ 12
-short_meant s w u meant = by (unit_of_word (meaning_of s) w) refl
-  where
-    by : (unit : Option TimeUnit) → unit_of_word (meaning_of s) w ≡ unit → length w ≤ 12
-    by (Some v) named = elim (cases_Bool (leb (byte_len w) 12)) [
-      | inl short ↦ omega (arith, leb-true _ _ short, length-le-bytes w)
-      | inr long ↦
-          let clash : None ≡ Some v = no_long_name s w (grind (arith, nat_tests)) ∙ named in
-          absurd (cc clash)
-    ]
-    by None named = near_short w u (rw named at meant)
-
 operator_no_letter : (b : ℕ) → is_some (operator_of b) ≡ true → (is_small b ≡ true) × (is_letter b ≡ false)
 operator_no_letter b is =
     let small : is_small b ≡ true = grind (arith, nat_tests) in
@@ -129,37 +106,12 @@ ends_bare r (b ∷ bs) utf8 can = elim (cases_Bool (is_blank b)) [
       rw ((first_char b bs sign.0 utf8).0, sign.1) refl
 ]
 
-abbrev pub count_in : Option (TimeUnit × ℕ) → ℕ
-count_in None = 0
-count_in (Some (u, n)) = n
-
-same_count : (found : Option (TimeUnit × ℕ)) (u : TimeUnit) (n : ℕ) → found ≡ Some (u, n) → count_in found ≡ n
-same_count found u n is = ap count_in is
-
-abbrev unit_in : TimeUnit → Option (TimeUnit × ℕ) → TimeUnit
-unit_in u None = u
-unit_in u (Some (v, n)) = v
-
-same_unit : (v u : TimeUnit) (n more : ℕ) (found : Option (TimeUnit × ℕ)) → found ≡ Some (u, more) → unit_in v found ≡ u
-same_unit v u n more found is = ap (unit_in v) is
-
-pub scalars_before : (xs ys : List ℕ) → scalars (xs ++ ys) ≡ true → scalars xs ≡ true
-scalars_before [] ys e = refl
-scalars_before (x ∷ xs) ys e = grind (arith, scalars_before xs ys)
-
 -- These bytes after a number say its unit.
 abbrev pub HasUnit : CodeRules → List ℕ → TimeUnit → Type 0
 HasUnit s named u =
     ((blanks : List ℕ) × (name : List ℕ) × (named ≡ blanks ++ name) × IsBlank blanks × IsUtf8 name
     × (meant_unit (meaning_of s) (chars name) ≡ Some u))
     ⊎ ((named ≡ []) × (s.default_unit ≡ Some u))
-
-bare : (b : Bool) (unit : Option TimeUnit) (u : TimeUnit) (more : ℕ)
-    → (if b then option_map {U = TimeUnit × ℕ} (λ v. (v, 0)) unit else None) ≡ Some (u, more)
-    → (b ≡ true) × (more ≡ 0) × (unit ≡ Some u)
-bare true (Some v) u more is = (refl, sym (same_count (Some (v, 0)) u more is), ap Some (same_unit v u 0 more (Some (v, 0)) is))
-bare true None u more is = absurd cc
-bare false unit u more is = absurd cc
 
 -- What follows a number: its unit, by a word or by default, and then no letter.
 pub record IsUnitAhead (s : CodeRules) (bytes : List ℕ) (u : TimeUnit) (more : ℕ) : Type 0 where
@@ -171,92 +123,81 @@ pub record IsUnitAhead (s : CodeRules) (bytes : List ℕ) (u : TimeUnit) (more :
   pub means : HasUnit s named u
   pub stops : begins_with_letter (chars rest) ≡ false
 
-ends_named : (s : CodeRules) (blanks back : List ℕ) (u : TimeUnit) (n more : ℕ) → length blanks ≡ n → IsBlank blanks → IsUtf8 back
+abbrev EndsNumber : CodeRules → List ℕ → Option (TimeUnit × ℕ) → Type 0
+EndsNumber s bytes found = IfSome found (λ unit. IsUnitAhead s bytes unit.0 unit.1)
+
+ends_named : (s : CodeRules) (blanks back : List ℕ) (n : ℕ) → length blanks ≡ n → IsBlank blanks → IsUtf8 back
     → begins_with_letter (first_piece (chars back)) ≡ true → (unit : Option TimeUnit)
     → meant_unit (meaning_of s) (first_piece (chars back)) ≡ unit
-    → option_map {U = TimeUnit × ℕ} (λ v. (v, n + length (encode_utf8_all (first_piece (chars back))))) unit ≡ Some (u, more)
-    → IsUnitAhead s (blanks ++ back) u more
-ends_named s blanks back u n more long blank utf8 letter None meant is = absurd cc
-ends_named s blanks back u n more long blank utf8 letter (Some v) meant is =
-    let piece = first_piece (chars back) in
-    let name = encode_utf8_all piece in
-    let same : n + length name ≡ more = same_count (Some (v, n + length name)) u more is in
-    let unit : v ≡ u = same_unit v u (n + length name) more (Some (v, n + length name)) is in
+    → EndsNumber s (blanks ++ back) (option_map (λ u. (u, n + length (encode_utf8_all (first_piece (chars back))))) unit)
+ends_named s blanks back n long blank utf8 letter None meant = tt
+ends_named s blanks back n long blank utf8 letter (Some u) meant =
+    let name = encode_utf8_all (first_piece (chars back)) in
     let cut : IsCut back = cut_piece back utf8 in
-    let short = short_meant s piece v meant in
-    let stops : begins_with_letter cut.rest ≡ false = rw cut.same (piece_stops (chars back) letter (omega (arith, short))) in
-    let are = scalars_before piece cut.rest (rw cut.parts at (scalars-chars back utf8)) in
+    let short = meant_short s (first_piece (chars back)) u meant in
     record {
       named = blanks ++ name;
-      rest = encode_utf8_all cut.rest;
-      parts = ap (λ (bs : List ℕ). blanks ++ bs) cut.whole ∙ sym (append_assoc blanks name (encode_utf8_all cut.rest));
-      long = length-append blanks name ∙ omega (arith, long, same);
-      utf8 = cut.utf8;
-      means = inl (blanks, name, refl, blank, (piece, (are, refl)), rw (chars-encodes piece are, ← unit) meant);
-      stops = rw (chars-encodes cut.rest cut.are) stops;
+      rest = after_piece back;
+      parts = ap (λ (bs : List ℕ). blanks ++ bs) cut.parts ∙ sym (append_assoc blanks name (after_piece back));
+      long = length-append blanks name ∙ omega (arith, long);
+      utf8 = cut.rest_utf8;
+      means = inl (blanks, name, refl, blank, cut.piece_utf8, rw cut.piece meant);
+      stops = rw cut.rest (piece_stops (chars back) letter (omega (arith, short)));
     }
 
-pub unit_parts : (s : CodeRules) (bytes : List ℕ) (u : TimeUnit) (more : ℕ) → IsUtf8 bytes
-    → unit_ahead (meaning_of s) bytes ≡ Some (u, more) → IsUnitAhead s bytes u more
-unit_parts s bytes u more utf8 is =
+ends_unnamed : (s : CodeRules) (bytes : List ℕ) → IsUtf8 bytes
+    → can_end_number (meaning_of s) (drop (prefix_len is_blank bytes) bytes) ≡ true → (unit : Option TimeUnit)
+    → s.default_unit ≡ unit → EndsNumber s bytes (option_map (λ u. (u, 0)) unit)
+ends_unnamed s bytes utf8 can None default = tt
+ends_unnamed s bytes utf8 can (Some u) default = record {
+  named = [];
+  rest = bytes;
+  parts = refl;
+  long = refl;
+  utf8 = utf8;
+  means = inr (refl, default);
+  stops = ends_bare (meaning_of s) bytes utf8 can;
+}
+
+unit_parts : (s : CodeRules) (bytes : List ℕ) → IsUtf8 bytes → EndsNumber s bytes (unit_ahead (meaning_of s) bytes)
+unit_parts s bytes utf8 =
     let k = prefix_len is_blank bytes in
     let back = drop k bytes in
-    let piece = first_piece (chars back) in
     let parts : RunParts is_blank bytes = run_parts is_blank bytes in
     let small = all_weaker is_blank _ (take k bytes) blank_small parts.all in
     let back_utf8 = (past_small (take k bytes) back small (rw take-append-drop utf8)).1 in
-    elim (cases_Bool (begins_with_letter piece)) [
+    elim (cases_Bool (begins_with_letter (first_piece (chars back)))) [
       | inl letter ↦
-          rw take-append-drop at (ends_named s (take k bytes) back u k more (length-prefix_len is_blank bytes) parts.all back_utf8 letter
-          (meant_unit (meaning_of s) piece) refl (rw letter at is))
-      | inr other ↦
-          let (can, none, unit) = bare (can_end_number (meaning_of s) back) s.default_unit u more (rw other at is) in
-          record {
-            named = [];
-            rest = bytes;
-            parts = refl;
-            long = sym none;
-            utf8 = utf8;
-            means = inr (refl, unit);
-            stops = ends_bare (meaning_of s) bytes utf8 can;
-          }
+          rw letter (rw take-append-drop at (ends_named s (take k bytes) back k (length-prefix_len is_blank bytes) parts.all
+          back_utf8 letter (meant_unit (meaning_of s) (first_piece (chars back))) refl))
+      | inr other ↦ elim (cases_Bool (can_end_number (meaning_of s) back)) [
+        | inl can ↦ rw (other, can) (ends_unnamed s bytes utf8 can s.default_unit refl)
+        | inr cannot ↦ rw (other, cannot) tt
+      ]
     ]
 
 -- ---- The value of the term
 
-exactly_by : (s : CodeRules) (whole decimals named : List ℕ) (unit v : TimeUnit) (count nanos : ℕ)
-    → IsTrue (list_all is_digit whole) → IsTrue (list_all is_digit decimals) → 1 ≤ length decimals → HasUnit s named unit
-    → count * ((meaning_of s).table v).nanos ≡ nanos
-    → nanos * 10 ^ length decimals ≡ number_of (whole ++ decimals) * ((meaning_of s).table unit).nanos
-    → IsExactly s (whole ++ 46 ∷ (decimals ++ named)) count v
-exactly_by s whole decimals named unit v count nanos are also some (inl (blanks, name, parts, blank, utf8, means)) counted scaled = record {
-  whole = whole;
-  decimals = decimals;
-  unit = unit;
-  fraction = inl (record {
-    blanks = blanks;
-    word = name;
-    parts = rw parts refl;
-    whole_digits = are;
-    decimal_digits = also;
-    some_decimal = some;
-    blank = blank;
-    means = means;
-  });
-  exact = rw counted scaled;
-}
-exactly_by s whole decimals named unit v count nanos are also some (inr (none, default)) counted scaled = record {
-  whole = whole;
-  decimals = decimals;
-  unit = unit;
-  fraction = inr (record {
-    parts = rw (none, append-nil) refl;
-    digits = list_all-append is_digit whole decimals ∙ and_from _ _ are also;
-    some = some;
-    default = default;
-  });
-  exact = rw counted scaled;
-}
+is_fraction : (s : CodeRules) (whole decimals named : List ℕ) (unit : TimeUnit) → IsTrue (list_all is_digit whole)
+    → IsTrue (list_all is_digit decimals) → 1 ≤ length decimals → HasUnit s named unit
+    → let text = whole ++ 46 ∷ (decimals ++ named) in
+    IsFraction s text whole decimals unit ⊎ IsBareFraction s text whole decimals unit
+is_fraction s whole decimals named unit are also some (inl (blanks, name, parts, blank, utf8, means)) = inl (record {
+  blanks = blanks;
+  word = name;
+  parts = rw parts refl;
+  whole_digits = are;
+  decimal_digits = also;
+  some_decimal = some;
+  blank = blank;
+  means = means;
+})
+is_fraction s whole decimals named unit are also some (inr (none, default)) = inr (record {
+  parts = rw (none, append-nil) refl;
+  digits = list_all-append is_digit whole decimals ∙ and_from _ _ are also;
+  some = some;
+  default = default;
+})
 
 exactly : (s : CodeRules) (whole decimals named : List ℕ) (unit : TimeUnit) (nanos : ℕ)
     → IsTrue (list_all is_digit whole) → IsTrue (list_all is_digit decimals) → 1 ≤ length decimals → HasUnit s named unit
@@ -271,8 +212,14 @@ exactly s whole decimals named unit nanos are also some means value count v same
     let n : nanos / (table (longest_whole table unit nanos)).nanos ≡ count = cc counts in
     let u : longest_whole table unit nanos ≡ v = cc units in
     let counted : count * (table v).nanos ≡ nanos = rw (← n, ← u) (whole_unit s unit nanos) in
-    exactly_by s whole decimals named unit v count nanos are also some means counted
-    (scaled whole decimals (table unit).nanos nanos (value_parts whole decimals (table unit).nanos nanos value))
+    record {
+      whole = whole;
+      decimals = decimals;
+      unit = unit;
+      fraction = is_fraction s whole decimals named unit are also some means;
+      exact = rw counted
+          (scaled whole decimals (table unit).nanos nanos (value_parts whole decimals (table unit).nanos nanos value));
+    }
 
 -- ---- The mend
 
@@ -321,65 +268,54 @@ some_decimals : (n : ℕ) (b : Bool) → (n == 0 || b) ≡ false → 1 ≤ n
 some_decimals zero b h = absurd (cc h)
 some_decimals (suc n) b h = omega arith
 
-point_parts : (text : List ℕ) (place : ℕ) → IsUtf8 (drop place text)
-    → bytes_eq (encode_utf8_all (first_piece (ahead text place))) (codes ".") ≡ true
+point_parts : (text : List ℕ) (place : ℕ) → IsCut (drop place text) → bytes_eq (bytes_at text place) (codes ".") ≡ true
     → (drop place text ≡ 46 ∷ drop (place + 1) text) × IsUtf8 (drop (place + 1) text)
-point_parts text place utf8 point =
-    let bytes = encode_utf8_all (first_piece (ahead text place)) in
-    let is : bytes ≡ codes "." = (bytes_eq-Decides bytes (codes ".")).0 point in
-    let cut : IsCut (drop place text) = cut_piece (drop place text) utf8 in
-    let after : drop (place + 1) text ≡ encode_utf8_all cut.rest =
-    rw (ap length is) at (after_place text place (length bytes) ∙ after_piece (drop place text) utf8) in
-    (cut.whole ∙ rw (is, after) refl, rw after cut.utf8)
+point_parts text place cut point =
+    let is : bytes_at text place ≡ codes "." = (bytes_eq-Decides (bytes_at text place) (codes ".")).0 point in
+    let after : drop (place + 1) text ≡ after_piece (drop place text) =
+    after_place text place 1 ∙ ap (λ (bs : List ℕ). drop (length bs) (drop place text)) (sym is) in
+    (cut.parts ∙ ap (λ (bs : List ℕ). bs ++ after_piece (drop place text)) is ∙ rw after refl, rw after cut.rest_utf8)
 
-regrouped : (front whole more rest : List ℕ) → (front ++ whole) ++ 46 ∷ (more ++ rest) ≡ front ++ ((whole ++ 46 ∷ more) ++ rest)
-regrouped front whole more rest =
-    append_assoc front whole (46 ∷ (more ++ rest))
-    ∙ ap (λ (bs : List ℕ). front ++ bs) (sym (append_assoc whole (46 ∷ more) rest))
-
-pub fraction_found : (s : CodeRules) (text front : List ℕ) (place : ℕ) (expected : Expected) (replacement : Replacement)
-    → IsPlaced s text place expected → bytes_eq (encode_utf8_all (first_piece (ahead text place))) (codes ".") ≡ true
-    → take place text ≡ front ++ end_run is_digit (take place text)
-    → fraction_replacement (meaning_of s) text place expected ≡ Some replacement
-    → IsFractionAt s text front (end_run is_digit (take place text)) expected replacement
-fraction_found s text front place expected replacement p point split is =
+pub fraction_found : (s : CodeRules) (text front : List ℕ) (place : ℕ) (expected : Expected) → IsPlaced s text place expected
+    → bytes_eq (bytes_at text place) (codes ".") ≡ true → take place text ≡ front ++ end_run is_digit (take place text)
+    → IfSome (fraction_replacement (meaning_of s) text place expected)
+    (IsFractionAt s text front (end_run is_digit (take place text)) expected)
+fraction_found s text front place expected p point split =
     let r = meaning_of s in
     let whole = end_run is_digit (take place text) in
     let after = drop (place + 1) text in
     let k = prefix_len is_digit after in
     let decimals = take k after in
     let end = place + 1 + length decimals in
+    let bytes = drop end text in
     elim (cases_Bool (length decimals == 0 || (length whole == 0 && not expected.number))) [
-      | inl missing ↦ absurd (cc (rw missing at is))
-      | inr fits ↦
-          let f : IsFractionMend r whole decimals (place - length whole) end (unit_ahead r (drop end text)) replacement =
-          fraction_parts r whole decimals (place - length whole) end (unit_ahead r (drop end text)) replacement (rw fits at is) in
-          let at_point = point_parts text place p.back_utf8 point in
+      | inl missing ↦ rw missing tt
+      | inr fits ↦ rw fits (fraction_some r whole decimals (place - length whole) end (unit_ahead r bytes)
+          (IsFractionAt s text front whole expected) (λ unit more nanos named value.
+          let at_point = point_parts text place p.cut point in
           let run : RunParts is_digit after = run_parts is_digit after in
           let small = all_weaker is_digit _ decimals digit_small run.all in
-          let same : drop end text ≡ drop k after =
+          let same : bytes ≡ drop k after =
           rw (after_place text (place + 1) (length decimals), length-prefix_len is_digit after) refl in
-          let end_utf8 : IsUtf8 (drop end text) = rw same (past_small decimals (drop k after) small (rw take-append-drop at_point.1)).1 in
-          let u : IsUnitAhead s (drop end text) f.unit f.more = unit_parts s (drop end text) f.unit f.more end_utf8 f.named in
+          let end_utf8 : IsUtf8 bytes = rw same (past_small decimals (drop k after) small (rw take-append-drop at_point.1)).1 in
+          let u : IsUnitAhead s bytes unit more = rw named at (unit_parts s bytes end_utf8) in
           let middle = whole ++ 46 ∷ (decimals ++ u.named) in
-          let back : after ≡ (decimals ++ u.named) ++ u.rest =
-          sym (take-append-drop k after) ∙ ap (λ (bs : List ℕ). decimals ++ bs) (sym same ∙ u.parts)
-          ∙ sym (append_assoc decimals u.named u.rest) in
-          let rest : drop place text ≡ 46 ∷ ((decimals ++ u.named) ++ u.rest) = at_point.0 ∙ ap (λ (bs : List ℕ). 46 ∷ bs) back in
+          let back : after ≡ decimals ++ (u.named ++ u.rest) =
+          sym (take-append-drop k after) ∙ ap (λ (bs : List ℕ). decimals ++ bs) (sym same ∙ u.parts) in
           let parts : text ≡ front ++ (middle ++ u.rest) =
           sym (take-append-drop place text) ∙ ap (λ (bs : List ℕ). bs ++ drop place text) split
-          ∙ ap (λ (bs : List ℕ). (front ++ whole) ++ bs) rest ∙ regrouped front whole (decimals ++ u.named) u.rest in
+          ∙ ap (λ (bs : List ℕ). (front ++ whole) ++ bs) (at_point.0 ∙ ap (λ (bs : List ℕ). 46 ∷ bs) back) ∙ simp append_assoc in
           let n : place ≡ length front + length whole = sym p.long ∙ ap length split ∙ length-append front whole in
-          let long : length middle ≡ length whole + suc (length decimals + f.more) =
+          let long : length middle ≡ length whole + suc (length decimals + more) =
           simp length-append (rw u.long refl) in
           let start : length front ≡ place - length whole = omega (arith, n) in
-          let last : length front + length middle ≡ end + f.more = omega (arith, n, long) in
+          let last : length front + length middle ≡ end + more = omega (arith, n, long) in
           record {
             decimals = decimals;
             named = u.named;
             rest = u.rest;
-            unit = f.unit;
-            nanos = f.nanos;
+            unit = unit;
+            nanos = nanos;
             parts = parts;
             digits = run.all;
             some = some_decimals (length decimals) _ fits;
@@ -388,9 +324,9 @@ fraction_found s text front place expected replacement p point split is =
             utf8 = u.utf8;
             stops = u.stops;
             ends = λ none. subst (Stops is_digit) (sym same ∙ u.parts ∙ ap (λ (bs : List ℕ). bs ++ u.rest) none) run.stops;
-            value = f.value;
-            is = rw (last, start) f.is;
-          }
+            value = value;
+            is = rw (last, start) refl;
+          }))
     ]
 
 pub term_bytes : (count : ℕ) (u : TimeUnit) → count < 2 ^ 64 → IsUtf8 (decimal count ++ encode_utf8_all (help_name u))
@@ -405,14 +341,11 @@ term_bytes count u small =
     )
 
 pub fraction_mended : (s : CodeRules) (text : List ℕ) (place : ℕ) (expected : Expected) (replacement : Replacement)
-    → IsPlaced s text place expected → bytes_eq (encode_utf8_all (first_piece (ahead text place))) (codes ".") ≡ true
-    → fraction_replacement (meaning_of s) text place expected ≡ Some replacement → IsMended s text replacement
-fraction_mended s text place expected replacement p point is =
+    → IsPlaced s text place expected → (cut : EndCut (take place text))
+    → IsFractionAt s text cut.front (end_run is_digit (take place text)) expected replacement → IsMended s text replacement
+fraction_mended s text place expected replacement p cut f =
     let r = meaning_of s in
-    let cut : EndCut (take place text) = end_cut (take place text) p.front_utf8 in
     let run = end_run is_digit (take place text) in
-    let f : IsFractionAt s text cut.front run expected replacement =
-    fraction_found s text cut.front place expected replacement p point cut.parts is in
     let v = longest_whole r.table f.unit f.nanos in
     let count = f.nanos / (r.table v).nanos in
     let q = value_parts run f.decimals (r.table f.unit).nanos f.nanos f.value in

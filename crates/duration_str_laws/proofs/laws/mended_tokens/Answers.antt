@@ -1,5 +1,5 @@
 use Rattle.duration_str_laws.proofs.Mended.{tokens_hold, written_holds}
-use Rattle.duration_str_laws.proofs.MendedCuts.{refused_hold}
+use Rattle.duration_str_laws.proofs.Mended.{refused_hold}
 use Rattle.duration_str_laws.proofs.MendedValues.{values_hold}
 use Rattle.duration_str_laws.proofs.laws.mended_tokens.Goals as goal
 
