@@ -19,7 +19,7 @@ const HELPS = {
     CLOCK_TIME: "keine Uhrzeiten: 1h 30m oder 1m 30s",
     NEGATIVE: "keine negativen Dauern",
     LEADING_PLUS: "kein Plus am Anfang",
-    ISO_8601: "kein ISO 8601: 1mon 30m statt P1MT30M",
+    ISO_8601: "kein ISO 8601: zum Beispiel 1mon 30m",
     ONE_DURATION: "nur eine Dauer, ohne Komma oder Bindewort",
     NO_POINT: "Einheiten haben keinen Punkt",
     BRACKETS: "keine Klammern",

@@ -25,7 +25,7 @@ HELPS = {
     Help.CLOCK_TIME: "keine Uhrzeiten: 1h 30m oder 1m 30s",
     Help.NEGATIVE: "keine negativen Dauern",
     Help.LEADING_PLUS: "kein Plus am Anfang",
-    Help.ISO_8601: "kein ISO 8601: 1mon 30m statt P1MT30M",
+    Help.ISO_8601: "kein ISO 8601: zum Beispiel 1mon 30m",
     Help.ONE_DURATION: "nur eine Dauer, ohne Komma oder Bindewort",
     Help.NO_POINT: "Einheiten haben keinen Punkt",
     Help.BRACKETS: "keine Klammern",

@@ -32,7 +32,7 @@ fn words(help: Help) -> Option<&'static str> {
         Help::ClockTime => "keine Uhrzeiten: 1h 30m oder 1m 30s",
         Help::Negative => "keine negativen Dauern",
         Help::LeadingPlus => "kein Plus am Anfang",
-        Help::Iso8601 => "kein ISO 8601: 1mon 30m statt P1MT30M",
+        Help::Iso8601 => "kein ISO 8601: zum Beispiel 1mon 30m",
         Help::OneDuration => "nur eine Dauer, ohne Komma oder Bindewort",
         Help::NoPoint => "Einheiten haben keinen Punkt",
         Help::Brackets => "keine Klammern",

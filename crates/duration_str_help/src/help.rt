@@ -379,7 +379,7 @@ pub fn help_words(help: Help) -> &'static str
         Help::ClockTime => " (clock times are not read: write 1h 30m or 1m 30s)",
         Help::Negative => " (negative durations are not read)",
         Help::LeadingPlus => r#" (a leading "+" is not read)"#,
-        Help::Iso8601 => " (ISO 8601 is not read: write 1mon 30m for P1MT30M)",
+        Help::Iso8601 => " (ISO 8601 is not read: write 1mon 30m, for example)",
         Help::OneDuration => r#" (one duration is read, without "," or "and")"#,
         Help::NoPoint => " (units have no point)",
         Help::Brackets => " (brackets are not read)",

@@ -164,9 +164,9 @@ pub record Lines : Type 0 where
   pub line-quotation_mark_later : line (codes "5m\"") (Syntax 2 after_unit)
       ≡ codes "expected a number, '+', '*' or the end at column 3, found \"\\\"\""
   pub line-iso : line (codes "Pt5M") (Syntax 0 number_alone)
-      ≡ codes "expected a number at column 1, found \"Pt\" (ISO 8601 is not read: write 1mon 30m for P1MT30M)"
+      ≡ codes "expected a number at column 1, found \"Pt\" (ISO 8601 is not read: write 1mon 30m, for example)"
   pub line-iso_day : line (codes "p1D") (Syntax 0 number_alone)
-      ≡ codes "expected a number at column 1, found \"p\" (ISO 8601 is not read: write 1mon 30m for P1MT30M)"
+      ≡ codes "expected a number at column 1, found \"p\" (ISO 8601 is not read: write 1mon 30m, for example)"
   pub line-iso_point : line (codes "P.5D") (Syntax 0 number_alone)
       ≡ codes "expected a number at column 1, found \"P\""
   pub line-comma_between : line (codes "1h, 30m") (Syntax 2 after_unit)
