@@ -822,7 +822,7 @@ def mend_of(text, answer, choice):
             return Mend(place, end, found.unit)
         case "Fraction":
             return fraction_mend(text, place, answer.expected, choice)
-        case "Zero":
+        case "Zero" if piece == "":
             return Mend(place, place, "s")
         case "LeadingPlus":
             return Mend(place, end)

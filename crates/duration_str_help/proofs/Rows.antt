@@ -152,6 +152,8 @@ pub record MendedRows : Type 0 where
   pub mended-period : mended (codes "P1M") (Syntax 0 number_alone) ≡ None
   pub mended-zero_alone : mended_with None (codes "0") (Syntax 1 unit_alone) ≡ pieces (codes "0") [] (codes "s") []
   pub mended-zero_before_a_blank : mended_with None (codes "0 ") (Syntax 2 unit_alone) ≡ pieces (codes "0 ") [] (codes "s") []
+  pub mended-zeros_and_blanks_around : mended_with None (codes " 00\t") (Syntax 4 unit_alone) ≡ pieces (codes " 00\t") [] (codes "s") []
+  pub mended-zero_before_zero : mended_with None (codes "0 0") (Syntax 2 unit_alone) ≡ None
   pub mended-number_alone : mended_with None (codes "5") (Syntax 1 unit_alone) ≡ None
   -- ---- What could mean two things
   pub mended-minus : mended (codes "-5m") (Syntax 0 number_alone) ≡ None

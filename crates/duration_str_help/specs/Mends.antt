@@ -103,7 +103,8 @@ ends_with_letter [] = false
 ends_with_letter (b ∷ bytes) =
     if list_all is_blank bytes then is_ascii_alphabetic b else ends_with_letter bytes
 
--- what to replace for a help, if that is certain, given the bytes of the piece at byte `place`
+-- What to replace for a help, if that is certain, given the bytes of the piece at byte `place`. A
+-- zero gets a unit only at the end: in `0 0` the second one would still lack its unit
 abbrev pub replacement_for : Rules → Bytes → ℕ → Expected → Bytes → Option Help → Option Replacement
 replacement_for r text place expected piece (Some (DidYouMean unit)) =
     Some (record { start = place; end = place + length piece; suggestion = name_alone unit })
@@ -117,7 +118,7 @@ replacement_for r text place expected piece (Some DigitsOnly) =
 replacement_for r text place expected piece (Some Iso8601) =
     removed_if (length piece == 2 && not r.options.lowercase && ends_with_letter text) place (place + length piece)
 replacement_for r text place expected piece (Some Zero) =
-    Some (record { start = place; end = place; suggestion = name_alone Second })
+    if length piece == 0 then Some (record { start = place; end = place; suggestion = name_alone Second }) else None
 replacement_for r text place expected piece help = None
 
 -- what to replace in the bytes of a text that is refused by these rules for this cause,

@@ -7,7 +7,7 @@ use Rattle.duration_str_help.specs.declared.suggestion.Suggestion.{Suggestion}
 use Rattle.duration_str_base.specs.declared.rules.Rules.{Rules as CodeRules}
 use Rattle.duration_str_laws.specs.Mended.{JoinsNumbers, KeepsTokens, mended_text, MendedTexts, MendedTokens, WrittenIsSaid, RefusedTokens}
 use Rattle.duration_str_help.specs.Help.{begins_with_letter}
-use Rattle.duration_str_help.specs.Mends.{mend_of, replacement_for, replacement_of, name_alone, Pieces, pieces_of, suggestion_of, suggestion_text, nothing, removed_if}
+use Rattle.duration_str_help.specs.Mends.{mend_of, replacement_for, replacement_of, name_alone, Pieces, pieces_of, suggestion_of, suggestion_text, nothing}
 use Rattle.duration_str_help.proofs.MendedHelp.{are_separators, is_separator, Reason, reason}
 use Rattle.duration_str_laws.proofs.MendedPlaces.{after_place, apart_at_start, IsInPlace, IsJoined, IsMended, IsPlaced, name_written, placed, bytes_at, piece_at, joined, removed}
 use Rattle.duration_str_help.proofs.MendedBytes.{first_char, is_small, plain_no_letter, end_cut, EndCut}
@@ -18,7 +18,7 @@ use Rattle.duration_str_help.proofs.MendedLemmas.{piece_stops}
 use Rattle.duration_str_base.proofs.CharacterLemmas.{byte_count, byte_len-append}
 use Rattle.duration_str_laws.proofs.MendedCuts.{cut_at_piece, cut_at_place, fraction_cut, IsCutApart, tokens_of_cut}
 use Rattle.duration_str_laws.proofs.MendedTokens.{IsApart}
-use Rattle.std.specs.Prelude.{IfSome}
+use Rattle.std.specs.Prelude.{IfSome, if◌then◌else◌}
 
 zeros_end : (text : List ℕ) (place : ℕ) → IsUtf8 (drop place text) → list_all (λ b. b == 48 || is_blank b) text ≡ true
     → begins_with_letter (ahead text place) ≡ false
@@ -44,11 +44,11 @@ zeros_end text place utf8 zeros = by (drop place text) utf8 rest
 abbrev IsSound : CodeRules → List ℕ → Replacement → Type 0
 IsSound s text replacement = IsMended s text replacement × IsCutApart s text (pieces_of text replacement)
 
--- What holds of the removal holds of it if it is made on this condition.
-removed_when : (P : Replacement → Type 0) (b : Bool) (start end : ℕ)
-    → (b ≡ true → P (record { start = start; end = end; suggestion = nothing })) → IfSome (removed_if b start end) P
-removed_when P true start end h = h refl
-removed_when P false start end h = tt
+-- What holds of a replacement holds of it if it is made only on this condition.
+made_when : (P : Replacement → Type 0) (b : Bool) (made : Replacement) → (b ≡ true → P made)
+    → IfSome (if b then Some made else None) P
+made_when P true made h = h refl
+made_when P false made h = tt
 
 implied : (P Q : Replacement → Type 0) (found : Option Replacement) → ((x : Replacement) → P x → Q x) → IfSome found P → IfSome found Q
 implied P Q None h is = tt
@@ -91,21 +91,21 @@ module _ (s : CodeRules) (text : List ℕ) (place : ℕ) (expected : Expected) (
       (fraction_mended s text place expected replacement p cut f, fraction_cut s text place expected replacement cut f)) found
   mended (Some LeadingPlus) why =
       removed_piece (sign_short (bytes_at text place) (codes "+") why.1 refl) (apart_at_start s text _ place why.0)
-  mended (Some NoPoint) why = removed_when (IsSound s text) _ place end (λ e.
+  mended (Some NoPoint) why = made_when (IsSound s text) _ _ (λ e.
       removed_piece (sign_short (bytes_at text place) (codes ".") why refl) (apart_unless s.options (chars (take place text)) _ e))
-  mended (Some DigitsOnly) why = removed_when (IsSound s text) _ place end (λ e.
+  mended (Some DigitsOnly) why = made_when (IsSound s text) _ _ (λ e.
       let separator = (and_parts (is_separator (bytes_at text place)) _ e).0 in
       let short = short_piece text place (separator_short (bytes_at text place) separator) in
       (joined s text place expected p why.0 (why.1 separator) separator, cut_at_piece s text place expected nothing p short))
-  mended (Some Iso8601) why = removed_when (IsSound s text) _ place end (λ e.
+  mended (Some Iso8601) why = made_when (IsSound s text) _ _ (λ e.
       let n = length (bytes_at text place) in
       let time = (and_parts (n == 2 && not s.options.lowercase) _ e).0 in
       let two = eqb-true n 2 (and_parts (n == 2) _ time).0 in
       removed_piece (omega (arith, two)) (apart_at_start s text _ place why))
-  mended (Some Zero) why = (
+  mended (Some Zero) why = made_when (IsSound s text) _ _ (λ e. (
     name_written s text place place Second expected p why.0 (zeros_end text place p.back_utf8 why.1),
     cut_at_place s text place expected (name_alone Second) p,
-  )
+  ))
   mended help why = tt
 
 mended_at : (s : CodeRules) (text : List ℕ) (cause : Cause) → IsUtf8 text → IsRefused (meaning_of s) (chars text) cause

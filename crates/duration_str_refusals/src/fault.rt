@@ -130,7 +130,7 @@ impl<'a> Fault<'a> {
     /// - `DigitsOnly`: `_` or `'` is removed, if exactly three digits follow it directly.
     /// - `Iso8601`: `PT` is removed, if the last character that isn't blank is an ASCII letter. It
     ///   stays if `lowercase` is on.
-    /// - `Zero`: `s` is inserted.
+    /// - `Zero`: `s` is added at the end of the text, if the place is there.
     ///
     /// ```text
     /// let rules = Rules::of(Options::off());

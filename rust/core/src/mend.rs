@@ -68,7 +68,7 @@ pub(crate) fn replacement_for(
             let is_time = piece.len() == 2 && !rules.options.lowercase;
             removed_if(is_time && ends_with_letter(text.as_bytes()), place, end)
         }
-        Help::Zero => Some(named(place, place, TimeUnit::Second)),
+        Help::Zero if piece.is_empty() => Some(named(place, place, TimeUnit::Second)),
         _ => None,
     }
 }
