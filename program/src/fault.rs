@@ -1,5 +1,5 @@
 // Made by tools/erase of crates/durstr_run/src/fault.rt.
-//! The reasons why a run fails.
+//! Why a run fails.
 
 use crate::outside::AllocError;
 

@@ -30,12 +30,12 @@ IsPlacedHelp before last next piece (Some Zero) = ⊥
 IsPlacedHelp before last next piece help = ⊤
 
 -- What is known where this help is given for the piece at a byte.
-abbrev pub Reason : List ℕ → ℕ → Expected → List ℕ → Option Help → Type 0
-Reason text place expected piece (Some (DidYouMean unit)) =
+abbrev pub KnownAt : List ℕ → ℕ → Expected → List ℕ → Option Help → Type 0
+KnownAt text place expected piece (Some (DidYouMean unit)) =
     (is_unknown_unit expected piece ≡ true) × (near_unit piece ≡ Some unit)
-Reason text place expected piece (Some Zero) =
+KnownAt text place expected piece (Some Zero) =
     IsTrue expected.unit_word × (list_all (λ b. b == 48 || is_blank b) text ≡ true)
-Reason text place expected piece help =
+KnownAt text place expected piece help =
     let before = take place text in
     let bytes = encode_utf8_all piece in
     IsPlacedHelp before (slice_index before (length before - 1)) (slice_index text (place + length bytes)) bytes help
@@ -82,15 +82,15 @@ module _ (text : List ℕ) (place : ℕ) (expected : Expected) (piece : List ℕ
   placed : Here (help_at expected text place bytes)
   placed = search (rules, first_holds, either, first_placed, digit_placed, sign_placed) depth 8
 
-  reason_placed : (help : Option Help) → Here help → Reason text place expected piece help
-  reason_placed None h = tt
-  reason_placed (Some (DidYouMean unit)) h = absurd h.is
-  reason_placed (Some Zero) h = absurd h.is
-  reason_placed (Some help) h = h.is
+  known_placed : (help : Option Help) → Here help → KnownAt text place expected piece help
+  known_placed None h = tt
+  known_placed (Some (DidYouMean unit)) h = absurd h.is
+  known_placed (Some Zero) h = absurd h.is
+  known_placed (Some help) h = h.is
 
-  reason_missing : (help : Option Help) → Here help → Reason text place expected piece (missing_unit_help expected text help)
-  reason_missing (Some help) h = reason_placed (Some help) h
-  reason_missing None h = elim (cases_Bool (expected.unit_word && not (expected.operator || expected.text_end))) [
+  known_missing : (help : Option Help) → Here help → KnownAt text place expected piece (missing_unit_help expected text help)
+  known_missing (Some help) h = known_placed (Some help) h
+  known_missing None h = elim (cases_Bool (expected.unit_word && not (expected.operator || expected.text_end))) [
     | inl missing ↦ elim (cases_Bool (list_all (λ b. b == 48 || is_blank b) text)) [
       | inl zeros ↦ rw (missing, zeros) ((and_parts expected.unit_word _ missing).0, zeros)
       | inr others ↦ rw (missing, others) tt
@@ -98,16 +98,16 @@ module _ (text : List ℕ) (place : ℕ) (expected : Expected) (piece : List ℕ
     | inr fits ↦ rw fits tt
   ]
 
-  reason_unit : (unit : Option TimeUnit) (help : Option Help) → Here help → near_unit piece ≡ unit
-      → is_unknown_unit expected piece ≡ true → Reason text place expected piece (Some (unit_help unit help))
-  reason_unit (Some unit) help h near unknown = (unknown, near)
-  reason_unit None (Some help) h near unknown = reason_placed (Some help) h
-  reason_unit None None h near unknown = tt
+  known_unit : (unit : Option TimeUnit) (help : Option Help) → Here help → near_unit piece ≡ unit
+      → is_unknown_unit expected piece ≡ true → KnownAt text place expected piece (Some (unit_help unit help))
+  known_unit (Some unit) help h near unknown = (unknown, near)
+  known_unit None (Some help) h near unknown = known_placed (Some help) h
+  known_unit None None h near unknown = tt
 
-  pub reason : Reason text place expected piece (syntax_help text place expected piece)
-  reason = elim (cases_Bool (is_unknown_unit expected piece)) [
-    | inl unknown ↦ rw unknown (reason_unit (near_unit piece) _ placed refl unknown)
-    | inr known ↦ rw known (reason_missing _ placed)
+  pub known_at : KnownAt text place expected piece (syntax_help text place expected piece)
+  known_at = elim (cases_Bool (is_unknown_unit expected piece)) [
+    | inl unknown ↦ rw unknown (known_unit (near_unit piece) _ placed refl unknown)
+    | inr known ↦ rw known (known_missing _ placed)
   ]
 
   none_offered : (help : Option Help) → Here help → offered_unit (Some (unit_help None help)) ≡ None

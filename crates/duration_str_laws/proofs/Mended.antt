@@ -8,7 +8,7 @@ use Rattle.duration_str_base.specs.declared.rules.Rules.{Rules as CodeRules}
 use Rattle.duration_str_laws.specs.Mended.{JoinsNumbers, KeepsTokens, mended_text, MendedTexts, MendedTokens, WrittenIsSaid, RefusedTokens}
 use Rattle.duration_str_help.specs.Help.{begins_with_letter}
 use Rattle.duration_str_help.specs.Mends.{mend_of, replacement_for, replacement_of, name_alone, Pieces, pieces_of, suggestion_of, suggestion_text, nothing}
-use Rattle.duration_str_help.proofs.MendedHelp.{are_separators, is_separator, Reason, reason}
+use Rattle.duration_str_help.proofs.MendedHelp.{are_separators, is_separator, KnownAt, known_at}
 use Rattle.duration_str_laws.proofs.MendedPlaces.{after_place, apart_at_start, IsInPlace, IsJoined, IsMended, IsPlaced, name_written, placed, bytes_at, piece_at, joined, removed}
 use Rattle.duration_str_help.proofs.MendedBytes.{first_char, is_small, plain_no_letter, end_cut, EndCut}
 use Rattle.duration_str_laws.proofs.MendedNames.{near_short}
@@ -76,7 +76,7 @@ module _ (s : CodeRules) (text : List ℕ) (place : ℕ) (expected : Expected) (
   removed_piece few apart =
       (removed s text place end expected p apart, cut_at_piece s text place expected nothing p (short_piece text place few))
 
-  mended : (help : Option Help) → Reason text place expected (piece_at text place) help
+  mended : (help : Option Help) → KnownAt text place expected (piece_at text place) help
       → IfSome (replacement_for (meaning_of s) text place expected (bytes_at text place) help) (IsSound s text)
   mended (Some (DidYouMean u)) why =
       let both = and_parts expected.unit_word (begins_with_letter (piece_at text place)) why.0 in
@@ -111,7 +111,7 @@ module _ (s : CodeRules) (text : List ℕ) (place : ℕ) (expected : Expected) (
 mended_at : (s : CodeRules) (text : List ℕ) (cause : Cause) → IsUtf8 text → IsRefused (meaning_of s) (chars text) cause
     → IfSome (replacement_of (meaning_of s) text cause) (IsSound s text)
 mended_at s text (Syntax place expected) utf8 refused =
-    mended s text place expected (placed s text place expected utf8 refused) _ (reason text place expected (piece_at text place))
+    mended s text place expected (placed s text place expected utf8 refused) _ (known_at text place expected (piece_at text place))
 mended_at s text cause utf8 refused = tt
 
 -- The replacement that gives these pieces, and what is known of it.

@@ -7,7 +7,7 @@ use Rattle.duration_str_help.specs.declared.help.Help.TheVariants.{DidYouMean, F
 use Rattle.duration_str_help.specs.declared.suggestion.Replacement.{Replacement}
 use Rattle.duration_str_help.specs.declared.suggestion.Suggestion.{Suggestion}
 use Rattle.duration_str_help.specs.Fraction.{as_term, longest_whole, Table, whole_quotient}
-use Rattle.duration_str_refusals.specs.OneLine.{at_column, expected_words, found_words, fraction_words, help_end, one_line_of, overflow_words, problem_at, text_problem}
+use Rattle.duration_str_refusals.specs.OneLine.{at_column, column_of, expected_words, found_words, fraction_words, help_end, line_with, overflow_words, problem_at, text_problem}
 use Rattle.duration_str_help.specs.Mends.{fraction_replacement, fraction_with, replacement_for, suggestion_text}
 use Rattle.duration_str_help.specs.Help.{first_piece, help_at, is_like, is_unknown_unit, missing_unit_help, near_unit, overflow_help, syntax_help, unit_help}
 use Rattle.duration_str_help.specs.Quotes.{is_clear, is_plain, quoted, quoted_end, shown}
@@ -28,8 +28,10 @@ pub record IsPlaced (text : List ℕ) (place : ℕ) : Type 0 where
   pub small : length text < 2 ^ 63
   pub boundary : IsCharBoundary text place
 
-column_short : (text : List ℕ) (place : ℕ) → IsPlaced text place → IsShort 31 (at_column (chars_before text place + 1))
-column_short text place is =
+column_short : (with_column : Bool) (text : List ℕ) (place : ℕ) → IsPlaced text place
+    → IsShort 31 (at_column (column_of with_column text place))
+column_short false text place is = literal 31 [] refl
+column_short true text place is =
     let column = chars_before text place + 1 in
     let small : column < 2 ^ 64 =
     omega (arith, chars_before_le text place is.utf8 is.boundary, is.small, is.boundary.0) in
@@ -243,7 +245,7 @@ unfolding lib.Utf8.encode
 found_point = literal 11 _ refl
 
 -- A point and its quote are short, so any help fits.
-point_short : (r : Rules) (text : List ℕ) (place : ℕ) (expected : Expected) (column : ℕ) (piece : List ℕ)
+point_short : (r : Rules) (text : List ℕ) (place : ℕ) (expected : Expected) (column : Option ℕ) (piece : List ℕ)
     → IsShort 31 (at_column column) → piece ≡ codes "."
     → IsShort 294 (problem_at column expected piece ++ help_end (syntax_help text place expected piece)
     (replacement_for r text place expected (encode_utf8_all piece) (syntax_help text place expected piece)))
@@ -254,15 +256,15 @@ point_short r text place expected column piece at is =
     rw (is, known) (less (lit≤ tt)
     (joined (joined (expected_short expected) (joined at found_point)) (end_short r text place expected point help)))
 
-syntax_short : (r : Rules) (text : List ℕ) (place : ℕ) (expected : Expected) → IsPlaced text place
-    → IsShort 294 (one_line_of r text (Syntax place expected))
-syntax_short r text place expected is =
+syntax_short : (with_column : Bool) (r : Rules) (text : List ℕ) (place : ℕ) (expected : Expected) → IsPlaced text place
+    → IsShort 294 (line_with with_column r text (Syntax place expected))
+syntax_short with_column r text place expected is =
     let piece = first_piece (ahead text place) in
     let are =
     first_scalars (ahead text place) (scalars-chars (drop place text) (IsUtf8-drop text place is.utf8 is.boundary)) in
-    let column = column_short text place is in
+    let column = column_short with_column text place is in
     elim (cases_Bool (bytes_eq (encode_utf8_all piece) (codes "."))) [
-      | inl point ↦ point_short r text place expected (chars_before text place + 1) piece column (point_piece piece are point)
+      | inl point ↦ point_short r text place expected (column_of with_column text place) piece column (point_piece piece are point)
       | inr wide ↦
           let fits = at_fits expected text place (encode_utf8_all piece) wide in
           elim (cases_Bool (is_unknown_unit expected piece)) [
@@ -286,19 +288,19 @@ large_short text = elim (cases_Bool (list_all (λ b. is_digit b || is_blank b) t
   | inr other ↦ rw other (literal 41 _ refl)
 ]
 
-pub one_line_short : (r : Rules) (text : List ℕ) (cause : Cause) → IsUtf8 text → length text < 2 ^ 63
-    → ForSome (place_of cause) (IsCharBoundary text) → IsShort 294 (one_line_of r text cause)
+pub line_short : (with_column : Bool) (r : Rules) (text : List ℕ) (cause : Cause) → IsUtf8 text → length text < 2 ^ 63
+    → ForSome (place_of cause) (IsCharBoundary text) → IsShort 294 (line_with with_column r text cause)
 unfolding lib.Utf8.encode
-one_line_short r text Empty utf8 small placed = literal 294 _ refl
-one_line_short r text (Syntax place expected) utf8 small placed = search (rules, syntax_short)
-one_line_short r text (NumberTooLarge place) utf8 small placed =
+line_short with_column r text Empty utf8 small placed = literal 294 _ refl
+line_short with_column r text (Syntax place expected) utf8 small placed = search (rules, syntax_short)
+line_short with_column r text (NumberTooLarge place) utf8 small placed =
     text_short (codes "number of 2^64 or more") text [] utf8 (literal 26 _ refl) (literal 41 [] refl)
-one_line_short r text (Overflow place) utf8 small placed = text_short _ text _ utf8 (overflow_words_short text) (large_short text)
-one_line_short r text (Mixed first later) utf8 small placed =
+line_short with_column r text (Overflow place) utf8 small placed = text_short _ text _ utf8 (overflow_words_short text) (large_short text)
+line_short with_column r text (Mixed first later) utf8 small placed =
     text_short (codes "sum and product mixed") text [] utf8 (literal 26 _ refl) (literal 41 [] refl)
-one_line_short r text OutOfRange utf8 small placed = literal 294 _ refl
-one_line_short r text (NotText true) utf8 small placed = literal 294 _ refl
-one_line_short r text (NotText false) utf8 small placed = literal 294 _ refl
+line_short with_column r text OutOfRange utf8 small placed = literal 294 _ refl
+line_short with_column r text (NotText true) utf8 small placed = literal 294 _ refl
+line_short with_column r text (NotText false) utf8 small placed = literal 294 _ refl
 
 -- ---- A quote
 

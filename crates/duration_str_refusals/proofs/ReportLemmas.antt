@@ -1,6 +1,6 @@
-use Rattle.duration_str_refusals.proofs.Common.{and_parts, ap, arith, caret_text, cases_Bool, Cause, chars, chars-append, common_steps, drop, encode_utf8, encode_utf8_all, encodes-chars, ForSome, inl, inr, IsCharBoundary, IsUtf8, IsUtf8-take, leb-true, len_utf8_bounds, length, length-append, length-encode, length-le-encodes, List, place_of, refl, Rules, Syntax, take, take-append-drop, ℕ, [], ◌*◌, ◌+◌, ◌<◌, ◌^◌, ◌∷◌, ◌≡◌, ◌≤◌, rules}
+use Rattle.duration_str_refusals.proofs.Common.{and_parts, ap, arith, caret_text, cases_Bool, Cause, chars, chars-append, common_steps, drop, encode_utf8, encode_utf8_all, encodes-chars, ForSome, inl, inr, IsCharBoundary, IsUtf8, IsUtf8-take, true, leb-true, len_utf8_bounds, length, length-append, length-encode, length-le-encodes, List, place_of, refl, Rules, Syntax, take, take-append-drop, ℕ, [], ◌*◌, ◌+◌, ◌<◌, ◌^◌, ◌∷◌, ◌≡◌, ◌≤◌, rules}
 use Rattle.duration_str_base.proofs.CharacterLemmas.{chars_of_none}
-use Rattle.duration_str_refusals.proofs.OneLineLemmas.{one_line_short}
+use Rattle.duration_str_refusals.proofs.OneLineLemmas.{line_short}
 use Rattle.duration_str_refusals.specs.OneLine.{one_line_of}
 use Rattle.std.proofs.lemmas.List.Sums.{count_by-le-length}
 use Rattle.duration_str_refusals.specs.Report.{columns_of, is_clear_text, is_wide, report_of}
@@ -42,7 +42,7 @@ report_le r text (Syntax place expected) utf8 small placed = elim (cases_Bool (i
   | inl clear ↦
       let short = leb-true (length (chars text)) 80 (and_parts _ _ clear).0 in
       let line = one_line_of r text (Syntax place expected) in
-      let bound = (one_line_short r text (Syntax place expected) utf8 small placed).short in
+      let bound = (line_short true r text (Syntax place expected) utf8 small placed).short in
       let bytes : length text ≤ 4 * length (chars text) = rw (encodes-chars text utf8) at (bytes_le (chars text)) in
       rw clear (omega (
         arith,
@@ -52,6 +52,6 @@ report_le r text (Syntax place expected) utf8 small placed = elim (cases_Bool (i
         columns_before_le text place utf8 (placed place refl),
         caret_length text (columns_of (chars (take place text))) line,
       ))
-  | inr other ↦ rw other (omega (arith, (one_line_short r text (Syntax place expected) utf8 small placed).short))
+  | inr other ↦ rw other (omega (arith, (line_short true r text (Syntax place expected) utf8 small placed).short))
 ]
-report_le r text cause utf8 small placed = omega (arith, (one_line_short r text cause utf8 small placed).short)
+report_le r text cause utf8 small placed = omega (arith, (line_short true r text cause utf8 small placed).short)

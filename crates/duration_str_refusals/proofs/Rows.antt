@@ -1,6 +1,6 @@
 -- Examples that were worked out by hand, and are computed here, such as the texts of faults.
 use Rattle.duration_str_refusals.proofs.Common.{[], Cause, codes, Empty, encode_utf8_all, false, List, map, message_of, Mixed, None, NotText, NumberTooLarge, off, OutOfRange, Overflow, Plus, refl, replicate, rules_of, Some, Star, Syntax, true, ℕ, ◌++◌, ◌∷◌, ◌≡◌}
-use Rattle.duration_str_refusals.specs.OneLine.{one_line_of}
+use Rattle.duration_str_refusals.specs.OneLine.{one_line_of, reason_of}
 use Rattle.duration_str_refusals.specs.Report.{is_wide, report_of}
 use Rattle.duration_str_base.proofs.Samples.{after_number, after_number-no_calc, after_unit, after_unit-no_calc, number_alone, unit_alone}
 use Rattle.duration_str_base.specs.Humantime.{humantime_rules}
@@ -202,6 +202,43 @@ pub record Lines : Type 0 where
 pub lines : Lines
 unfolding chars digits encode
 lines = assumption
+
+-- ---- Reasons
+
+-- the reason of a text that is refused with all options off
+abbrev reason : List ℕ → Cause → List ℕ
+reason text cause = reason_of (rules_of off) text cause
+
+pub record Reasons : Type 0 where
+  pub reason-near_word : reason (codes "5 mins") (Syntax 2 after_number) ≡ codes "unknown unit \"mins\" (did you mean \"min\"?)"
+  pub reason-other_word : reason (codes "5 at column 3") (Syntax 2 after_number)
+      ≡ codes "unknown unit \"at\" (write y, q, mon, w, d, h, min, s, ms, us or ns)"
+  pub reason-sign : reason (codes "1m 3-5") (Syntax 4 after_number)
+      ≡ codes "expected a unit, '+', '*' or the end, found \"-\""
+  pub reason-negative : reason (codes "-5m") (Syntax 0 number_alone)
+      ≡ codes "expected a number, found \"-\" (negative durations are not read)"
+  pub reason-word_after_an_operator : reason (codes "1h + at column 6") (Syntax 5 number_alone)
+      ≡ codes "expected a number, found \"at\""
+  pub reason-end : reason (codes "3+") (Syntax 2 number_alone) ≡ codes "expected a number, found the end"
+  pub reason-fraction : reason (codes "1.5h") (Syntax 1 after_number)
+      ≡ codes "expected a unit, '+', '*' or the end, found \".\" (fractions are not read: write 90min)"
+  pub reason-fraction_without_a_mend : reason (codes "1.5x") (Syntax 1 after_number)
+      ≡ codes "expected a unit, '+', '*' or the end, found \".\" (numbers have digits only)"
+  pub reason-fraction_of_any_unit : reason_of (humantime_rules off) (codes "0.5y") (Syntax 1 unit_alone)
+      ≡ codes "expected a unit, found \".\" (fractions are not read: write 4383h)"
+  pub reason-zero : reason (codes "0") (Syntax 1 unit_alone) ≡ codes "expected a unit, found the end (write 0s)"
+  pub reason-number : reason (codes "99999999999999999999m at column 1") (NumberTooLarge (Some 0))
+      ≡ codes "number of 2^64 or more in \"99999999999999999999m at column 1\""
+  pub reason-overflow : reason (codes "600y") (Overflow (Some 0)) ≡ codes "duration of over 584 years in \"600y\""
+  pub reason-large_number : reason (codes "18446744074") (Overflow (Some 0))
+      ≡ codes "duration of over 584 years in \"18446744074\" (write the number's unit, such as ns)"
+  pub reason-mixed : reason (codes "1m 2s*3") (Mixed Plus Star) ≡ codes "sum and product mixed in \"1m 2s*3\""
+  pub reason-empty : reason [] Empty ≡ codes "empty text"
+  pub reason-no_text : reason [] (NotText false) ≡ codes "expect duration string, e.g: '1min+30'"
+
+pub reasons : Reasons
+unfolding chars digits encode
+reasons = assumption
 
 -- ---- Reports
 

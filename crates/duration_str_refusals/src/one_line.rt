@@ -1,10 +1,14 @@
 //! A fault in one line: what is wrong, and for a syntax fault at which column, and what stands
-//! there.
+//! there. And its reason, which is the line without the column.
+//!
+//! Most functions that a syntax fault needs are inline. So the line and the reason have a copy
+//! each, in which the compiler knows whether the column is written, and the line is not slower than
+//! it would be alone.
 //!
 //! Each private function that writes returns the index where its part ends, or `None` if there is
 //! no room. So no contract requires room for a part. One proof, for the whole line, shows that
 //! everything fits.
-ghost use Rattle.std.specs.Prelude.{◌≡◌, ◌≤◌, ◌<◌, ◌++◌, ◌+◌, ◌-◌, ◌&&◌, ◌==◌, not, length, take, encode_utf8_all, IsTrue, ◌||◌, None, if◌then◌else◌};
+ghost use Rattle.std.specs.Prelude.{◌≡◌, ◌≤◌, ◌<◌, ◌++◌, ◌+◌, ◌-◌, ◌&&◌, ◌==◌, not, length, take, encode_utf8_all, IsTrue, ◌||◌, None, Some, if◌then◌else◌};
 ghost use Rattle.std.specs.Char.{digit_char};
 ghost use Rattle.std.specs.Char.Escape.{escape_unicode, short_escape};
 ghost use Rattle.std.specs.List.{list_all, list_any};
@@ -16,7 +20,7 @@ ghost use Rattle.duration_str_base.specs.Causes.{chars_before, place_of};
 ghost use Rattle.std.specs.Option.{ForSome};
 ghost use Rattle.std.specs.Int.{is_in_range};
 ghost use Rattle.duration_str_help.specs.declared.help.Help.TheVariants.{DidYouMean};
-ghost use Rattle.duration_str_refusals.specs.OneLine.{one_line_of, at_column, found_problem, found_words, unknown_problem, problem_at, text_problem, overflow_words, expected_words, fraction_words, help_end};
+ghost use Rattle.duration_str_refusals.specs.OneLine.{one_line_of, reason_of, column_of, at_column, found_problem, found_words, unknown_problem, problem_at, text_problem, overflow_words, expected_words, fraction_words, help_end};
 ghost use Rattle.duration_str_help.specs.Help.{help_words};
 ghost use Rattle.duration_str_help.specs.Quotes.{is_plain, is_clear, shown, quoted};
 ghost use Rattle.duration_str_help.specs.Help.{first_piece, is_unknown_unit, overflow_help, syntax_help};
@@ -83,6 +87,36 @@ impl Fault<'_> {
             None => unreachable!(),
         }
     }
+
+    /// Writes the fault's reason to the start of a buffer, and returns it. The reason is the line
+    /// of `write_one_line` by these rules, but without ` at column 3` or the like. It is for
+    /// programs that say the place themselves, such as linters, which write `app.conf:7:14: `
+    /// before it. If the cause is not `Syntax`, the line has no column, and the reason is the same.
+    /// The buffer's old contents do not matter. The call allocates nothing and cannot fail.
+    ///
+    /// ```text
+    /// let rules = Rules::of(Options::off());
+    /// let mut buffer = [0; ONE_LINE_BUFFER_SIZE];
+    /// parse_by("5 mins", rules).unwrap_err().write_reason(rules, &mut buffer)
+    /// // unknown unit "mins" (did you mean "min"?)
+    /// ```
+    #[must_use]
+    pub fn write_reason<'b>(
+        &self,
+        rules: Rules,
+        buffer: &'b mut [u8; ONE_LINE_BUFFER_SIZE],
+    ) -> &'b str
+        ensures text { result.now ≡ reason_of (meaning_of rules) self.now.text.now self.now.cause }
+        ensures plain { IsTrue (list_all is_plain (chars result.now)) }
+        ensures short { length result.now ≤ MAX_ONE_LINE_LEN }
+    {
+        match put_reason(buffer, self.text, self.cause, rules) {
+            // SAFETY: the reason up to `end` is UTF-8.
+            Some(end) => unsafe { std::str::from_utf8_unchecked(&buffer[..end]) },
+            // The reason is no longer than the line.
+            None => unreachable!(),
+        }
+    }
 }
 
 fn put_line(buffer: &mut [u8], text: &str, cause: Cause, rules: Rules) -> Option<usize>
@@ -91,7 +125,9 @@ fn put_line(buffer: &mut [u8], text: &str, cause: Cause, rules: Rules) -> Option
 {
     match cause {
         Cause::Empty => put(buffer, 0, b"empty text"),
-        Cause::Syntax { place, expected } => put_syntax(buffer, text, place, expected, rules),
+        Cause::Syntax { place, expected } => {
+            put_syntax(buffer, text, place, expected, rules, true)
+        }
         Cause::NumberTooLarge { .. } => put_text_problem(buffer, "number of 2^64 or more", text),
         Cause::Overflow { .. } => put_overflow(buffer, text),
         Cause::Mixed { .. } => put_text_problem(buffer, "sum and product mixed", text),
@@ -99,22 +135,37 @@ fn put_line(buffer: &mut [u8], text: &str, cause: Cause, rules: Rules) -> Option
     }
 }
 
+fn put_reason(buffer: &mut [u8], text: &str, cause: Cause, rules: Rules) -> Option<usize>
+    requires { ForSome (place_of cause) (IsCharBoundary text.now) }
+    ensures { IsInFront (reason_of (meaning_of rules) text.now cause) result buffer.new }
+{
+    match cause {
+        Cause::Syntax { place, expected } => {
+            put_syntax(buffer, text, place, expected, rules, false)
+        }
+        _ => put_line(buffer, text, cause, rules),
+    }
+}
+
+#[inline(always)]
 fn put_syntax(
     buffer: &mut [u8],
     text: &str,
     place: usize,
     expected: Expected,
     rules: Rules,
+    with_column: bool,
 ) -> Option<usize>
     requires { IsCharBoundary text.now place }
-    ensures { IsInFront (problem_at (chars_before text.now place + 1) expected
+    ensures { IsInFront (problem_at (column_of with_column text.now place) expected
         (first_piece (ahead text.now place))
         ++ help_end (syntax_help text.now place expected (first_piece (ahead text.now place)))
         (replacement_of (meaning_of rules) text.now (Syntax place expected)))
         result buffer.new }
 {
     let found = found_at(text, place, expected);
-    let end = put_syntax_problem(buffer, column_at(text, place), expected, &found)?;
+    let column = column_at(text, place, with_column);
+    let end = put_syntax_problem(buffer, column, expected, &found)?;
     if found.help != Some(Help::Fraction) {
         return put_help(buffer, end, found.help);
     }
@@ -124,6 +175,7 @@ fn put_syntax(
     }
 }
 
+#[inline(always)]
 fn put_fraction_words(buffer: &mut [u8], at: usize, suggestion: Suggestion) -> Option<usize>
     requires { at ≤ length buffer.old }
     ensures { IsInFront (take at buffer.old ++ fraction_words suggestion) result buffer.new }
@@ -136,7 +188,7 @@ fn put_fraction_words(buffer: &mut [u8], at: usize, suggestion: Suggestion) -> O
 #[inline(always)]
 fn put_syntax_problem(
     buffer: &mut [u8],
-    column: usize,
+    column: Option<usize>,
     expected: Expected,
     found: &Found<'_>,
 ) -> Option<usize>
@@ -151,31 +203,37 @@ fn put_syntax_problem(
     }
 }
 
-fn put_unknown(buffer: &mut [u8], column: usize, word: &str) -> Option<usize>
+#[inline(always)]
+fn put_unknown(buffer: &mut [u8], column: Option<usize>, word: &str) -> Option<usize>
     ensures { IsInFront (unknown_problem column (chars word.now)) result buffer.new }
 {
     let start = put(buffer, 0, b"unknown unit ")?;
     let end = put_quoted(buffer, start, word)?;
-    put_column(buffer, end, column)
+    put_column_if(buffer, end, column)
 }
 
-fn put_found(buffer: &mut [u8], words: &str, column: usize, piece: &str) -> Option<usize>
+#[inline(always)]
+fn put_found(buffer: &mut [u8], words: &str, column: Option<usize>, piece: &str) -> Option<usize>
     ensures { IsInFront (found_problem words.now column (chars piece.now)) result buffer.new }
 {
     let start = put_text(buffer, 0, words)?;
-    let number = put_column(buffer, start, column)?;
+    let number = put_column_if(buffer, start, column)?;
     put_words(buffer, number, piece)
 }
 
 #[inline(always)]
-fn column_at(text: &str, place: usize) -> usize
+fn column_at(text: &str, place: usize, with_column: bool) -> Option<usize>
     requires { IsCharBoundary text.now place }
-    ensures column { result ≡ chars_before text.now place + 1 }
-    ensures short { result ≤ length text.now + 1 }
+    ensures { result ≡ column_of with_column text.now place }
 {
-    chars_before(text, place) + 1
+    if with_column {
+        Some(chars_before(text, place) + 1)
+    } else {
+        None
+    }
 }
 
+#[inline(always)]
 fn put_words(buffer: &mut [u8], at: usize, piece: &str) -> Option<usize>
     requires { at ≤ length buffer.old }
     ensures { IsInFront (take at buffer.old ++ found_words (chars piece.now)) result buffer.new }
@@ -187,6 +245,7 @@ fn put_words(buffer: &mut [u8], at: usize, piece: &str) -> Option<usize>
     put_quoted(buffer, found, piece)
 }
 
+#[inline(always)]
 fn put_overflow(buffer: &mut [u8], text: &str) -> Option<usize>
     ensures { IsInFront (text_problem (overflow_words text.now) text.now
         ++ help_end (overflow_help text.now) None) result buffer.new }
@@ -195,6 +254,7 @@ fn put_overflow(buffer: &mut [u8], text: &str) -> Option<usize>
     put_help(buffer, end, overflow_help(text.as_bytes()))
 }
 
+#[inline(always)]
 fn put_overflow_problem(buffer: &mut [u8], text: &str) -> Option<usize>
     ensures { IsInFront (text_problem (overflow_words text.now) text.now) result buffer.new }
 {
@@ -219,6 +279,7 @@ fn put_text_problem(buffer: &mut [u8], problem: &str, text: &str) -> Option<usiz
     put_quoted(buffer, before, text)
 }
 
+#[inline(always)]
 fn put_help(buffer: &mut [u8], at: usize, help: Option<Help>) -> Option<usize>
     requires { at ≤ length buffer.old }
     ensures { IsInFront (take at buffer.old ++ help_end help None) result buffer.new }
@@ -229,9 +290,21 @@ fn put_help(buffer: &mut [u8], at: usize, help: Option<Help>) -> Option<usize>
     }
 }
 
-fn put_column(buffer: &mut [u8], at: usize, column: usize) -> Option<usize>
+#[inline(always)]
+fn put_column_if(buffer: &mut [u8], at: usize, column: Option<usize>) -> Option<usize>
     requires { at ≤ length buffer.old }
     ensures { IsInFront (take at buffer.old ++ at_column column) result buffer.new }
+{
+    match column {
+        Some(column) => put_column(buffer, at, column),
+        None => Some(at),
+    }
+}
+
+#[inline(always)]
+fn put_column(buffer: &mut [u8], at: usize, column: usize) -> Option<usize>
+    requires { at ≤ length buffer.old }
+    ensures { IsInFront (take at buffer.old ++ at_column (Some column)) result buffer.new }
 {
     let number = put(buffer, at, b" at column ")?;
     put_decimal(buffer, number, column as u64)

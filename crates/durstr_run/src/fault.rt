@@ -1,4 +1,4 @@
-//! The reasons why a run fails.
+//! Why a run fails.
 ghost use Rattle.std.specs.Prelude.{◌≡◌};
 ghost use Rattle.durstr_run.specs.declared.fault.RunFault.TheVariants.{Memory};
 

@@ -37,7 +37,7 @@ mod mend;
 mod message;
 #[forbid(unsafe_code)]
 mod more_names;
-#[allow(unsafe_code)] // Blocks: 1.
+#[allow(unsafe_code)] // Blocks: 2.
 mod one_line;
 #[forbid(unsafe_code)]
 mod operator;

@@ -1,6 +1,10 @@
 // Made by tools/erase of crates/duration_str_refusals/src/one_line.rt.
 //! A fault in one line: what is wrong, and for a syntax fault at which column, and what stands
-//! there.
+//! there. And its reason, which is the line without the column.
+//!
+//! Most functions that a syntax fault needs are inline. So the line and the reason have a copy
+//! each, in which the compiler knows whether the column is written, and the line is not slower than
+//! it would be alone.
 //!
 //! Each private function that writes returns the index where its part ends, or `None` if there is
 //! no room. So no contract requires room for a part. One proof, for the whole line, shows that
@@ -59,12 +63,40 @@ impl Fault<'_> {
             None => unreachable!(),
         }
     }
+
+    /// Writes the fault's reason to the start of a buffer, and returns it. The reason is the line
+    /// of `write_one_line` by these rules, but without ` at column 3` or the like. It is for
+    /// programs that say the place themselves, such as linters, which write `app.conf:7:14: `
+    /// before it. If the cause is not `Syntax`, the line has no column, and the reason is the same.
+    /// The buffer's old contents do not matter. The call allocates nothing and cannot fail.
+    ///
+    /// ```text
+    /// let rules = Rules::of(Options::off());
+    /// let mut buffer = [0; ONE_LINE_BUFFER_SIZE];
+    /// parse_by("5 mins", rules).unwrap_err().write_reason(rules, &mut buffer)
+    /// // unknown unit "mins" (did you mean "min"?)
+    /// ```
+    #[must_use]
+    pub fn write_reason<'b>(
+        &self,
+        rules: Rules,
+        buffer: &'b mut [u8; ONE_LINE_BUFFER_SIZE],
+    ) -> &'b str {
+        match put_reason(buffer, self.text, self.cause, rules) {
+            // SAFETY: the reason up to `end` is UTF-8.
+            Some(end) => unsafe { core::str::from_utf8_unchecked(&buffer[..end]) },
+            // The reason is no longer than the line.
+            None => unreachable!(),
+        }
+    }
 }
 
 fn put_line(buffer: &mut [u8], text: &str, cause: Cause, rules: Rules) -> Option<usize> {
     match cause {
         Cause::Empty => put(buffer, 0, b"empty text"),
-        Cause::Syntax { place, expected } => put_syntax(buffer, text, place, expected, rules),
+        Cause::Syntax { place, expected } => {
+            put_syntax(buffer, text, place, expected, rules, true)
+        }
         Cause::NumberTooLarge { .. } => put_text_problem(buffer, "number of 2^64 or more", text),
         Cause::Overflow { .. } => put_overflow(buffer, text),
         Cause::Mixed { .. } => put_text_problem(buffer, "sum and product mixed", text),
@@ -72,15 +104,27 @@ fn put_line(buffer: &mut [u8], text: &str, cause: Cause, rules: Rules) -> Option
     }
 }
 
+fn put_reason(buffer: &mut [u8], text: &str, cause: Cause, rules: Rules) -> Option<usize> {
+    match cause {
+        Cause::Syntax { place, expected } => {
+            put_syntax(buffer, text, place, expected, rules, false)
+        }
+        _ => put_line(buffer, text, cause, rules),
+    }
+}
+
+#[inline(always)]
 fn put_syntax(
     buffer: &mut [u8],
     text: &str,
     place: usize,
     expected: Expected,
     rules: Rules,
+    with_column: bool,
 ) -> Option<usize> {
     let found = found_at(text, place, expected);
-    let end = put_syntax_problem(buffer, column_at(text, place), expected, &found)?;
+    let column = column_at(text, place, with_column);
+    let end = put_syntax_problem(buffer, column, expected, &found)?;
     if found.help != Some(Help::Fraction) {
         return put_help(buffer, end, found.help);
     }
@@ -90,6 +134,7 @@ fn put_syntax(
     }
 }
 
+#[inline(always)]
 fn put_fraction_words(buffer: &mut [u8], at: usize, suggestion: Suggestion) -> Option<usize> {
     let term = put(buffer, at, b" (fractions are not read: write ")?;
     let end = put_suggestion(buffer, term, suggestion)?;
@@ -99,7 +144,7 @@ fn put_fraction_words(buffer: &mut [u8], at: usize, suggestion: Suggestion) -> O
 #[inline(always)]
 fn put_syntax_problem(
     buffer: &mut [u8],
-    column: usize,
+    column: Option<usize>,
     expected: Expected,
     found: &Found<'_>,
 ) -> Option<usize> {
@@ -110,23 +155,30 @@ fn put_syntax_problem(
     }
 }
 
-fn put_unknown(buffer: &mut [u8], column: usize, word: &str) -> Option<usize> {
+#[inline(always)]
+fn put_unknown(buffer: &mut [u8], column: Option<usize>, word: &str) -> Option<usize> {
     let start = put(buffer, 0, b"unknown unit ")?;
     let end = put_quoted(buffer, start, word)?;
-    put_column(buffer, end, column)
+    put_column_if(buffer, end, column)
 }
 
-fn put_found(buffer: &mut [u8], words: &str, column: usize, piece: &str) -> Option<usize> {
+#[inline(always)]
+fn put_found(buffer: &mut [u8], words: &str, column: Option<usize>, piece: &str) -> Option<usize> {
     let start = put_text(buffer, 0, words)?;
-    let number = put_column(buffer, start, column)?;
+    let number = put_column_if(buffer, start, column)?;
     put_words(buffer, number, piece)
 }
 
 #[inline(always)]
-fn column_at(text: &str, place: usize) -> usize {
-    chars_before(text, place) + 1
+fn column_at(text: &str, place: usize, with_column: bool) -> Option<usize> {
+    if with_column {
+        Some(chars_before(text, place) + 1)
+    } else {
+        None
+    }
 }
 
+#[inline(always)]
 fn put_words(buffer: &mut [u8], at: usize, piece: &str) -> Option<usize> {
     if piece.is_empty() {
         return put(buffer, at, b", found the end");
@@ -135,11 +187,13 @@ fn put_words(buffer: &mut [u8], at: usize, piece: &str) -> Option<usize> {
     put_quoted(buffer, found, piece)
 }
 
+#[inline(always)]
 fn put_overflow(buffer: &mut [u8], text: &str) -> Option<usize> {
     let end = put_overflow_problem(buffer, text)?;
     put_help(buffer, end, overflow_help(text.as_bytes()))
 }
 
+#[inline(always)]
 fn put_overflow_problem(buffer: &mut [u8], text: &str) -> Option<usize> {
     if has_star(text.as_bytes()) {
         put_text_problem(buffer, "step of over 584 years", text)
@@ -158,6 +212,7 @@ fn put_text_problem(buffer: &mut [u8], problem: &str, text: &str) -> Option<usiz
     put_quoted(buffer, before, text)
 }
 
+#[inline(always)]
 fn put_help(buffer: &mut [u8], at: usize, help: Option<Help>) -> Option<usize> {
     match help {
         Some(help) => put_text(buffer, at, help_words(help)),
@@ -165,6 +220,15 @@ fn put_help(buffer: &mut [u8], at: usize, help: Option<Help>) -> Option<usize> {
     }
 }
 
+#[inline(always)]
+fn put_column_if(buffer: &mut [u8], at: usize, column: Option<usize>) -> Option<usize> {
+    match column {
+        Some(column) => put_column(buffer, at, column),
+        None => Some(at),
+    }
+}
+
+#[inline(always)]
 fn put_column(buffer: &mut [u8], at: usize, column: usize) -> Option<usize> {
     let number = put(buffer, at, b" at column ")?;
     put_decimal(buffer, number, column as u64)

@@ -31,26 +31,26 @@ found_fraction c =
 
 pub returns-in_err-end : goal.returns-in_err-end
 returns-in_err-end c =
-    rw (c.from_residual.ensures, ← c.found_at-found.ensures.piece, ← c.column_at.ensures.column)
+    rw (c.from_residual.ensures, ← c.found_at-found.ensures.piece, ← c.column_at-column.ensures)
     (whole_is_longer _ _ _ _ refl (c.in_err-end.ensures {u = tt}))
 
 pub returns-then-ne : goal.returns-then-ne
 returns-then-ne c =
     let found = c.found_at-found.ensures in
     let other = not-true (is_fraction c.found_at-found.result.help) (sym c.ne.ensures ∙ c.if-ne.true) in
-    rw (← found.help, ← found.piece, ← c.column_at.ensures.column, other_end c.found_at-found.result.help _ other)
+    rw (← found.help, ← found.piece, ← c.column_at-column.ensures, other_end c.found_at-found.result.help _ other)
     (rw (c.in_ok-end.ensures {u = tt}).1 at c.put_help.ensures)
 
 pub returns-in-Some : goal.returns-in-Some
 returns-in-Some c =
     let found = c.found_at-found.ensures in
     let is = found_fraction (goal.at.returns-in-Some c).Else-ne in
-    rw (← found.help, ← found.piece, ← c.column_at.ensures.column, is, ← c.fraction_replacement.ensures.replacement, c.in-Some.is)
+    rw (← found.help, ← found.piece, ← c.column_at-column.ensures, is, ← c.fraction_replacement.ensures.replacement, c.in-Some.is)
     (rw (c.in_ok-end.ensures {u = tt}).1 at c.put_fraction_words.ensures)
 
 pub returns-in-None : goal.returns-in-None
 returns-in-None c =
     let found = c.found_at-found.ensures in
     let is = found_fraction (goal.at.returns-in-None c).Else-ne in
-    rw (← found.help, ← found.piece, ← c.column_at.ensures.column, is, ← c.fraction_replacement.ensures.replacement, c.in-None.is)
+    rw (← found.help, ← found.piece, ← c.column_at-column.ensures, is, ← c.fraction_replacement.ensures.replacement, c.in-None.is)
     (rw ((c.in_ok-end.ensures {u = tt}).1, is) at c.put_help-in-None.ensures)

@@ -1,12 +1,12 @@
 use Rattle.duration_str_refusals.proofs.Common.{arith, common_steps, meaning_of, rules, ◌∙◌}
 use Rattle.duration_str_refusals.specs.OneLine.{one_line_of}
 use Rattle.duration_str_help.proofs.ShortLemmas.{IsShort, short_plain, short_utf8}
-use Rattle.duration_str_refusals.proofs.OneLineLemmas.{one_line_short}
+use Rattle.duration_str_refusals.proofs.OneLineLemmas.{line_short}
 use Rattle.duration_str_refusals.proofs.fault.Fault.write_one_line.Goals.{After-put_line}
 use Rattle.duration_str_refusals.proofs.fault.Fault.write_one_line.Goals as goal
 
 short : (c : After-put_line) → IsShort 294 (one_line_of (meaning_of c.args.rules) c.args.self.now.text.now c.args.self.now.cause)
-short c = search (rules, one_line_short)
+short c = search (rules, line_short)
 
 pub from_utf8_unchecked-requires : goal.from_utf8_unchecked-requires
 from_utf8_unchecked-requires c =
