@@ -289,6 +289,12 @@ interface Told {
      */
     readonly message: string;
     /**
+     * The message without ` at column 3` or the like, for programs that say the place themselves:
+     * `unknown unit "mins" (did you mean "min"?)` for `5 mins`. For other codes than `SYNTAX` it is
+     * the message.
+     */
+    readonly reason: string;
+    /**
      * The report for a terminal. For `SYNTAX` it is the text, a caret below the place, and the
      * message. For other codes, and for some texts, it is the message alone (docs/GRAMMAR.md in the
      * repository says for which).
@@ -298,7 +304,7 @@ interface Told {
 
 /**
  * Why a text is refused, with the message. As a string it is the message. `toJSON` returns all
- * fields except the report.
+ * fields except the reason and the report.
  */
 export type Fault = Refusal & Told & {
     toJSON(): Refusal & { message: string; mended: string | null };
@@ -306,8 +312,8 @@ export type Fault = Refusal & Told & {
 
 /**
  * The error for a refused text. In Node 20 a structured clone keeps the message and the `cause`.
- * `toJSON` returns the name and all fields except the report. In Node `import` and `require` give
- * the same class, and `duration-str/plain` has another class.
+ * `toJSON` returns the name and all fields except the reason and the report. In Node `import` and
+ * `require` give the same class, and `duration-str/plain` has another class.
  *
  * ```js
  * try {

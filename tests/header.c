@@ -165,6 +165,10 @@ static void check_null_results(void) {
         expect(duration_str_one_line(text, strlen(text), 0, NULL, line[1]) == length &&
                    strcmp(line[0], line[1]) == 0,
             "a line without an answer");
+        length = duration_str_reason(text, strlen(text), 0, &answer, line[0]);
+        expect(duration_str_reason(text, strlen(text), 0, NULL, line[1]) == length &&
+                   strcmp(line[0], line[1]) == 0,
+            "a reason without an answer");
         length = duration_str_report(text, strlen(text), 0, &answer, report[0]);
         expect(duration_str_report(text, strlen(text), 0, NULL, report[1]) == length &&
                    strcmp(report[0], report[1]) == 0,
@@ -342,7 +346,8 @@ static void check_unit_names(void) {
 static void check_lines(void) {
     const char *text = "3h 2 mins",
                *wanted =
-                   "3h 2 mins\n     ^\nunknown unit \"mins\" at column 6 (did you mean \"min\"?)";
+                   "3h 2 mins\n     ^\nunknown unit \"mins\" at column 6 (did you mean \"min\"?)",
+               *reason = "unknown unit \"mins\" (did you mean \"min\"?)";
     char line[DURATION_STR_ONE_LINE_BUFFER_SIZE], report[DURATION_STR_REPORT_BUFFER_SIZE];
     struct duration_str_answer answer;
     memset(&answer, '#', sizeof answer);
@@ -351,6 +356,12 @@ static void check_lines(void) {
         "one line");
     expect(answer.cause == DURATION_STR_CAUSE_SYNTAX && answer.place == 5,
         "the answer beside the line");
+    memset(&answer, '#', sizeof answer);
+    expect(duration_str_reason(text, 9, 0, &answer, line) == strlen(reason) &&
+               strcmp(line, reason) == 0,
+        "a reason");
+    expect(answer.cause == DURATION_STR_CAUSE_SYNTAX && answer.place == 5,
+        "the answer beside the reason");
     memset(&answer, '#', sizeof answer);
     expect(duration_str_report(text, 9, 0, &answer, report) == strlen(wanted) &&
                strcmp(report, wanted) == 0,

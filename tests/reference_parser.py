@@ -906,11 +906,20 @@ def report(text, answer):
 
 @functools.lru_cache(1 << 16)
 def one_line(text, answer):
+    return problem(text, answer) + words_at_the_end(text, answer)
+
+
+def reason(text, answer):
+    """The line without its column"""
+    return problem(text, answer, with_column=False) + words_at_the_end(text, answer)
+
+
+def words_at_the_end(text, answer):
     found = help_of(text, answer)
-    return problem(text, answer) + (f" ({found.words(answer.mend)})" if found else "")
+    return f" ({found.words(answer.mend)})" if found else ""
 
 
-def problem(text, answer):
+def problem(text, answer, with_column=True):
     match answer.cause:
         case "empty":
             return "empty text"
@@ -923,7 +932,7 @@ def problem(text, answer):
         case "number too large":
             return f"number of 2^64 or more in {quote(text)}"
     piece = piece_at(text, answer.place)
-    column = f" at column {answer.place + 1}"
+    column = f" at column {answer.place + 1}" if with_column else ""
     if is_unknown_unit(piece, answer.expected):
         return f"unknown unit {quote(piece)}{column}"
     found = f", found {quote(piece) if piece else 'the end'}"

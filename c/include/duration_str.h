@@ -69,9 +69,11 @@
 /* The size of the buffer that duration_str_format_with prints into. */
 #define DURATION_STR_FORMAT_WITH_BUFFER_SIZE 144
 
-/* No line of duration_str_one_line has more bytes than this. */
+/* No line of duration_str_one_line has more bytes than this, and no reason of
+ * duration_str_reason. */
 #define DURATION_STR_MAX_ONE_LINE_LEN 294
-/* The size of the buffer that duration_str_one_line writes into. */
+/* The size of the buffer that duration_str_one_line and duration_str_reason
+ * write into. */
 #define DURATION_STR_ONE_LINE_BUFFER_SIZE 384
 
 /* The size of the buffer that duration_str_help writes into. */
@@ -435,6 +437,17 @@ bool duration_str_parse_with(const char *text, size_t length,
  * Otherwise, for bytes that are not UTF-8, it is `not UTF-8`. */
 DURATION_STR_NONNULL(5)
 size_t duration_str_one_line(
+    const char *text, size_t length, uint32_t options,
+    struct duration_str_answer *answer,
+    char buffer[DURATION_STR_AT_LEAST DURATION_STR_ONE_LINE_BUFFER_SIZE]);
+
+/* Does what duration_str_one_line does, except that it writes the reason: the
+ * line without ` at column 3` or the like. It is for programs that say the
+ * place themselves: `app.conf:7:14: unknown unit "mins" (did you mean "min"?)`.
+ * If the cause is not a syntax fault, the line has no column, and the reason is
+ * the same. */
+DURATION_STR_NONNULL(5)
+size_t duration_str_reason(
     const char *text, size_t length, uint32_t options,
     struct duration_str_answer *answer,
     char buffer[DURATION_STR_AT_LEAST DURATION_STR_ONE_LINE_BUFFER_SIZE]);

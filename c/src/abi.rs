@@ -127,6 +127,22 @@ unsafe extern "C" fn duration_str_one_line(
 }
 
 #[unsafe(no_mangle)]
+unsafe extern "C" fn duration_str_reason(
+    text: *const u8,
+    len: usize,
+    bits: u32,
+    answer: Option<&mut MaybeUninit<Answer>>,
+    out: &mut MaybeUninit<[u8; 384]>,
+) -> usize {
+    let mut unwanted = MaybeUninit::uninit();
+    let answer = answer.unwrap_or(&mut unwanted);
+    let (text, answer) = unsafe { (bytes(text, len), answer.write(zeroed())) };
+    written(out, |buffer| {
+        message::duration_str_reason(text, bits, answer, buffer)
+    })
+}
+
+#[unsafe(no_mangle)]
 unsafe extern "C" fn duration_str_report(
     text: *const u8,
     len: usize,

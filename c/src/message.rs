@@ -1,5 +1,5 @@
 // Made by tools/erase of crates/duration_str_c/src/message.rt.
-//! The line and the report about a refused text.
+//! The line, the reason and the report about a refused text.
 
 use crate::answer::{Answer, refused};
 use crate::{are_options, options_of_bits, put, read_by, rules_of_bits, text_of};
@@ -21,6 +21,20 @@ pub fn duration_str_one_line(
     }
 }
 
+/// Does what `duration_str_one_line` does, but writes the reason, which is the line without its
+/// column.
+pub fn duration_str_reason(
+    text: &[u8],
+    options: u32,
+    answer: &mut Answer,
+    buffer: &mut [u8; ONE_LINE_BUFFER_SIZE],
+) -> usize {
+    match shared_refusal_of(text, options, answer) {
+        Ok(fault) => show_reason(&fault, rules_of_bits(options), buffer),
+        Err(line) => show(line, buffer),
+    }
+}
+
 /// Does what `duration_str_one_line` does, but writes the report. For most syntax faults it is the
 /// text, a caret below the place, and the line. For other faults it is the line.
 pub fn duration_str_report(
@@ -29,7 +43,7 @@ pub fn duration_str_report(
     answer: &mut Answer,
     buffer: &mut [u8; REPORT_BUFFER_SIZE],
 ) -> usize {
-    match refusal_of(text, options, answer) {
+    match shared_refusal_of(text, options, answer) {
         Ok(fault) => show_report(&fault, rules_of_bits(options), buffer),
         Err(line) => show(line, buffer),
     }
@@ -63,9 +77,25 @@ pub(crate) fn refusal_of<'a>(
     }
 }
 
+/// Does what `refusal_of` does. It is not inline, so that the calls for the reason and for the
+/// report share one copy.
+#[inline(never)]
+fn shared_refusal_of<'a>(
+    bytes: &'a [u8],
+    options: u32,
+    answer: &mut Answer,
+) -> Result<Fault<'a>, &'static str> {
+    refusal_of(bytes, options, answer)
+}
+
 fn show_one_line(fault: &Fault<'_>, rules: Rules, buffer: &mut [u8; ONE_LINE_BUFFER_SIZE]) -> usize {
     let mut line = [0; ONE_LINE_BUFFER_SIZE];
     put(fault.write_one_line(rules, &mut line), buffer)
+}
+
+fn show_reason(fault: &Fault<'_>, rules: Rules, buffer: &mut [u8; ONE_LINE_BUFFER_SIZE]) -> usize {
+    let mut reason = [0; ONE_LINE_BUFFER_SIZE];
+    put(fault.write_reason(rules, &mut reason), buffer)
 }
 
 fn show_report(fault: &Fault<'_>, rules: Rules, buffer: &mut [u8; REPORT_BUFFER_SIZE]) -> usize {

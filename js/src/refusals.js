@@ -33,6 +33,13 @@ export class Fault {
         return this.#mend(this);
     }
 
+    /** The line of a syntax fault says its column before it quotes anything, or after a quote of
+     * letters alone, which has no blank. So the first ` at column 3` or the like is the line's own.
+     * In other lines it can only be quoted. */
+    get reason() {
+        return this.code === "SYNTAX" ? this.message.replace(/ at column \d+/, "") : this.message;
+    }
+
     get report() {
         return this.#report;
     }
@@ -68,6 +75,10 @@ export class DurationError extends Error {
         hideLong(cause, "found");
         super(message, { cause });
         this.#fault = fault;
+    }
+
+    get reason() {
+        return this.#fault.reason;
     }
 
     get report() {

@@ -1,8 +1,8 @@
 // `node durstr.js [OPTION..]` answers each line of the standard input. It writes the nanoseconds
-// and the printed duration, or why the line is refused, and after a tab the help's number, where
-// the part to replace begins and ends, in characters, the suggestion, and the mended text. Options
-// are named as in vectors.json, such as `no_calc` or `default_unit=ms`. The status is 0 if all
-// lines are read, and otherwise 1.
+// and the printed duration, or why the line is refused, the reason, and the help's number, with
+// tabs between them, and then where the part to replace begins and ends, in characters, the
+// suggestion, and the mended text. Options are named as in vectors.json, such as `no_calc` or
+// `default_unit=ms`. The status is 0 if all lines are read, and otherwise 1.
 //
 // `node durstr.js rounded` prints durations that are rounded down, to the nearest and up. Each line
 // has the nanoseconds, the number of a set of units, and the greatest number of parts.
@@ -27,9 +27,9 @@ function answer(line) {
     return ok ? [`${value} ${formatNs(value)}`, true] : [lineAndHelp(fault), false];
 }
 
-function lineAndHelp({ text, message, help, suggestion, span, mended }) {
-    if (help === null) return message;
-    const told = [`${message}\t${HELPS.indexOf(help) + 1}`];
+function lineAndHelp({ text, message, reason, help, suggestion, span, mended }) {
+    if (help === null) return `${message}\t${reason}`;
+    const told = [`${message}\t${reason}\t${HELPS.indexOf(help) + 1}`];
     if (span) {
         const [start, end] = span.map((index) => [...text.slice(0, index)].length);
         told.push(`${start}-${end}`, `<${suggestion}>`);

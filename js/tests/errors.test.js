@@ -25,6 +25,14 @@ function indices(text, span) {
     return span?.map((end) => Buffer.from(text).subarray(0, end).toString().length) ?? null;
 }
 
+/** The line without its column, if it has one. `before` is the text before the place. */
+function reasonOf(line, code, before) {
+    if (code !== "SYNTAX") return line;
+    const column = ` at column ${[...before].length + 1}`;
+    assert.ok(line.includes(column), line);
+    return line.replace(column, "");
+}
+
 test("tells all of a refusal", () => {
     for (const [text, names, ...row] of VECTORS.refused) {
         const [code, place, found, kinds, line, spaces, help, suggestion, span, mended] = row;
@@ -51,6 +59,8 @@ test("tells all of a refusal", () => {
         }
         const report = spaces === null ? line : `${text}\n${" ".repeat(spaces)}^\n${line}`;
         assert.deepEqual([error.report, fault.report], [report, report]);
+        const reason = reasonOf(line, code, before);
+        assert.deepEqual([error.reason, fault.reason], [reason, reason]);
     }
 });
 
@@ -128,9 +138,18 @@ test("refuses lone surrogates, wherever they stand", () => {
             assert.deepEqual([error.help, error.suggestion, error.mended], [null, null, null]);
             assert.equal(error.span, null);
             const line = `not UTF-8: a lone surrogate at index ${index}`;
-            assert.deepEqual([error.message, error.report], [line, line]);
+            assert.deepEqual([error.message, error.reason, error.report], [line, line, line]);
         }
     }
+});
+
+test("says a quoted column also in the reason", () => {
+    const error = errorOf("99999999999999999999m at column 1", { noCalc: true });
+    assert.equal(
+        error.reason,
+        'number of 2^64 or more in "99999999999999999999m at column 1"',
+    );
+    assert.equal(errorOf("1h + at column 6").reason, 'expected a number, found "at"');
 });
 
 test("does no harm with what is handed in", () => {

@@ -68,8 +68,8 @@ try {
     const expected: Expected = error.expected;
     const any: boolean = expected.number || expected.unit || expected.operator || expected.end;
     const texts: (string | null)[] = [
-        error.found, error.report, error.text, error.message, cause.text, error.mended,
-        error.toJSON().mended,
+        error.found, error.reason, error.report, error.text, error.message, cause.text,
+        error.mended, error.toJSON().mended,
     ];
     const help: Help | null = error.help;
     const suggestion: string | null = cause.suggestion;

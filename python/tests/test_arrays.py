@@ -614,7 +614,8 @@ class Errors(unittest.TestCase):
         for text in (f"{2**63}ns", "300y", f"{2**64 - 1}ns"):
             (error,) = errors_of([text]).values()
             self.assertEqual((str(error), error.cause), (line, Cause.OVERFLOW))
-            self.assertEqual((error.report, error.help, error.mended), (line, None, None))
+            self.assertEqual((error.reason, error.report), (line, line))
+            self.assertEqual((error.help, error.mended), (None, None))
         self.assertEqual(errors_of([f"{2**63 - 1}ns"]), {})
         self.assertEqual(errors_of(["293 yrs", "292 yrs"])[0].mended, None)
         self.assertEqual(errors_of(["293 yrs", "292 yrs"])[1].mended, "292 y")

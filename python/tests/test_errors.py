@@ -34,6 +34,7 @@ class Errors(unittest.TestCase):
                 self.assertEqual(error.expected, functools.reduce(operator.or_, kinds, Expected(0)))
                 above = "" if spaces is None else f"{text}\n{' ' * spaces}^\n"
                 self.assertEqual((str(error), error.report), (line, above + line))
+                self.assertEqual(error.reason, vectors.reason_of(line, cause, pos))
                 self.assertIs(error.help, code and Help[code])
                 ends = span and tuple(len(text.encode()[:end].decode()) for end in span)
                 self.assertEqual((error.suggestion, error.span), (suggestion, ends))
@@ -104,7 +105,7 @@ class Errors(unittest.TestCase):
                         (error.text, error.place, error.pos, error.found), (text, None, None, None)
                     )
                     line = f"not UTF-8: a lone surrogate at index {place}"
-                    self.assertEqual((str(error), error.report), (line, line))
+                    self.assertEqual((str(error), error.reason, error.report), (line,) * 3)
                     self.assertEqual((error.help, error.suggestion, error.mended), (None,) * 3)
                     self.assertIsNone(error.span)
 

@@ -86,7 +86,7 @@ pause: Annotated[datetime.timedelta, duration_str.DurationField(default_unit="ms
 try:
     duration_str.parse("1x")
 except duration_str.DurationError as error:
-    assert_type(str(error) + error.report, str)
+    assert_type(str(error) + error.reason + error.report, str)
     assert_type(error.cause, duration_str.Cause)
     assert_type(error.pos, "int | None")
     assert_type(error.help, "duration_str.Help | None")

@@ -67,10 +67,19 @@ def error_of(call, *arguments, **words):
     raise AssertionError(f"{arguments} is read as {value}")
 
 
+def reason_of(line, cause, pos):
+    """Returns the line without its column, if it has one."""
+    if cause != "SYNTAX":
+        return line
+    front, column, rest = line.partition(f" at column {pos + 1}")
+    assert column, line
+    return front + rest
+
+
 def told_by(error):
     """Returns all that an error says."""
-    names = "text cause place pos expected found help suggestion span mended index report".split()
-    return {"line": str(error)} | {name: getattr(error, name) for name in names}
+    names = "text cause place pos expected found help suggestion span mended index reason report"
+    return {"line": str(error)} | {name: getattr(error, name) for name in names.split()}
 
 
 def near(words):

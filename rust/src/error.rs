@@ -137,6 +137,18 @@ impl DurationError {
         self.as_fault().mended()
     }
 
+    /// Returns the reason, which is the line without its column, as [`Fault::reason`] does.
+    ///
+    /// ```
+    /// let error = duration_str::parse_duration("5 mins").unwrap_err();
+    /// let line = format!("app.conf:7:{}: {}", 12 + error.place().unwrap(), error.reason());
+    /// assert_eq!(line, r#"app.conf:7:14: unknown unit "mins" (did you mean "min"?)"#);
+    /// ```
+    #[must_use]
+    pub fn reason(&self) -> String {
+        self.as_fault().reason()
+    }
+
     /// Returns the report for a terminal, as [`Fault::report`] does.
     ///
     /// ```

@@ -147,6 +147,38 @@ impl<'a> Fault<'a> {
         self.fault.write_one_line(self.rules, buffer)
     }
 
+    /// Returns the reason: the line without ` at column 3` or the like. It is for programs that say
+    /// the place themselves. If the fault is no syntax fault, the line has no column, and the
+    /// reason is the same.
+    ///
+    /// ```
+    /// use duration_str::{Options, parse_with};
+    ///
+    /// let fault = parse_with("5 mins", Options::off()).unwrap_err();
+    /// assert_eq!(fault.reason(), r#"unknown unit "mins" (did you mean "min"?)"#);
+    /// assert_eq!(parse_with("", Options::off()).unwrap_err().reason(), "empty text");
+    /// ```
+    #[must_use]
+    pub fn reason(&self) -> String {
+        self.write_reason(&mut [0; ONE_LINE_BUFFER_SIZE])
+            .to_string()
+    }
+
+    /// Writes the [reason](Self::reason) to the start of a buffer, and returns it. The call
+    /// allocates nothing.
+    ///
+    /// ```
+    /// use duration_str::{ONE_LINE_BUFFER_SIZE, Options, parse_with};
+    ///
+    /// let mut buffer = [0; ONE_LINE_BUFFER_SIZE];
+    /// let fault = parse_with("1m+", Options::off()).unwrap_err();
+    /// assert_eq!(fault.write_reason(&mut buffer), "expected a number, found the end");
+    /// ```
+    #[must_use]
+    pub fn write_reason<'b>(&self, buffer: &'b mut [u8; ONE_LINE_BUFFER_SIZE]) -> &'b str {
+        self.fault.write_reason(self.rules, buffer)
+    }
+
     /// Returns the report for a terminal: the text, below it a caret at the place of a syntax
     /// fault, and below that the line.
     ///

@@ -93,7 +93,7 @@
 //! # Why and where a text is refused
 //!
 //! A [`Fault`] and a [`DurationError`] display as one line. For most syntax faults their `report`
-//! also gives the text, and a caret below the place.
+//! also gives the text, and a caret below the place. Their `reason` is the line without the column.
 //!
 //! ```
 //! use duration_str::{Options, parse_with};
@@ -103,6 +103,7 @@
 //! let line = r#"expected a unit, '+', '*' or the end at column 5, found "-""#;
 //! assert_eq!(fault.to_string(), line);
 //! assert_eq!(fault.report(), format!("1m 3-5\n    ^\n{line}"));
+//! assert_eq!(fault.reason(), r#"expected a unit, '+', '*' or the end, found "-""#);
 //! ```
 //!
 //! The line often ends with [`Help`], in parentheses. `help` returns it as a value. If it is certain

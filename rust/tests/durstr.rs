@@ -1,8 +1,8 @@
 //! For tests/compare: prints the value and the duration of each line of the input, or the line of
-//! the refusal, and after a tab the help's number, where the part to replace begins and ends, in
-//! characters, the suggestion, and the mended text. The words are those of the program durstr,
-//! `more_names`, `require_unit`, and a default unit, such as `default_unit=ms`. The status is 0 if
-//! all lines are read, and 1 if some are refused.
+//! the refusal, the reason, and the help's number, with tabs between them, and then where the part
+//! to replace begins and ends, in characters, the suggestion, and the mended text. The words are
+//! those of the program durstr, `more_names`, `require_unit`, and a default unit, such as
+//! `default_unit=ms`. The status is 0 if all lines are read, and 1 if some are refused.
 //!
 //! With the word `rounded` it prints durations that are rounded down, to the nearest and up. Each
 //! line has the nanoseconds, the number of a set of units, and the greatest number of parts.
@@ -31,10 +31,11 @@ fn print_rounded(line: &str) {
 }
 
 fn line_and_help(fault: Fault<'_>) -> String {
+    let mut told = format!("{fault}\t{}", fault.reason());
     let Some(help) = fault.help() else {
-        return fault.to_string();
+        return told;
     };
-    let mut told = format!("{fault}\t{}", help.number());
+    told += &format!("\t{}", help.number());
     if let Some(mend) = fault.mend() {
         let start = mend.front.chars().count();
         let end = start + mend.replaced.chars().count();

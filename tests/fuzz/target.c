@@ -13,6 +13,7 @@
 
 enum {
     LINE,
+    REASON,
     REPORT,
     HELP,
     FORMAT,
@@ -20,8 +21,9 @@ enum {
     TEXTS
 };
 static const size_t rooms[TEXTS] = {DURATION_STR_ONE_LINE_BUFFER_SIZE,
-    DURATION_STR_REPORT_BUFFER_SIZE, DURATION_STR_SUGGESTION_BUFFER_SIZE,
-    DURATION_STR_FORMAT_BUFFER_SIZE, DURATION_STR_FORMAT_WITH_BUFFER_SIZE};
+    DURATION_STR_ONE_LINE_BUFFER_SIZE, DURATION_STR_REPORT_BUFFER_SIZE,
+    DURATION_STR_SUGGESTION_BUFFER_SIZE, DURATION_STR_FORMAT_BUFFER_SIZE,
+    DURATION_STR_FORMAT_WITH_BUFFER_SIZE};
 struct given {
     uint64_t secs, nanos;
     uint32_t units, parts, rounding, style;
@@ -32,13 +34,14 @@ struct memory {
     uint64_t said[TEXTS], is_read, is_read_with, help, unit, is_broken_down, unwritten, nanos[2],
         rest[2], counts[DURATION_STR_UNIT_COUNT + 2];
     size_t start[2], replaced[2];
-    struct duration_str_answer answers[4];
+    struct duration_str_answer answers[5];
     char texts[TEXTS][DURATION_STR_REPORT_BUFFER_SIZE + 32];
 };
 
 static void call_all(
     const char *text, size_t length, uint32_t bits, struct given of, struct memory *to) {
     to->said[LINE] = duration_str_one_line(text, length, bits, &to->answers[0], to->texts[LINE]);
+    to->said[REASON] = duration_str_reason(text, length, bits, &to->answers[3], to->texts[REASON]);
     to->said[REPORT] = duration_str_report(text, length, bits, &to->answers[1], to->texts[REPORT]);
     to->help = duration_str_help(text, length, bits, to->texts[HELP], to->start, to->replaced);
     to->said[HELP] = strnlen(to->texts[HELP], rooms[HELP]);
@@ -68,7 +71,7 @@ static void check(char *const *texts, size_t length, uint32_t options, struct gi
         memset(&memory[turn], turn ? 0x5a : 0xa5, sizeof *memory);
         memcpy(&wanted[turn], &memory[turn], sizeof *memory);
         call_all(texts[turn], length, options, of, &memory[turn]);
-        for (int at = 0; at < 3; at++) /* The bytes after the last field can be anything. */
+        for (int at = 0; at < 4; at++) /* The bytes after the last field can be anything. */
             memcpy((char *)&memory[turn].answers[at] + FIELDS,
                 (char *)&wanted[turn].answers[at] + FIELDS, sizeof *memory->answers - FIELDS);
     }
@@ -79,7 +82,7 @@ static void check(char *const *texts, size_t length, uint32_t options, struct gi
     written(to->replaced, sizeof *to->replaced);
     HOLDS(*to->start <= length && *to->replaced <= length - *to->start);
     written(to->counts, to->is_broken_down * DURATION_STR_UNIT_COUNT * sizeof *to->counts);
-    for (int at = 0; at < 3; at++)
+    for (int at = 0; at < 4; at++)
         written(&to->answers[at], FIELDS);
     for (int at = 0; at < TEXTS; at++) {
         HOLDS(to->said[at] < rooms[at] && strnlen(to->texts[at], rooms[at]) == to->said[at]);

@@ -190,6 +190,16 @@ class DurationError(ValueError):
         return None if found is None or (in_timedelta64 and found[1] >= 2**63) else found[0]
 
     @property
+    def reason(self) -> str:
+        """The line without `at column 3` or the like, and without the index in a column, for
+        programs that say the place themselves. For `5 mins` it is `unknown unit "mins" (did you
+        mean "min"?)`. Only the line of a syntax fault has such a column."""
+        from ._native import reason
+
+        line, cause, *_ = self._answer
+        return reason(*self.args[:2]) if cause == Cause.SYNTAX else line
+
+    @property
     def report(self) -> str:
         """The report for a terminal: the text, a caret below the place, and the line. If the fault
         is no syntax fault, and for some texts, it is the line alone (docs/GRAMMAR.md in the

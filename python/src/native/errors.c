@@ -118,6 +118,19 @@ PyObject *module_answer(PyObject *module, PyObject *arguments) {
         found, (Py_ssize_t)answer.found_length);
 }
 
+/* reason(text, options): returns the reason, which is the line without its column, if the line is
+ * the library's */
+PyObject *module_reason(PyObject *module, PyObject *arguments) {
+    char reason[DURATION_STR_ONE_LINE_BUFFER_SIZE];
+    struct refused refused;
+    (void)module;
+    if (!take_refused(arguments, &refused))
+        return NULL;
+    const size_t length =
+        duration_str_reason(refused.bytes, refused.length, refused.options, NULL, reason);
+    return PyUnicode_FromStringAndSize(reason, (Py_ssize_t)length);
+}
+
 /* report(text, options): returns the report, or the empty text if the line is not the library's */
 PyObject *module_report(PyObject *module, PyObject *arguments) {
     char report[DURATION_STR_REPORT_BUFFER_SIZE];

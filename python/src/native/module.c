@@ -34,6 +34,7 @@ static PyMethodDef module_methods[] = {
     {"format_list", module_format_list, METH_VARARGS, NULL},
     {"read_list", module_read_list, METH_VARARGS, NULL},
     {"answer", module_answer, METH_VARARGS, NULL},
+    {"reason", module_reason, METH_VARARGS, NULL},
     {"report", module_report, METH_VARARGS, NULL},
     {"help", module_help, METH_VARARGS, NULL},
     {"mended", module_mended, METH_VARARGS, NULL},

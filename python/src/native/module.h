@@ -114,6 +114,7 @@ void raise_made(PyObject *error);
 void raise_type_error(
     struct state *state, PyObject *value, const struct reading *reading, Py_ssize_t index);
 PyObject *module_answer(PyObject *module, PyObject *arguments);
+PyObject *module_reason(PyObject *module, PyObject *arguments);
 PyObject *module_report(PyObject *module, PyObject *arguments);
 PyObject *module_help(PyObject *module, PyObject *arguments);
 PyObject *module_mended(PyObject *module, PyObject *arguments);

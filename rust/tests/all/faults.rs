@@ -1,7 +1,7 @@
 use crate::{FEATURES, Refused, by_usual_calls, options_of, rules_of, vectors};
 use duration_str::{
-    Cause, DError, Expected, Fault, Help, Options, Rules, parse, parse_by, parse_require_unit,
-    parse_with,
+    Cause, DError, Expected, Fault, Help, ONE_LINE_BUFFER_SIZE, Options, Rules, parse, parse_by,
+    parse_require_unit, parse_with,
 };
 use duration_str_core as proved;
 use std::error::Error;
@@ -92,12 +92,29 @@ fn tells_all_of_a_refusal() {
         let above = spaces.map_or(String::new(), |spaces| {
             format!("{text}\n{}^\n", " ".repeat(spaces))
         });
+        let reason = reason_of(line, cause, text, *place);
+        assert_eq!([fault.reason(), error.reason()], [&reason[..]; 2]);
+        assert_eq!(
+            fault.write_reason(&mut [b'#'; ONE_LINE_BUFFER_SIZE]),
+            reason
+        );
         let report = above + line;
         assert_eq!([fault.report(), error.report()], [&report[..]; 2]);
         if cause != "MIXED" && rules == Rules::of(options) {
             checks_message(text, options, *place, last_line(cause, kinds));
         }
     }
+}
+
+/// The line without its column, if it has one.
+fn reason_of(line: &str, cause: &str, text: &str, place: Option<usize>) -> String {
+    if cause != "SYNTAX" {
+        return line.to_string();
+    }
+    let column = 1 + text[..place.unwrap()].chars().count();
+    let parts = line.split_once(&format!(" at column {column}"));
+    let (front, rest) = parts.expect(line);
+    format!("{front}{rest}")
 }
 
 /// The names of the helps, in the order of their numbers. The list is made by
