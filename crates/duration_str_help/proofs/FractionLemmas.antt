@@ -1,10 +1,8 @@
 -- Lemmas about numbers with a fraction.
-use Rattle.duration_str_help.proofs.Common.{append_assoc, IsAscii-from_digits, cases_lt, is_blank, IsCharBoundary, IsCharBoundary-at_seam, IsCharBoundary-start, IsUtf8, IsUtf8-append, IsUtf8-drop, IsUtf8-from_ascii, length-append, length-take-le, take-append-drop, [], ap, arith, Bool, cases_Bool, drop, drop-cons, false, false_from_ne_true, find, fits, get_or, inl, inr, is_digit, IsTrue, length, length-drop, List, list_all, ne_eqb, None, number_after, number_of, pow-suc, refl, Some, suc, sym, take, TimeUnit, true, u64_from, units, zero, nat_tests, ℕ, ◌%◌, ◌&&◌, ◌*◌, ◌++◌, ◌+◌, ◌-◌, ◌/◌, ◌<◌, ◌^◌, ◌∙◌, ◌∷◌, ◌≡◌, ◌≢◌, ◌≤◌}
+use Rattle.duration_str_help.proofs.Common.{append_assoc, IsAscii-from_digits, cases_lt, is_blank, IsCharBoundary, IsCharBoundary-at_seam, IsCharBoundary-start, IsUtf8, IsUtf8-append, IsUtf8-drop, IsUtf8-from_ascii, length-append, length-take-le, take-append-drop, [], ap, arith, Bool, cases_Bool, drop, drop-cons, false, false_from_ne_true, find, fits, get_or, inl, inr, is_digit, IsTrue, length, length-drop, List, list_all, ne_eqb, None, number_after, number_of, pow-suc, rank_of, refl, Some, suc, sym, table_of, take, TimeUnit, true, u64_from, units, zero, nat_tests, ℕ, ◌%◌, ◌*◌, ◌++◌, ◌+◌, ◌-◌, ◌/◌, ◌<◌, ◌==◌, ◌^◌, ◌∙◌, ◌∷◌, ◌≡◌, ◌≢◌, ◌≤◌}
 use Rattle.std.proofs.lemmas.Str.{IsCharBoundary-after_ascii}
 use Rattle.std.specs.Str.{IsAscii}
 use Rattle.std.proofs.Math.Nat.{div-lt_iff_lt-mul, le-div_iff_mul-le, le-mul_of_pos_right, mul-add-mod_self_right, mul-div_cancel, mul-mod_left, mul_assoc, mul_comm, pow-le-pow_right}
-use Rattle.std.proofs.Common.{nat_le}
-use Rattle.std.proofs.lemmas.Bool.{lt-leb}
 use Rattle.std.proofs.lemmas.List.{get_or-drop}
 use Rattle.std.proofs.lemmas.List.Folds.{list_all_at}
 use Rattle.std.proofs.lemmas.Nat.{div-add-mod', pow-add}
@@ -12,6 +10,9 @@ use Rattle.std.specs.List.{prefix_len}
 use Rattle.duration_str_help.specs.Fraction.{end_run, is_whole_in, nanos_of_fraction, Table, whole_quotient}
 use Rattle.duration_str_help.proofs.MendedBytes.{EndParts, end_parts}
 use Rattle.duration_str_base.proofs.NumberLemmas.{decimal_digits, number_after-append, number_after-is}
+use Rattle.duration_str_base.proofs.UnitLemmas.{each_unit}
+use Rattle.duration_str_base.specs.declared.table.UnitTable.{UnitTable}
+use Rattle.duration_str_base.specs.declared.table.UnitTable.TheVariants.{Humantime, More, Own}
 
 -- ---- Runs of bytes
 
@@ -261,27 +262,37 @@ module _ (whole decimals : List ℕ) (u : ℕ) where
 
 -- ---- The longest unit in which a number is whole
 
-module _ (table : Table) (u : TimeUnit) (nanos n len : ℕ) (d : TimeUnit) where
-  skips : n < length units → is_whole_in table u nanos (get_or units n d) ≡ false
-      → find (is_whole_in table u nanos) (drop n units) ≡ find (is_whole_in table u nanos) units
-      → find (is_whole_in table u nanos) (drop (n + 1) units) ≡ find (is_whole_in table u nanos) units
-  skips within fails held =
+-- whether the nanoseconds are a whole number of the unit
+abbrev pub divides : Table → ℕ → TimeUnit → Bool
+divides table nanos v = nanos % (table v).nanos == 0
+
+pub from_rank : (u : TimeUnit) → take (11 - rank_of u) (drop (rank_of u) units) ≡ drop (rank_of u) units
+from_rank = each_unit (λ u. take (11 - rank_of u) (drop (rank_of u) units) ≡ drop (rank_of u) units) assumption
+
+module _ (nanos : ℕ) where
+  -- From a unit on, no unit is longer than it. All units before it are.
+  pub none_longer : (t : UnitTable) (u : TimeUnit)
+      → find (divides (table_of t) nanos) (drop (rank_of u) units) ≡ find (is_whole_in (table_of t) u nanos) units
+  none_longer Own = each_unit (λ u. find (divides (table_of Own) nanos) (drop (rank_of u) units) ≡ find (is_whole_in (table_of Own) u nanos) units) assumption
+  none_longer More = each_unit (λ u. find (divides (table_of More) nanos) (drop (rank_of u) units) ≡ find (is_whole_in (table_of More) u nanos) units) assumption
+  none_longer Humantime = each_unit (λ u. find (divides (table_of Humantime) nanos) (drop (rank_of u) units) ≡ find (is_whole_in (table_of Humantime) u nanos) units) assumption
+
+module _ (table : Table) (some : List TimeUnit) (nanos n len : ℕ) (d : TimeUnit) where
+  pub skips_rest : n < length some → len ≡ (table (get_or some n d)).nanos → (nanos % len ≡ 0 → ⊥)
+      → find (divides table nanos) (drop n some) ≡ find (divides table nanos) some
+      → find (divides table nanos) (drop (n + 1) some) ≡ find (divides table nanos) some
+  skips_rest within is other held =
       let next : n + 1 ≡ suc n = omega arith in
-      let here : find (is_whole_in table u nanos) (drop n units) ≡ find (is_whole_in table u nanos) (drop (suc n) units) =
-      rw (drop-cons units n d within, fails) refl in
+      let fails : divides table nanos (get_or some n d) ≡ false = rw (← is) (ne_eqb (nanos % len) 0 other) in
+      let here : find (divides table nanos) (drop n some) ≡ find (divides table nanos) (drop (suc n) some) =
+      rw (drop-cons some n d within, fails) refl in
       rw next (sym here ∙ held)
 
-  pub skips_rest : n < length units → len ≡ (table (get_or units n d)).nanos → (nanos % len ≡ 0 → ⊥)
-      → find (is_whole_in table u nanos) (drop n units) ≡ find (is_whole_in table u nanos) units
-      → find (is_whole_in table u nanos) (drop (n + 1) units) ≡ find (is_whole_in table u nanos) units
-  skips_rest within is other held =
-      skips within (rw (← is, ne_eqb (nanos % len) 0 other) (and_false (nat_le len (table u).nanos))) held
-    where
-      and_false : (b : Bool) → (b && false) ≡ false
-      and_false true = refl
-      and_false false = refl
-
-  pub skips_long : n < length units → len ≡ (table (get_or units n d)).nanos → (table u).nanos < len
-      → find (is_whole_in table u nanos) (drop n units) ≡ find (is_whole_in table u nanos) units
-      → find (is_whole_in table u nanos) (drop (n + 1) units) ≡ find (is_whole_in table u nanos) units
-  skips_long within is longer held = skips within (rw (← is, lt-leb len (table u).nanos longer) refl) held
+  pub finds_here : n < length some → len ≡ (table (get_or some n d)).nanos → nanos % len ≡ 0
+      → find (divides table nanos) (drop n some) ≡ find (divides table nanos) some
+      → find (divides table nanos) some ≡ Some (get_or some n d)
+  finds_here within is whole held =
+      let passes : divides table nanos (get_or some n d) ≡ true = rw (← is, whole) refl in
+      let here : find (divides table nanos) (drop n some) ≡ Some (get_or some n d) =
+      rw (drop-cons some n d within, passes) refl in
+      sym held ∙ here

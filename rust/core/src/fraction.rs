@@ -168,9 +168,9 @@ fn as_term(table: UnitTable, unit: TimeUnit, nanos: u64) -> Suggestion {
 }
 
 fn longest_whole(table: UnitTable, unit: TimeUnit, nanos: u64) -> TimeUnit {
-    for longest in &UNITS {
-        let length = table.nanos(*longest);
-        if length <= table.nanos(unit) && nanos % length == 0 {
+    // No unit from this one on is longer than it.
+    for longest in &UNITS[unit.rank()..] {
+        if nanos % table.nanos(*longest) == 0 {
             return *longest;
         }
     }
