@@ -1,2 +1,3 @@
--- Definitions for contracts between the library's crates: what is replaced.
+-- Definitions for contracts inside the library: what is replaced, and words of a help.
 pub mod Mends
+pub mod Words

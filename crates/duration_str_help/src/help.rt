@@ -1,15 +1,18 @@
 //! The help for a refusal: what a user may have meant, or should write instead.
-ghost use Rattle.std.specs.Prelude.{◌≡◌, ◌≤◌, ◌+◌, ◌-◌, ◌==◌, ◌||◌, slice_index, length, map, encode_utf8_all, None, Some, if◌then◌else◌};
+ghost use Rattle.std.specs.Prelude.{◌≡◌, ◌≤◌, ◌+◌, ◌-◌, ◌++◌, ◌==◌, ◌||◌, slice_index, length, take, map, encode_utf8_all, None, Some, if◌then◌else◌};
 ghost use Rattle.std.specs.Char.{to_ascii_lowercase};
 ghost use Rattle.std.specs.List.{list_all};
 ghost use Rattle.std.specs.Str.{chars, bytes_eq, IsCharBoundary};
+ghost use Rattle.duration_str_base.specs.Buffers.{IsInFront};
 ghost use Rattle.duration_str_base.specs.Text.{is_blank, is_digit};
 ghost use Rattle.duration_str_base.specs.Internal.Positions.{ahead};
 ghost use Rattle.duration_str_help.specs.Help.{is_letter, is_like, first_piece, begins_with_letter, near_unit, unit_help, first_help, digit_help, sign_help, help_at, help_name, missing_unit_help, is_unknown_unit, syntax_help, overflow_help, help_number, help_words};
+ghost use Rattle.duration_str_help.specs.Internal.Words.{fixed_words};
 ghost use Rattle.duration_str_help.specs.declared.help.Help.TheVariants.{DidYouMean};
 
 use crate::characters::is_letter;
 use duration_str_base::blank::is_blank;
+use duration_str_base::buffer::put;
 use duration_str_base::cause::Expected;
 use duration_str_base::more_names;
 use duration_str_base::more_names::added_unit;
@@ -367,12 +370,50 @@ fn byte_at(bytes: &[u8], index: usize) -> u8
     bytes.get(index).copied().unwrap_or(0)
 }
 
-/// Returns the words with which a help ends the line.
-pub fn help_words(help: Help) -> &'static str
-    ensures { result.now ≡ help_words help }
+/// Writes the words with which a help ends the line after the first `at` bytes of the buffer.
+/// Returns where they end, or `None` if there is no room for them.
+pub fn put_help_words(buffer: &mut [u8], at: usize, help: Help) -> Option<usize>
+    requires { at ≤ length buffer.old }
+    ensures { IsInFront (take at buffer.old ++ help_words help) result buffer.new }
 {
     match help {
-        Help::DidYouMean(unit) => near_words(unit),
+        Help::DidYouMean(unit) => put_near_words(buffer, at, unit),
+        other => put(buffer, at, fixed_words(other).as_bytes()),
+    }
+}
+
+/// Writes the words of `DidYouMean`. It is not inline, so that the words of other helps take less
+/// time.
+#[inline(never)]
+fn put_near_words(buffer: &mut [u8], at: usize, unit: TimeUnit) -> Option<usize>
+    requires { at ≤ length buffer.old }
+    ensures { IsInFront (take at buffer.old ++ help_words (DidYouMean unit)) result buffer.new }
+{
+    let name = put(buffer, at, b" (did you mean \"")?;
+    let end = put_name(buffer, name, unit)?;
+    put(buffer, end, b"\"?)")
+}
+
+/// Writes a unit's name after the first `at` bytes of the buffer. It is that of `help_name`, but
+/// from the table of printed names, which every program has that reads.
+#[inline(never)]
+pub fn put_name(buffer: &mut [u8], at: usize, unit: TimeUnit) -> Option<usize>
+    requires { at ≤ length buffer.old }
+    ensures { IsInFront (take at buffer.old ++ encode_utf8_all (help_name unit)) result buffer.new }
+{
+    if let TimeUnit::MicroSecond = unit {
+        return put(buffer, at, b"us");
+    }
+    let row = unit.printed();
+    put(buffer, at, &row.letters[..usize::from(row.width)])
+}
+
+/// Returns the words of a help. For `DidYouMean`, whose words name a unit, it returns none.
+fn fixed_words(help: Help) -> &'static str
+    ensures { result.now ≡ fixed_words help }
+{
+    match help {
+        Help::DidYouMean(_) => "",
         Help::Units => " (write y, q, mon, w, d, h, min, s, ms, us or ns)",
         Help::Fraction => " (numbers have digits only)",
         Help::DigitsOnly => " (numbers have digits only)",
@@ -388,23 +429,5 @@ pub fn help_words(help: Help) -> &'static str
         Help::MissingUnit => " (write the number's unit: y, q, mon, w, d, h, min, s, ms, us or ns)",
         Help::Zero => " (write 0s)",
         Help::LargeNumber => " (write the number's unit, such as ns)",
-    }
-}
-
-fn near_words(unit: TimeUnit) -> &'static str
-    ensures { result.now ≡ help_words (DidYouMean unit) }
-{
-    match unit {
-        TimeUnit::Year => r#" (did you mean "y"?)"#,
-        TimeUnit::Quarter => r#" (did you mean "q"?)"#,
-        TimeUnit::Month => r#" (did you mean "mon"?)"#,
-        TimeUnit::Week => r#" (did you mean "w"?)"#,
-        TimeUnit::Day => r#" (did you mean "d"?)"#,
-        TimeUnit::Hour => r#" (did you mean "h"?)"#,
-        TimeUnit::Minute => r#" (did you mean "min"?)"#,
-        TimeUnit::Second => r#" (did you mean "s"?)"#,
-        TimeUnit::MilliSecond => r#" (did you mean "ms"?)"#,
-        TimeUnit::MicroSecond => r#" (did you mean "us"?)"#,
-        TimeUnit::NanoSecond => r#" (did you mean "ns"?)"#,
     }
 }

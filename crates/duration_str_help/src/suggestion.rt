@@ -4,8 +4,8 @@ ghost use Rattle.duration_str_base.specs.Buffers.{IsInFront};
 ghost use Rattle.duration_str_help.specs.Mends.{suggestion_text, unit_text};
 ghost use Rattle.duration_str_help.specs.declared.suggestion.TheConstants.{MAX_SUGGESTION_LEN};
 
-use crate::help::help_name;
-use duration_str_base::buffer::{put, put_decimal};
+use crate::help::{help_name, put_name};
+use duration_str_base::buffer::put_decimal;
 use duration_str_base::unit::TimeUnit;
 
 /// No text that `Suggestion::write` returns has more bytes than this.
@@ -88,7 +88,10 @@ pub fn put_suggestion(buffer: &mut [u8], at: usize, suggestion: Suggestion) -> O
         Some(count) => put_decimal(buffer, at, count)?,
         None => at,
     };
-    put(buffer, end, suggestion.name().as_bytes())
+    match suggestion.unit {
+        Some(unit) => put_name(buffer, end, unit),
+        None => Some(end),
+    }
 }
 
 /// What is replaced, from byte `start` to byte `end` of a text, and what is written instead.

@@ -36,7 +36,7 @@ use duration_str_base::rules::Rules;
 use duration_str_base::slice::chars_before;
 use duration_str_help::characters::is_clear;
 use duration_str_help::fraction::fraction_replacement;
-use duration_str_help::help::{Found, Help, MOST_SHOWN, found_at, help_words, overflow_help};
+use duration_str_help::help::{Found, Help, MOST_SHOWN, found_at, overflow_help, put_help_words};
 use duration_str_help::suggestion::{Suggestion, put_suggestion};
 
 /// No fault's line has more bytes than this.
@@ -285,7 +285,7 @@ fn put_help(buffer: &mut [u8], at: usize, help: Option<Help>) -> Option<usize>
     ensures { IsInFront (take at buffer.old ++ help_end help None) result buffer.new }
 {
     match help {
-        Some(help) => put_text(buffer, at, help_words(help)),
+        Some(help) => put_help_words(buffer, at, help),
         None => Some(at),
     }
 }

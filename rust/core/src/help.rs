@@ -3,6 +3,7 @@
 
 use crate::characters::is_letter;
 use crate::blank::is_blank;
+use crate::buffer::put;
 use crate::cause::Expected;
 use crate::more_names;
 use crate::more_names::added_unit;
@@ -305,10 +306,39 @@ fn byte_at(bytes: &[u8], index: usize) -> u8 {
     bytes.get(index).copied().unwrap_or(0)
 }
 
-/// Returns the words with which a help ends the line.
-pub(crate) fn help_words(help: Help) -> &'static str {
+/// Writes the words with which a help ends the line after the first `at` bytes of the buffer.
+/// Returns where they end, or `None` if there is no room for them.
+pub(crate) fn put_help_words(buffer: &mut [u8], at: usize, help: Help) -> Option<usize> {
     match help {
-        Help::DidYouMean(unit) => near_words(unit),
+        Help::DidYouMean(unit) => put_near_words(buffer, at, unit),
+        other => put(buffer, at, fixed_words(other).as_bytes()),
+    }
+}
+
+/// Writes the words of `DidYouMean`. It is not inline, so that the words of other helps take less
+/// time.
+#[inline(never)]
+fn put_near_words(buffer: &mut [u8], at: usize, unit: TimeUnit) -> Option<usize> {
+    let name = put(buffer, at, b" (did you mean \"")?;
+    let end = put_name(buffer, name, unit)?;
+    put(buffer, end, b"\"?)")
+}
+
+/// Writes a unit's name after the first `at` bytes of the buffer. It is that of `help_name`, but
+/// from the table of printed names, which every program has that reads.
+#[inline(never)]
+pub(crate) fn put_name(buffer: &mut [u8], at: usize, unit: TimeUnit) -> Option<usize> {
+    if let TimeUnit::MicroSecond = unit {
+        return put(buffer, at, b"us");
+    }
+    let row = unit.printed();
+    put(buffer, at, &row.letters[..usize::from(row.width)])
+}
+
+/// Returns the words of a help. For `DidYouMean`, whose words name a unit, it returns none.
+fn fixed_words(help: Help) -> &'static str {
+    match help {
+        Help::DidYouMean(_) => "",
         Help::Units => " (write y, q, mon, w, d, h, min, s, ms, us or ns)",
         Help::Fraction => " (numbers have digits only)",
         Help::DigitsOnly => " (numbers have digits only)",
@@ -324,21 +354,5 @@ pub(crate) fn help_words(help: Help) -> &'static str {
         Help::MissingUnit => " (write the number's unit: y, q, mon, w, d, h, min, s, ms, us or ns)",
         Help::Zero => " (write 0s)",
         Help::LargeNumber => " (write the number's unit, such as ns)",
-    }
-}
-
-fn near_words(unit: TimeUnit) -> &'static str {
-    match unit {
-        TimeUnit::Year => r#" (did you mean "y"?)"#,
-        TimeUnit::Quarter => r#" (did you mean "q"?)"#,
-        TimeUnit::Month => r#" (did you mean "mon"?)"#,
-        TimeUnit::Week => r#" (did you mean "w"?)"#,
-        TimeUnit::Day => r#" (did you mean "d"?)"#,
-        TimeUnit::Hour => r#" (did you mean "h"?)"#,
-        TimeUnit::Minute => r#" (did you mean "min"?)"#,
-        TimeUnit::Second => r#" (did you mean "s"?)"#,
-        TimeUnit::MilliSecond => r#" (did you mean "ms"?)"#,
-        TimeUnit::MicroSecond => r#" (did you mean "us"?)"#,
-        TimeUnit::NanoSecond => r#" (did you mean "ns"?)"#,
     }
 }

@@ -17,7 +17,7 @@ use crate::rules::Rules;
 use crate::slice::chars_before;
 use crate::characters::is_clear;
 use crate::fraction::fraction_replacement;
-use crate::help::{Found, Help, MOST_SHOWN, found_at, help_words, overflow_help};
+use crate::help::{Found, Help, MOST_SHOWN, found_at, overflow_help, put_help_words};
 use crate::suggestion::{Suggestion, put_suggestion};
 
 /// No fault's line has more bytes than this.
@@ -215,7 +215,7 @@ fn put_text_problem(buffer: &mut [u8], problem: &str, text: &str) -> Option<usiz
 #[inline(always)]
 fn put_help(buffer: &mut [u8], at: usize, help: Option<Help>) -> Option<usize> {
     match help {
-        Some(help) => put_text(buffer, at, help_words(help)),
+        Some(help) => put_help_words(buffer, at, help),
         None => Some(at),
     }
 }

@@ -1,8 +1,8 @@
 // Made by tools/erase of crates/duration_str_help/src/suggestion.rt.
 //! What to write in place of a part of a refused text.
 
-use crate::help::help_name;
-use crate::buffer::{put, put_decimal};
+use crate::help::{help_name, put_name};
+use crate::buffer::put_decimal;
 use crate::unit::TimeUnit;
 
 /// No text that `Suggestion::write` returns has more bytes than this.
@@ -74,7 +74,10 @@ pub(crate) fn put_suggestion(buffer: &mut [u8], at: usize, suggestion: Suggestio
         Some(count) => put_decimal(buffer, at, count)?,
         None => at,
     };
-    put(buffer, end, suggestion.name().as_bytes())
+    match suggestion.unit {
+        Some(unit) => put_name(buffer, end, unit),
+        None => Some(end),
+    }
 }
 
 /// What is replaced, from byte `start` to byte `end` of a text, and what is written instead.
