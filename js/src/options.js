@@ -2,7 +2,7 @@ import { NAMES, OPTIONS, UNITS } from "./lists.js";
 
 /** The bits of two options */
 const NO_CALC = 1;
-const REQUIRE_UNIT = 8;
+export const REQUIRE_UNIT = 8;
 /** From this bit on, the options hold the default unit's number plus 1, or 0 for the second. */
 const DEFAULT_UNIT = 16;
 /** A bit that the library doesn't know: a default unit is named, so numbers are read. */
@@ -30,32 +30,40 @@ export function checkPlain(options, hint = "") {
 
 export const unknown = (name) => new TypeError(`unknown option: ${name}`);
 
-/** The number of the unit that has this name if all options are off. `what` describes the value in
- * errors. */
-export function unitOf(what, name) {
-    if (typeof name !== "string") {
-        throw new TypeError(`${what} must be a string, not ${typeOf(name)}`);
-    }
+/** The number of the unit that has this name if all options are off, or -1. It is looked up in
+ * lists. What reads asks the library in place of it, so that a bundle that only reads contains no
+ * lists of names. */
+export function listedUnit(name) {
     const printed = UNITS.indexOf(name);
     if (printed >= 0) return printed;
     // `toLowerCase` alone makes a k of the Kelvin sign, too.
     const small = name.replace(/[A-Z]/g, (letter) => letter.toLowerCase());
-    const unit = NAMES.findIndex((names) => names.split(" ").includes(small));
+    return NAMES.findIndex((names) => names.split(" ").includes(small));
+}
+
+/** The number of the unit that has this name, which `find` returns. `what` describes the value in
+ * errors. */
+export function unitOf(what, name, find) {
+    if (typeof name !== "string") {
+        throw new TypeError(`${what} must be a string, not ${typeOf(name)}`);
+    }
+    const unit = find(name);
     if (unit >= 0) return unit;
     // Many keyboards have no µ, and the Greek μ looks like it.
     const listed = UNITS.join(", ").replace("µs", "µs or us");
     throw new RangeError(`${what} must be one of ${listed}, not ${name}`);
 }
 
-function defaultUnitBits(name) {
+function defaultUnitBits(name, find) {
     if (name === undefined) return 0;
-    const unit = unitOf("the option defaultUnit", name);
+    const unit = unitOf("the option defaultUnit", name, find);
     if (UNITS[unit] === "s") return READS_NUMBERS;
     return READS_NUMBERS | NO_CALC | (unit + 1) << DEFAULT_UNIT;
 }
 
-export function bitsOf(options) {
-    if (options === undefined) return 0;
+/** The bits of the options for reading. `find` is `listedUnit`, or a function that returns the
+ * same. */
+export function bitsOf(options, find) {
     // `map` passes the index as the second argument.
     checkPlain(options, ": write (text) => parse(text)");
     let bits = 0;
@@ -65,7 +73,7 @@ export function bitsOf(options) {
         const name = names[index];
         const value = options[name];
         if (name === "defaultUnit") {
-            bits |= defaultUnitBits(value);
+            bits |= defaultUnitBits(value, find);
             continue;
         }
         const number = OPTIONS.indexOf(name);

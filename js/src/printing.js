@@ -1,7 +1,7 @@
 // `printer` comes from compiled.js or from plain.js.
 import { printer } from "modules";
 import { ROUNDINGS, STYLES, UNITS } from "./lists.js";
-import { checkPlain, typeOf, unitOf, unknown } from "./options.js";
+import { checkPlain, listedUnit, typeOf, unitOf, unknown } from "./options.js";
 
 // The constants here are not computed: esbuild drops only such constants from a bundle that prints
 // nothing.
@@ -78,7 +78,9 @@ function unitsOf(names) {
     }
     if (names.length === 0) throw new RangeError("the option units must name a unit");
     let units = 0;
-    for (const name of names) units |= 1 << unitOf("a unit of the option units", name);
+    for (const name of names) {
+        units |= 1 << unitOf("a unit of the option units", name, listedUnit);
+    }
     return units;
 }
 
@@ -103,8 +105,8 @@ function countOf(parts) {
 function unitsLeft({ units, largest, smallest }, all, longest) {
     const wanted = units === undefined ? all : unitsOf(units);
     if (largest === undefined) largest = units === undefined ? longest : "y";
-    const first = unitOf("the option largest", largest);
-    const last = unitOf("the option smallest", smallest);
+    const first = unitOf("the option largest", largest, listedUnit);
+    const last = unitOf("the option smallest", smallest, listedUnit);
     if (first > last) {
         const why = `the largest unit, ${largest}, is shorter than the smallest, ${smallest}`;
         throw new RangeError(why);

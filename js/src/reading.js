@@ -1,7 +1,7 @@
 // `reader` comes from compiled.js or from plain.js.
 import { reader } from "modules";
 import { CODES, UNITS } from "./lists.js";
-import { bitsOf, READS_NUMBERS, typeOf } from "./options.js";
+import { bitsOf, READS_NUMBERS, REQUIRE_UNIT, typeOf } from "./options.js";
 import { DurationError, Fault } from "./refusals.js";
 
 /** The size of a page in bytes, by which a memory of WebAssembly grows. */
@@ -116,11 +116,21 @@ function digitsOf(value, bits) {
     throw new RangeError(`a number must be below 2^53, or a bigint, not ${value}`);
 }
 
+const lengthOf = (name) => readText(`1${name}`, REQUIRE_UNIT);
+
+/** The number of the unit that the library reads for this name if all options are off, or -1. */
+function unitRead(name) {
+    // After a number, other characters could be read too, such as in `1h*2`.
+    if (!/^[a-zµ]+$/i.test(name)) return -1;
+    const length = lengthOf(name);
+    return UNITS.findIndex((unit) => lengthOf(unit) === length);
+}
+
 /** Returns the milliseconds, or the fault. */
 function read(value, options) {
     const isText = typeof value === "string";
     if (!isText && typeof value !== "number" && typeof value !== "bigint") throw notText(value);
-    const bits = bitsOf(options);
+    const bits = options === undefined ? 0 : bitsOf(options, unitRead);
     return readText(isText ? value : digitsOf(value, bits), bits & ~READS_NUMBERS);
 }
 

@@ -65,7 +65,7 @@ test("the schema has the patterns of these options", () => {
 });
 
 test("the pattern with another default unit is the one without operators", () => {
-    for (const defaultUnit of ["ms", "days", "MIN", "y"]) {
+    for (const defaultUnit of ["ms", "minutes", "days", "MIN", "y"]) {
         assert.equal(pattern({ defaultUnit }), pattern({ noCalc: true }));
         assert.equal(
             pattern({ defaultUnit, lowercase: true, cnUnit: true }),
