@@ -1,3 +1,4 @@
+pub mod OptionLemmas
 pub mod ResultRows
 pub mod Rows
 pub mod UnitLemmas

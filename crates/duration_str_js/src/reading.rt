@@ -4,7 +4,7 @@ ghost use Rattle.std.specs.Str.{chars};
 ghost use Rattle.duration_str_refusals.specs.Faults.{found_token};
 ghost use Rattle.duration_str_base.specs.Causes.{place_of};
 ghost use Rattle.duration_str_base.specs.Meaning.{meaning_of};
-ghost use Rattle.duration_str_reading.specs.Reading.{IsRead};
+ghost use Rattle.duration_str_reading.specs.Reading.{IsRead, IsRefused};
 ghost use Rattle.duration_str_help.specs.Mends.{mend_of, suggestion_of};
 ghost use Rattle.duration_str_js.specs.Reading.{IsReported, bits_of, cause_number, count_of, default_unit_of_bits, expected_bits, has_count, length_of, number_of, options_of_bits, place_number, refusal_of, rules_of_bits, start_number, token_length, unit_number};
 
@@ -89,7 +89,7 @@ pub fn read<'b>(
     match parse_nanos_specialized(text, rules) {
         Ok(nanos) => Ok(nanos),
         Err(fault) => {
-            *refusal = refusal_of(&fault, rules, options_of_bits(bits));
+            *refusal = refusal_of(&fault, rules);
             Err(fault.write_report(rules, buffer))
         }
     }
@@ -129,16 +129,17 @@ fn default_unit_of_bits(bits: u32) -> Option<TimeUnit>
     UNITS.get(number as usize - 1).copied()
 }
 
-fn refusal_of(fault: &Fault<'_>, rules: Rules, options: Options) -> Refusal
+fn refusal_of(fault: &Fault<'_>, rules: Rules) -> Refusal
+    requires { IsRefused (meaning_of rules) (chars fault.now.text.now) fault.now.cause }
     ensures { result
-        ≡ refusal_of (meaning_of rules) options fault.now.text.now fault.now.cause }
+        ≡ refusal_of (meaning_of rules) rules.options fault.now.text.now fault.now.cause }
 {
     let cause = fault.cause();
     let replacement = replacement_of(fault, rules);
     Refusal {
         count: count_of(replacement.suggestion),
         place: place_number(fault),
-        found_length: found_length(fault, options),
+        found_length: found_length(fault, rules),
         cause: cause_number(cause),
         expected: expected_bits(cause),
         help: number_of(fault.help()),
@@ -160,14 +161,12 @@ fn place_number(fault: &Fault<'_>) -> isize
     }
 }
 
-fn found_length(fault: &Fault<'_>, options: Options) -> usize
+fn found_length(fault: &Fault<'_>, rules: Rules) -> usize
+    requires { IsRefused (meaning_of rules) (chars fault.now.text.now) fault.now.cause }
     ensures { result ≡ token_length
-        (found_token options (chars fault.now.text.now) fault.now.cause) }
+        (found_token rules.options (chars fault.now.text.now) fault.now.cause) }
 {
-    match fault.found(options) {
-        Some(token) => token.len(),
-        None => 0,
-    }
+    fault.run_len(rules.options)
 }
 
 /// The part of a refused text to replace, and what to write instead.

@@ -6,4 +6,5 @@ pub mod OneLineLemmas
 pub mod ReportLemmas
 pub mod ResultRows
 pub mod Rows
+pub mod RunLemmas
 pub mod SinkLemmas

@@ -1,5 +1,7 @@
 -- Examples that were worked out by hand, and are computed here, such as the texts of faults.
 use Rattle.duration_str_refusals.proofs.Common.{[], Cause, codes, Empty, encode_utf8_all, false, List, map, message_of, Mixed, None, NotText, NumberTooLarge, off, OutOfRange, Overflow, Plus, refl, replicate, rules_of, Some, Star, Syntax, true, ℕ, ◌++◌, ◌∷◌, ◌≡◌}
+use Rattle.duration_str_base.specs.declared.options.Options.{Options}
+use Rattle.duration_str_refusals.specs.Faults.{run_at}
 use Rattle.duration_str_refusals.specs.OneLine.{one_line_of, reason_of}
 use Rattle.duration_str_refusals.specs.Report.{is_wide, report_of}
 use Rattle.duration_str_base.proofs.Samples.{after_number, after_number-no_calc, after_unit, after_unit-no_calc, number_alone, unit_alone}
@@ -274,3 +276,21 @@ reports = assumption
 
 pub wide : map is_wide (0xB5 ∷ 0x2E7F ∷ 0x2E80 ∷ 0x5206 ∷ []) ≡ false ∷ false ∷ true ∷ true ∷ []
 wide = refl
+
+-- ---- The run at the place of a fault
+
+abbrev chinese : Options
+chinese = record off { cn_unit = true }
+
+pub record Runs : Type 0 where
+  pub run-digits : run_at off (codes "3+-12a") (Syntax 3 number_alone) ≡ codes "12"
+  pub run-letters : run_at off (codes "1h 30mints+") (Syntax 5 after_number) ≡ codes "mints"
+  pub run-other : run_at off (codes "3--") (Syntax 1 after_number) ≡ codes "-"
+  pub run-no_letter : run_at off (encode_utf8_all (codes "1分x")) (Syntax 1 after_number) ≡ codes "分"
+  pub run-chinese : run_at chinese (encode_utf8_all (codes "1分x")) (Syntax 1 after_number) ≡ codes "分x"
+  pub run-end : run_at off (codes "3+") (Syntax 2 number_alone) ≡ []
+  pub run-no_syntax : run_at off (codes "600y") (Overflow (Some 0)) ≡ []
+
+pub runs : Runs
+unfolding chars encode
+runs = assumption

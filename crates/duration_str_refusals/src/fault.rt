@@ -2,16 +2,19 @@
 ghost use Rattle.std.specs.Prelude.{◌≡◌, ◌<◌, ◌≤◌, ◌++◌, ℕ, IfSome, option_map};
 ghost use Rattle.std.specs.Option.{ForSome};
 ghost use Rattle.std.specs.Str.{IsCharBoundary, chars};
-ghost use Rattle.duration_str_refusals.specs.Faults.{IsSliceOf, found_token, token_at};
+ghost use Rattle.duration_str_refusals.specs.Faults.{IsSliceOf, first_run, found_token, run_at, token_at};
 ghost use Rattle.duration_str_help.specs.Help.{help_of};
 ghost use Rattle.duration_str_help.specs.Internal.Mends.{IsCutOut};
 ghost use Rattle.duration_str_help.specs.Mends.{HasPieces, replacement_of, mend_of, suggestion_of};
 ghost use Rattle.duration_str_base.specs.Causes.{place_of};
 ghost use Rattle.duration_str_base.specs.Meaning.{meaning_of};
+ghost use Rattle.duration_str_base.specs.Text.{byte_len};
 ghost use Rattle.duration_str_reading.specs.Iteration.{tokens_left, source};
+ghost use Rattle.duration_str_reading.specs.Tokens.{are_of_one_run};
 
 use duration_str_base::cause::Cause;
 use duration_str_base::options::Options;
+use duration_str_base::packed::is_unit_letter;
 use duration_str_base::rules::Rules;
 use duration_str_base::slice::range_from;
 use duration_str_help::help::{Help, found_at, overflow_help};
@@ -38,7 +41,7 @@ pub struct Fault<'a> {
 }
 
 impl<'a> Fault<'a> {
-    ghost use Rattle.duration_str_refusals.specs.Faults.{IsMissingAtEnd};
+    ghost use Rattle.duration_str_refusals.specs.Faults.{IsMissingAtEnd, IsTokenLen};
 
     /// Returns the whole refused text. For the cause `NotText` it is empty.
     ///
@@ -91,6 +94,28 @@ impl<'a> Fault<'a> {
         // the place on.
         let from = last_boundary(self.text, place.saturating_sub(1));
         token_at(Tokens::new(range_from(self.text, from), o), place - from)
+    }
+
+    /// Returns the length in bytes of the longest run of digits, or of unit letters under these
+    /// options, that starts at the place of a syntax fault. Any other character there is a run of
+    /// its own. The length is 0 at the end of the text, or if the cause is not `Syntax`.
+    ///
+    /// If these are the options under which the text was read, this is the length of what `found`
+    /// returns, or 0 for `None`. This call contains no tokenizer, so a program that calls it in
+    /// place of `found` is smaller.
+    ///
+    /// ```text
+    /// parse("1h 30mints").unwrap_err().run_len(Options::off()) // 5
+    /// ```
+    #[must_use]
+    pub fn run_len(&self, o: Options) -> usize
+        ensures run { result ≡ byte_len (run_at o self.now.text.now self.now.cause) }
+        ensures token { IsTokenLen o self.now.text.now self.now.cause result }
+    {
+        match self.cause {
+            Cause::Syntax { place, .. } => first_run_len(range_from(self.text, place), o),
+            _ => 0,
+        }
     }
 
     /// Returns the help for the fault, if any. The line of `write_one_line` ends with its words.
@@ -185,4 +210,28 @@ fn token_at<'a>(mut tokens: Tokens<'a>, place: usize) -> Option<&'a str>
         }
     }
     None
+}
+
+/// Returns how many bytes the longest run of like characters has with which a text begins.
+fn first_run_len(text: &str, o: Options) -> usize
+    ensures { result ≡ byte_len (first_run o (chars text.now)) }
+{
+    let mut chars = text.chars();
+    let Some(first) = chars.next() else {
+        return 0;
+    };
+    let mut len = first.len_utf8();
+    while let Some(c) = chars.next() {
+        if !are_of_one_run(first, c, o) {
+            break;
+        }
+        len += c.len_utf8();
+    }
+    len
+}
+
+fn are_of_one_run(first: char, c: char, o: Options) -> bool
+    ensures { result ≡ are_of_one_run o first c }
+{
+    first.is_ascii_digit() && c.is_ascii_digit() || is_unit_letter(first, o) && is_unit_letter(c, o)
 }

@@ -77,7 +77,7 @@ pub fn read<'b>(
     match parse_nanos_specialized(text, rules) {
         Ok(nanos) => Ok(nanos),
         Err(fault) => {
-            *refusal = refusal_of(&fault, rules, options_of_bits(bits));
+            *refusal = refusal_of(&fault, rules);
             Err(fault.write_report(rules, buffer))
         }
     }
@@ -111,13 +111,13 @@ fn default_unit_of_bits(bits: u32) -> Option<TimeUnit> {
     UNITS.get(number as usize - 1).copied()
 }
 
-fn refusal_of(fault: &Fault<'_>, rules: Rules, options: Options) -> Refusal {
+fn refusal_of(fault: &Fault<'_>, rules: Rules) -> Refusal {
     let cause = fault.cause();
     let replacement = replacement_of(fault, rules);
     Refusal {
         count: count_of(replacement.suggestion),
         place: place_number(fault),
-        found_length: found_length(fault, options),
+        found_length: found_length(fault, rules),
         cause: cause_number(cause),
         expected: expected_bits(cause),
         help: number_of(fault.help()),
@@ -137,11 +137,8 @@ fn place_number(fault: &Fault<'_>) -> isize {
     }
 }
 
-fn found_length(fault: &Fault<'_>, options: Options) -> usize {
-    match fault.found(options) {
-        Some(token) => token.len(),
-        None => 0,
-    }
+fn found_length(fault: &Fault<'_>, rules: Rules) -> usize {
+    fault.run_len(rules.options)
 }
 
 /// The part of a refused text to replace, and what to write instead.

@@ -1,11 +1,13 @@
-use Rattle.std.proofs.Common.{rules, ◌∙◌, sym, ap, IsUtf8}
-use Rattle.duration_str_base.specs.Text.{byte_len}
-use Rattle.duration_str_base.proofs.CharacterLemmas.{byte_count}
+use Rattle.std.proofs.Common.{None, Option, refl, Some, ◌≡◌, ◌∙◌}
+use Rattle.duration_str_base.specs.Meaning.{meaning_of}
+use Rattle.duration_str_reading.specs.Tokens.{Token}
+use Rattle.duration_str_refusals.specs.Faults.{token_len}
 use Rattle.duration_str_js.specs.Reading.{token_length}
 use Rattle.duration_str_js.proofs.reading.found_length.Goals as goal
 
-pub returns-in-Some : goal.returns-in-Some
-returns-in-Some c =
-    let (token, same, characters, at) = c.in-Some.ensures.token in
-    let utf8 : IsUtf8 c.in-Some.token.now = search rules in
-    sym (ap token_length same ∙ ap byte_len (sym characters) ∙ byte_count c.in-Some.token.now utf8)
+same_length : (token : Option Token) → token_len token ≡ token_length token
+same_length None = refl
+same_length (Some token) = refl
+
+pub returns : goal.returns
+returns c = c.run_len.ensures.token (meaning_of c.args.rules) c.requires ∙ same_length _
