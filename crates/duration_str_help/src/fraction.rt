@@ -1,5 +1,5 @@
 //! The term to write instead of a number with a fraction, such as `90min` for `1.5h`.
-ghost use Rattle.std.specs.Prelude.{◌≡◌, ◌≢◌, ◌^◌, ◌<◌, ◌≤◌, ◌+◌, ◌*◌, ◌%◌, ◌==◌, length, take, IfSome, IfNone, IsTrue};
+ghost use Rattle.std.specs.Prelude.{◌≡◌, ◌≢◌, ◌^◌, ◌<◌, ◌+◌, ◌*◌, ◌%◌, ◌==◌, length, take, IfSome, IfNone, IsTrue};
 ghost use Rattle.std.specs.List.{list_all, prefix_len};
 ghost use Rattle.std.specs.Str.{chars, IsCharBoundary};
 ghost use Rattle.duration_str_help.specs.Fraction.{as_term, end_run, longest_whole, nanos_of_fraction};

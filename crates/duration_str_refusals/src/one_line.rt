@@ -8,7 +8,7 @@
 //! Each private function that writes returns the index where its part ends, or `None` if there is
 //! no room. So no contract requires room for a part. One proof, for the whole line, shows that
 //! everything fits.
-ghost use Rattle.std.specs.Prelude.{◌≡◌, ◌≤◌, ◌<◌, ◌++◌, ◌+◌, ◌-◌, ◌&&◌, ◌==◌, not, length, take, encode_utf8_all, IsTrue, ◌||◌, None, Some, if◌then◌else◌};
+ghost use Rattle.std.specs.Prelude.{◌≡◌, ◌≤◌, ◌<◌, ◌++◌, ◌+◌, ◌-◌, ◌&&◌, ◌==◌, not, length, take, encode_utf8_all, IsTrue, ◌||◌, None, Some};
 ghost use Rattle.std.specs.Char.{digit_char};
 ghost use Rattle.std.specs.Char.Escape.{escape_unicode, short_escape};
 ghost use Rattle.std.specs.List.{list_all, list_any};
@@ -19,9 +19,7 @@ ghost use Rattle.duration_str_base.specs.Internal.Positions.{ahead};
 ghost use Rattle.duration_str_base.specs.Causes.{chars_before, place_of};
 ghost use Rattle.std.specs.Option.{ForSome};
 ghost use Rattle.std.specs.Int.{is_in_range};
-ghost use Rattle.duration_str_help.specs.declared.help.Help.TheVariants.{DidYouMean};
 ghost use Rattle.duration_str_refusals.specs.OneLine.{one_line_of, reason_of, column_of, at_column, found_problem, found_words, unknown_problem, problem_at, text_problem, overflow_words, expected_words, fraction_words, help_end};
-ghost use Rattle.duration_str_help.specs.Help.{help_words};
 ghost use Rattle.duration_str_help.specs.Quotes.{is_plain, is_clear, shown, quoted};
 ghost use Rattle.duration_str_help.specs.Help.{first_piece, is_unknown_unit, overflow_help, syntax_help};
 ghost use Rattle.duration_str_help.specs.Mends.{replacement_of};
