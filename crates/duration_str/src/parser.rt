@@ -12,7 +12,7 @@ ghost use Rattle.duration_str_base.specs.Options.{off};
 
 pub use duration_str_base::cause::{Cause, Expected};
 use duration_str_base::options::Options;
-use duration_str_base::rules::Rules;
+use duration_str_base::rules::{Rules, unit_table};
 use duration_str_base::table::UnitTable;
 use duration_str_base::unit::TimeUnit;
 use duration_str_reading::reader::read;
@@ -133,7 +133,7 @@ pub fn parse_by(input: &str, rules: Rules) -> Result<Duration, Fault<'_>>
 pub fn parse_nanos(input: &str, rules: Rules) -> Result<u64, Fault<'_>>
     ensures { Reads (meaning_of rules) input.now result }
 {
-    match rules.table {
+    match unit_table(rules) {
         UnitTable::Own => nanos_own(input, rules.options, rules.default_unit),
         UnitTable::More => nanos_more(input, rules.options, rules.default_unit),
         UnitTable::Humantime => nanos_humantime(input, rules.options, rules.default_unit),

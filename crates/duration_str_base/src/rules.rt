@@ -1,5 +1,7 @@
 //! The rules by which a text is read.
 
+ghost use Rattle.std.specs.Prelude.{◌≡◌};
+
 use crate::options::Options;
 use crate::table::UnitTable;
 use crate::unit::TimeUnit;
@@ -14,9 +16,8 @@ use crate::unit::TimeUnit;
 /// parse_by("5", RULES).unwrap_err().cause().place() // Some(1)
 /// ```
 #[derive(Clone, Copy, Debug, PartialEq, Eq)]
-#[non_exhaustive]
 pub struct Rules {
-    pub table: UnitTable,
+    table: UnitTable,
     /// The unit of a number without one, or `None` if each number needs its unit.
     pub default_unit: Option<TimeUnit>,
     /// The options.
@@ -24,7 +25,6 @@ pub struct Rules {
 }
 
 impl Rules {
-    ghost use Rattle.std.specs.Prelude.{◌≡◌};
     ghost use Rattle.duration_str_base.specs.Humantime.{humantime_rules};
     ghost use Rattle.duration_str_base.specs.Meaning.{meaning_of};
     ghost use Rattle.duration_str_base.specs.MoreNames.{more_row_of};
@@ -92,4 +92,13 @@ impl Rules {
             options: self.options,
         }
     }
+}
+
+/// Returns the table of units. The field is private, so programs can't make other rules than those
+/// that the calls of `Rules` return.
+#[inline(always)]
+pub const fn unit_table(rules: Rules) -> UnitTable
+    ensures { result ≡ rules.table }
+{
+    rules.table
 }

@@ -17,7 +17,7 @@ use duration_str_base::blank::is_blank;
 use duration_str_base::cause::Expected;
 use duration_str_base::operator::CondUnit;
 use duration_str_base::packed::packed_word;
-use duration_str_base::rules::Rules;
+use duration_str_base::rules::{Rules, unit_table};
 use duration_str_base::slice::range_from;
 use duration_str_base::table::UnitTable;
 use duration_str_base::unit::{TimeUnit, UNITS};
@@ -47,11 +47,11 @@ pub fn fraction_replacement(
     }
     let end = place + 1 + decimals.len();
     let (unit, more) = unit_ahead(range_from(text, end), rules)?;
-    let nanos = nanos_of_fraction(whole, decimals, rules.table.nanos(unit))?;
+    let nanos = nanos_of_fraction(whole, decimals, unit_table(rules).nanos(unit))?;
     Some(Replacement {
         start: place - whole.len(),
         end: end + more,
-        suggestion: as_term(rules.table, unit, nanos),
+        suggestion: as_term(unit_table(rules), unit, nanos),
     })
 }
 
@@ -130,7 +130,7 @@ fn named_unit(word: &str, rules: Rules) -> Option<TimeUnit>
     ensures { result ≡ unit_of_word (meaning_of rules) (chars word.now) }
 {
     let (packed, _) = packed_word(word, rules.options, false)?;
-    rules.table.unit_of_packed(packed)
+    unit_table(rules).unit_of_packed(packed)
 }
 
 /// Returns whether a number without a unit can stand before these bytes.

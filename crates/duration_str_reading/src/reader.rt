@@ -16,7 +16,7 @@ ghost use Rattle.duration_str_reading.specs.declared.token.TokenStart.TheVariant
 use crate::token::{TokenStart, Tokens};
 use duration_str_base::cause::{Cause, Expected};
 use duration_str_base::operator::CondUnit;
-use duration_str_base::rules::Rules;
+use duration_str_base::rules::{Rules, unit_table};
 use duration_str_base::unit::TimeUnit;
 
 /// The operator and the total of the later terms so far, or `None` if there are none, or their
@@ -38,9 +38,7 @@ pub fn read(tokens: &mut Tokens<'_>, rules: Rules) -> Result<u64, Cause>
 {
     expect_number(tokens)?;
     let number = tokens.take_number();
-    let value = rules
-        .table
-        .times(read_unit(tokens, rules)?, number, Some(0))?;
+    let value = unit_table(rules).times(read_unit(tokens, rules)?, number, Some(0))?;
     let (first, mut later) = if rules.options.no_calc {
         (0, Ok(Some((CondUnit::Plus, value))))
     } else {
@@ -154,11 +152,11 @@ fn with_term(
     unit: TimeUnit,
 ) -> Later
     requires { ForErr later IsPlaceless }
-    ensures value { result ≡ with_term later next number (table_of rules.table unit).nanos }
+    ensures value { result ≡ with_term later next number ((meaning_of rules).table unit).nanos }
     ensures placeless { IfErr result IsPlaceless }
 {
     let Some((operator, total)) = later? else {
-        return Ok(Some((next, rules.table.times(unit, number, None)?)));
+        return Ok(Some((next, unit_table(rules).times(unit, number, None)?)));
     };
     if next != operator {
         return Err(Cause::Mixed {
@@ -166,7 +164,7 @@ fn with_term(
             later: next,
         });
     }
-    let value = rules.table.times(unit, number, None)?;
+    let value = unit_table(rules).times(unit, number, None)?;
     Ok(Some((next, within(combination(next, total, value))?)))
 }
 

@@ -20,7 +20,7 @@ use duration_str_base::options::Options;
 use duration_str_base::packed::{
     MODULUS, MOST_BYTES, first_number, is_unit_letter, letter_number, with_letter,
 };
-use duration_str_base::rules::Rules;
+use duration_str_base::rules::{Rules, unit_table};
 use duration_str_base::unit::TimeUnit;
 
 /// What a token is: a number, a word with the unit that it names, if any, an operator, or another
@@ -268,7 +268,7 @@ impl<'a> Tokens<'a> {
         if self.eye.place() - start > MOST_BYTES {
             return None;
         }
-        rules.table.unit_of_packed(packed)
+        unit_table(rules).unit_of_packed(packed)
     }
 
     #[inline(always)]

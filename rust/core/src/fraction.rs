@@ -7,7 +7,7 @@ use crate::blank::is_blank;
 use crate::cause::Expected;
 use crate::operator::CondUnit;
 use crate::packed::packed_word;
-use crate::rules::Rules;
+use crate::rules::{Rules, unit_table};
 use crate::slice::range_from;
 use crate::table::UnitTable;
 use crate::unit::{TimeUnit, UNITS};
@@ -33,11 +33,11 @@ pub(crate) fn fraction_replacement(
     }
     let end = place + 1 + decimals.len();
     let (unit, more) = unit_ahead(range_from(text, end), rules)?;
-    let nanos = nanos_of_fraction(whole, decimals, rules.table.nanos(unit))?;
+    let nanos = nanos_of_fraction(whole, decimals, unit_table(rules).nanos(unit))?;
     Some(Replacement {
         start: place - whole.len(),
         end: end + more,
-        suggestion: as_term(rules.table, unit, nanos),
+        suggestion: as_term(unit_table(rules), unit, nanos),
     })
 }
 
@@ -102,7 +102,7 @@ fn meant_unit(word: &str, help: Option<Help>, rules: Rules) -> Option<TimeUnit> 
 
 fn named_unit(word: &str, rules: Rules) -> Option<TimeUnit> {
     let (packed, _) = packed_word(word, rules.options, false)?;
-    rules.table.unit_of_packed(packed)
+    unit_table(rules).unit_of_packed(packed)
 }
 
 /// Returns whether a number without a unit can stand before these bytes.

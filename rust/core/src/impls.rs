@@ -6,7 +6,7 @@ use super::fault::Fault;
 use super::format::{Format, Style};
 use super::mend::Mend;
 use super::options::Options;
-use super::rules::Rules;
+use super::rules::{Rules, unit_table};
 use super::suggestion::{SUGGESTION_BUFFER_SIZE, Suggestion};
 use super::token::Tokens;
 use super::unit::{TimeUnit, UNITS};
@@ -73,7 +73,12 @@ impl Default for Options {
 /// The `Fault` of the crate `duration-str` keeps the rules, and can be kept in a set.
 impl Hash for Rules {
     fn hash<H: Hasher>(&self, state: &mut H) {
-        (discriminant(&self.table), self.default_unit, self.options).hash(state);
+        (
+            discriminant(&unit_table(*self)),
+            self.default_unit,
+            self.options,
+        )
+            .hash(state);
     }
 }
 

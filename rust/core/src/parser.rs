@@ -3,7 +3,7 @@
 
 pub use crate::cause::{Cause, Expected};
 use crate::options::Options;
-use crate::rules::Rules;
+use crate::rules::{Rules, unit_table};
 use crate::table::UnitTable;
 use crate::unit::TimeUnit;
 use crate::reader::read;
@@ -114,7 +114,7 @@ pub fn parse_by(input: &str, rules: Rules) -> Result<Duration, Fault<'_>> {
 /// ```
 #[inline]
 pub fn parse_nanos(input: &str, rules: Rules) -> Result<u64, Fault<'_>> {
-    match rules.table {
+    match unit_table(rules) {
         UnitTable::Own => nanos_own(input, rules.options, rules.default_unit),
         UnitTable::More => nanos_more(input, rules.options, rules.default_unit),
         UnitTable::Humantime => nanos_humantime(input, rules.options, rules.default_unit),

@@ -4,7 +4,7 @@
 use crate::token::{TokenStart, Tokens};
 use crate::cause::{Cause, Expected};
 use crate::operator::CondUnit;
-use crate::rules::Rules;
+use crate::rules::{Rules, unit_table};
 use crate::unit::TimeUnit;
 
 /// The operator and the total of the later terms so far, or `None` if there are none, or their
@@ -21,9 +21,7 @@ type Later = Result<Option<(CondUnit, u64)>, Cause>;
 pub(crate) fn read(tokens: &mut Tokens<'_>, rules: Rules) -> Result<u64, Cause> {
     expect_number(tokens)?;
     let number = tokens.take_number();
-    let value = rules
-        .table
-        .times(read_unit(tokens, rules)?, number, Some(0))?;
+    let value = unit_table(rules).times(read_unit(tokens, rules)?, number, Some(0))?;
     let (first, mut later) = if rules.options.no_calc {
         (0, Ok(Some((CondUnit::Plus, value))))
     } else {
@@ -116,7 +114,7 @@ fn with_term(
     unit: TimeUnit,
 ) -> Later {
     let Some((operator, total)) = later? else {
-        return Ok(Some((next, rules.table.times(unit, number, None)?)));
+        return Ok(Some((next, unit_table(rules).times(unit, number, None)?)));
     };
     if next != operator {
         return Err(Cause::Mixed {
@@ -124,7 +122,7 @@ fn with_term(
             later: next,
         });
     }
-    let value = rules.table.times(unit, number, None)?;
+    let value = unit_table(rules).times(unit, number, None)?;
     Ok(Some((next, within(combination(next, total, value))?)))
 }
 

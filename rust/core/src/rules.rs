@@ -15,9 +15,8 @@ use crate::unit::TimeUnit;
 /// parse_by("5", RULES).unwrap_err().cause().place() // Some(1)
 /// ```
 #[derive(Clone, Copy, Debug, PartialEq, Eq)]
-#[non_exhaustive]
 pub struct Rules {
-    pub(crate) table: UnitTable,
+    table: UnitTable,
     /// The unit of a number without one, or `None` if each number needs its unit.
     pub default_unit: Option<TimeUnit>,
     /// The options.
@@ -79,4 +78,11 @@ impl Rules {
             options: self.options,
         }
     }
+}
+
+/// Returns the table of units. The field is private, so programs can't make other rules than those
+/// that the calls of `Rules` return.
+#[inline(always)]
+pub(crate) const fn unit_table(rules: Rules) -> UnitTable {
+    rules.table
 }

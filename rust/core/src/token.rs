@@ -8,7 +8,7 @@ use crate::options::Options;
 use crate::packed::{
     MODULUS, MOST_BYTES, first_number, is_unit_letter, letter_number, with_letter,
 };
-use crate::rules::Rules;
+use crate::rules::{Rules, unit_table};
 use crate::unit::TimeUnit;
 
 /// What a token is: a number, a word with the unit that it names, if any, an operator, or another
@@ -203,7 +203,7 @@ impl<'a> Tokens<'a> {
         if self.eye.place() - start > MOST_BYTES {
             return None;
         }
-        rules.table.unit_of_packed(packed)
+        unit_table(rules).unit_of_packed(packed)
     }
 
     #[inline(always)]

@@ -6,7 +6,8 @@ pub returns : goal.returns
 returns c =
     let word = chars c.args.word.now in
     let packed = packed_parts _ _ _ (c.in_ok-packed.ensures {u = tt}) in
-    c.unit_of_packed.ensures ∙ word_some c.args.rules word _ (rw (no_micro word) at packed.0)
+    (rw c.unit_table.ensures at c.unit_of_packed.ensures)
+    ∙ word_some c.args.rules word _ (rw (no_micro word) at packed.0)
 
 pub returns-in_err-packed : goal.returns-in_err-packed
 returns-in_err-packed c =

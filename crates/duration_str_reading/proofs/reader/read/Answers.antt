@@ -20,7 +20,7 @@ pub returns-in_err-value-clause-answer : goal.returns-in_err-value-clause-answer
 returns-in_err-value-clause-answer c =
     let r = c.from_residual-in_err-value in let p = err_from_is_err_and r.result r.ensures.1 in
     let step = first_step (meaning_of c.args.rules) (c.expect_number.ensures.rest (meaning_of c.args.rules)) c.take_number-number.ensures
-    (c.in_ok-read_unit.ensures {u = tt}).unit (c.in_err-value.ensures {u = tt}) in
+    (c.in_ok-read_unit.ensures {u = tt}).unit (rw c.unit_table.ensures at (c.in_err-value.ensures {u = tt})) in
     rw (p.1, p.2, step)
 
 pub returns-in_err-unit-clause-answer : goal.returns-in_err-unit-clause-answer
@@ -57,7 +57,7 @@ loop-next-init c =
     ≡ (if c.args.rules.options.no_calc then (0, Ok (Some (Plus, c.in_ok-value.value))) else (c.in_ok-value.value, Ok None)) =
     elim c.if-rules.branch [ then-rules w ↦ rw w.if-rules.true w.first-is | else-rules w ↦ rw w.if-rules.false w.first-is ] in
     let step = first_step (meaning_of c.args.rules) (c.expect_number.ensures.rest (meaning_of c.args.rules))
-    c.take_number-number.ensures (c.in_ok-read_unit.ensures {u = tt}).unit (c.in_ok-value.ensures {u = tt}) in record {
+    c.take_number-number.ensures (c.in_ok-read_unit.ensures {u = tt}).unit (rw c.unit_table.ensures at (c.in_ok-value.ensures {u = tt})) in record {
       same_source = c.read_unit.ensures.place.same_source ∙ c.take_number-number.ensures.kept.text
           ∙ c.expect_number.ensures.place.same_source;
       same = started c.args.rules.options.no_calc c.in_ok-value.value c.if-rules.first _ start ∙ sym step;

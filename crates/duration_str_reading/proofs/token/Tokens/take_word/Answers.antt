@@ -14,4 +14,4 @@ returns c =
     let e = c.take_letters-packed.ensures in
     takes_word (meaning_of c.args.rules) c.requires e.kept (short_word (record (c.args.rules) { options = options_of c.args.self.now }) e.letters
     (omega (arith, c.if-place-start-gt-MOST_BYTES.false, c.place.ensures, c.place-start.ensures))
-    c.unit_of_packed.ensures) e.stops
+    (rw c.unit_table.ensures at c.unit_of_packed.ensures)) e.stops
