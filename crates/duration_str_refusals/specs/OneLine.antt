@@ -1,5 +1,5 @@
 -- A fault in one line: what is wrong, for a syntax fault at which column, and what stands there,
--- and then the words of its help. And its reason, which is the line without the column.
+-- and then the words of its help. The reason is the line without the column.
 use Rattle.std.specs.Prelude.{ℕ, ◌+◌, Bool, true, false, [], ◌∷◌, ◌++◌, Option, Some, None, if◌then◌else◌, ◌==◌, decimal, encode_utf8_all, drop, chars, codes}
 use Rattle.std.specs.List.{list_any}
 use Rattle.duration_str_base.specs.declared.cause.Expected.{Expected}

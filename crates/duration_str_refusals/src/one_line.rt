@@ -1,5 +1,5 @@
 //! A fault in one line: what is wrong, and for a syntax fault at which column, and what stands
-//! there. And its reason, which is the line without the column.
+//! there. The reason is the line without the column.
 //!
 //! Most functions that a syntax fault needs are inline. So the line and the reason have a copy
 //! each, in which the compiler knows whether the column is written, and the line is not slower than
@@ -37,7 +37,7 @@ use duration_str_help::fraction::fraction_replacement;
 use duration_str_help::help::{Found, Help, MOST_SHOWN, found_at, overflow_help, put_help_words};
 use duration_str_help::suggestion::{Suggestion, put_suggestion};
 
-/// No fault's line has more bytes than this.
+/// No fault's line or reason has more bytes than this.
 ///
 /// ```
 /// use duration_str::{MAX_ONE_LINE_LEN, ONE_LINE_BUFFER_SIZE, Options, Rules, parse_by};
@@ -50,7 +50,7 @@ use duration_str_help::suggestion::{Suggestion, put_suggestion};
 /// ```
 pub const MAX_ONE_LINE_LEN: usize = 294;
 
-/// The size of a buffer that has room for every fault's line.
+/// The size of a buffer that has room for every fault's line or reason.
 pub const ONE_LINE_BUFFER_SIZE: usize = 384;
 
 impl Fault<'_> {
@@ -207,7 +207,7 @@ fn put_unknown(buffer: &mut [u8], column: Option<usize>, word: &str) -> Option<u
 {
     let start = put(buffer, 0, b"unknown unit ")?;
     let end = put_quoted(buffer, start, word)?;
-    put_column_if(buffer, end, column)
+    put_column(buffer, end, column)
 }
 
 #[inline(always)]
@@ -215,7 +215,7 @@ fn put_found(buffer: &mut [u8], words: &str, column: Option<usize>, piece: &str)
     ensures { IsInFront (found_problem words.now column (chars piece.now)) result buffer.new }
 {
     let start = put_text(buffer, 0, words)?;
-    let number = put_column_if(buffer, start, column)?;
+    let number = put_column(buffer, start, column)?;
     put_words(buffer, number, piece)
 }
 
@@ -289,21 +289,13 @@ fn put_help(buffer: &mut [u8], at: usize, help: Option<Help>) -> Option<usize>
 }
 
 #[inline(always)]
-fn put_column_if(buffer: &mut [u8], at: usize, column: Option<usize>) -> Option<usize>
+fn put_column(buffer: &mut [u8], at: usize, column: Option<usize>) -> Option<usize>
     requires { at ≤ length buffer.old }
     ensures { IsInFront (take at buffer.old ++ at_column column) result buffer.new }
 {
-    match column {
-        Some(column) => put_column(buffer, at, column),
-        None => Some(at),
-    }
-}
-
-#[inline(always)]
-fn put_column(buffer: &mut [u8], at: usize, column: usize) -> Option<usize>
-    requires { at ≤ length buffer.old }
-    ensures { IsInFront (take at buffer.old ++ at_column (Some column)) result buffer.new }
-{
+    let Some(column) = column else {
+        return Some(at);
+    };
     let number = put(buffer, at, b" at column ")?;
     put_decimal(buffer, number, column as u64)
 }
