@@ -212,7 +212,7 @@ fn token_at<'a>(mut tokens: Tokens<'a>, place: usize) -> Option<&'a str>
     None
 }
 
-/// Returns how many bytes the longest run of like characters has with which a text begins.
+/// Returns the length in bytes of the run of like characters that a text begins with.
 fn first_run_len(text: &str, o: Options) -> usize
     ensures { result ≡ byte_len (first_run o (chars text.now)) }
 {
