@@ -394,8 +394,8 @@ fn put_near_words(buffer: &mut [u8], at: usize, unit: TimeUnit) -> Option<usize>
     put(buffer, end, b"\"?)")
 }
 
-/// Writes a unit's name after the first `at` bytes of the buffer. It is that of `help_name`, but
-/// from the table of printed names, which every program has that reads.
+/// Writes a unit's name after the first `at` bytes of the buffer. It is the name of `help_name`,
+/// taken from the table of printed names, which every program that reads contains anyway.
 #[inline(never)]
 pub fn put_name(buffer: &mut [u8], at: usize, unit: TimeUnit) -> Option<usize>
     requires { at ≤ length buffer.old }
@@ -408,7 +408,8 @@ pub fn put_name(buffer: &mut [u8], at: usize, unit: TimeUnit) -> Option<usize>
     put(buffer, at, &row.letters[..usize::from(row.width)])
 }
 
-/// Returns the words of a help. For `DidYouMean`, whose words name a unit, it returns none.
+/// Returns the words of a help. For `DidYouMean`, whose words name a unit, it returns the empty
+/// text.
 fn fixed_words(help: Help) -> &'static str
     ensures { result.now ≡ fixed_words help }
 {

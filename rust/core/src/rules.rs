@@ -80,8 +80,8 @@ impl Rules {
     }
 }
 
-/// Returns the table of units. The field is private, so programs can't make other rules than those
-/// that the calls of `Rules` return.
+/// Returns the table of units. The field is private, so programs can't write out all fields, and a
+/// rule can be added without breaking them.
 #[inline(always)]
 pub(crate) const fn unit_table(rules: Rules) -> UnitTable {
     rules.table
