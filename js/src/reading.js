@@ -116,10 +116,13 @@ function digitsOf(value, bits) {
     throw new RangeError(`a number must be below 2^53, or a bigint, not ${value}`);
 }
 
+/** The milliseconds of one of this unit, or the fault if there is none. */
 const lengthOf = (name) => readText(`1${name}`, REQUIRE_UNIT);
 
 /** The number of the unit that the library reads for this name if all options are off, or -1. */
 function unitRead(name) {
+    const printed = UNITS.indexOf(name);
+    if (printed >= 0) return printed;
     // After a number, other characters could be read too, such as in `1h*2`.
     if (!/^[a-zµ]+$/i.test(name)) return -1;
     const length = lengthOf(name);
