@@ -235,18 +235,23 @@ def is_word(answer):
     return bool(starts) and answer.help is None
 
 
-def left_of(line, begin, end, options):
-    """What is printed for a line whose text, from `begin` to `end`, is refused. `begin` is None if
-    the line has no such field."""
+def left_of(line, places, options):
+    """What is printed for a line whose text is refused. The places are None if the line has no such
+    field."""
     of_field = "empty" if "to" in options else "keep"
     what = options.get("refused", of_field if "field" in options else "drop")
     if what == "drop" or "sum" in options:
         return b""
     if what == "empty" and len(line) > LONGEST_LINE:
         line = b""
-    elif what == "empty" and begin is not None:
-        mark = b"-" if "field" in options and "delimiter" not in options else b""
-        line = line[:begin] + mark + line[end:]
+    elif what == "empty" and places[0] is not None:
+        first, begin, end, last = places
+        edges = line[first:begin] + line[end:last]
+        if "field" in options and "delimiter" not in options:
+            edges = b"-"
+        elif edges.count(b'"') != 2:
+            edges = edges.replace(b'"', b"")
+        line = line[:first] + edges + line[last:]
     return line + end_of(options)
 
 
@@ -292,7 +297,7 @@ def said_of(line, options, where, before=None):
     if not isinstance(answer, Refused):
         return Said(converted(line, places, answer, options) + end_of(options), b"", 0, count)
     field = f", field {options['field']}" if "field" in options else ""
-    left = left_of(whole if too_long else line, begin, end, options)
+    left = left_of(whole if too_long else line, places, options)
     if "json-errors" in options:
         text = (b"" if too_long else line[begin:end]).decode(errors="replace")
         return Said(left, json_object(text, answer, options, where).encode() + b"\n", 1)

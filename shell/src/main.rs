@@ -333,14 +333,27 @@ impl Run<'_> {
 
     fn refuse(&mut self, refusal: Refusal, cut: Cut, number: u64) -> io::Result<()> {
         self.tell(refusal, cut.text, number)?;
-        let is_between_blanks = self.choices.field.is_some() && self.choices.delimiter.is_none();
-        // Between blanks, the next field would take the place of an empty one.
-        let empty: &[u8] = if is_between_blanks { b"-" } else { b"" };
         match self.choices.refused() {
             Refused::Keep => self.put(&cut.with(cut.text)),
-            Refused::Empty => self.put(&cut.with(empty)),
+            Refused::Empty => self.put_empty(cut),
             Refused::Drop => Ok(()),
         }
+    }
+
+    /// Between blanks a `-` takes the place of the field, since otherwise the next field would. With
+    /// a delimiter the field keeps its quotation marks only if there are two: with another number
+    /// of them, CSV's next lines could belong to it.
+    fn put_empty(&mut self, cut: Cut) -> io::Result<()> {
+        if self.choices.field.is_some() && self.choices.delimiter.is_none() {
+            return self.put(&[cut.before, b"-", cut.after]);
+        }
+        let edges = [cut.open, cut.close];
+        let marks = edges.concat().iter().filter(|byte| **byte == b'"').count();
+        if marks == 2 {
+            return self.put(&cut.with(b""));
+        }
+        let [open, close] = edges.map(without_marks);
+        self.put(&[cut.before, &open, &close, cut.after])
     }
 
     fn tell(&mut self, refusal: Refusal, text: &[u8], number: u64) -> io::Result<()> {
@@ -426,6 +439,10 @@ fn around_a_mark(edge: &[u8]) -> Option<[&[u8]; 2]> {
     let mark = edge.iter().position(|byte| *byte == b'"')?;
     let after = &edge[mark + 1..];
     (!after.contains(&b'"')).then_some([&edge[..mark], after])
+}
+
+fn without_marks(edge: &[u8]) -> Vec<u8> {
+    edge.iter().copied().filter(|byte| *byte != b'"').collect()
 }
 
 /// The field with this number, from 1.

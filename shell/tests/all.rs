@@ -306,6 +306,21 @@ fn keeps_no_refused_number_beside_numbers() {
         assert_eq!((status, &*output), (1, wanted), "{words:?}");
         assert_eq!(errors.lines().count(), 3, "{errors}");
     }
+    // Marks stay only if there are two, since CSV's next lines would belong to an open field.
+    for (line, wanted) in [
+        ("a,5 inch\",b", "a,,b"),
+        ("a,\"90\"x,b", "a,,b"),
+        ("a,\"x\"\"\",b", "a,,b"),
+        ("a, \"x\" ,b", "a, \"\" ,b"),
+        ("a,\"\",b", "a,\"\",b"),
+    ] {
+        let words = ["-d,", "--field", "2", "--to", "s"];
+        assert_eq!(run(&words, line.as_bytes()).1, wanted, "{line}");
+    }
+    for line in ["a \"\" 7", "a \"x\" 7", "a x\" 7"] {
+        let words = ["--field", "2", "--to", "s"];
+        assert_eq!(run(&words, line.as_bytes()).1, "a - 7", "{line}");
+    }
     // The next field doesn't take the place of a refused one.
     let second = ["--field", "2", "--to", "s", "--require-unit"];
     let (status, output, _) = run(&second, b" a  90 7\nb 1h 8\n\n");
