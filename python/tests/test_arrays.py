@@ -640,6 +640,7 @@ class Errors(unittest.TestCase):
                 )
                 if not isinstance(error, DurationError):
                     self.assertEqual((error.help, error.mended), (None, None))
+                    self.assertEqual(error.reason, str(error))
         for value, line in REFUSED_IN_MILLIS:
             (error,) = errors_of([value], default_unit="ms").values()
             self.assertEqual(str(error), line)

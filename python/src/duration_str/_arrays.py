@@ -238,7 +238,7 @@ def errors_of(
     require_unit: bool = ...,
     more_names: bool = ...,
     default_unit: Unit = ...,
-) -> dict[int, Exception]:
+) -> dict[int, Any]:
     ...
 
 
@@ -276,10 +276,10 @@ def errors_of(
 
     The error of a text is a DurationError, and so is that of a number if you
     name a default unit. Its `index` is the position, but its line doesn't
-    begin with it. Other values have the errors that `to_timedelta` raises for
-    them, mostly a DurationTypeError. So have numbers if you name no default
-    unit. The `help` and `mended` of these errors are None. Missing values have
-    no error.
+    begin with it. Other values have an error of the type that `to_timedelta`
+    raises for them, mostly a DurationTypeError. So have numbers if you name no
+    default unit. The `help` and `mended` of these errors are None, and their
+    `reason` is the line. Missing values have no error.
 
     For a column of a type that is never read, such as datetime64, it raises
     DurationTypeError, and for a value that is no column, such as a single
@@ -314,6 +314,7 @@ def errors_of(
         # A program can ask each error for these.
         if not isinstance(error, (DurationError, DurationTypeError)):
             error.help = error.mended = None
+            error.reason = str(error)
     pandas = sys.modules.get("pandas")
     if pandas is None or not isinstance(values, pandas.Series):
         return dict(zip(rows, errors))

@@ -72,6 +72,11 @@ class DurationTypeError(TypeError, ValueError):
     help: None = None
     mended: None = None
 
+    @property
+    def reason(self) -> str:
+        """The line. For a `DurationError` it is the line without its column."""
+        return str(self)
+
 
 class DurationError(ValueError):
     """A text is refused. `str(error)` is one line for people: it says what is
@@ -191,9 +196,10 @@ class DurationError(ValueError):
 
     @property
     def reason(self) -> str:
-        """The line without `at column 3` or the like, and without the index in a column, for
-        programs that say the place themselves. For `5 mins` it is `unknown unit "mins" (did you
-        mean "min"?)`. Only the line of a syntax fault has such a column."""
+        """The line without ` at column 3` or the like, for programs that say the place themselves.
+        For `5 mins` it is `unknown unit "mins" (did you mean "min"?)`. If the fault is no syntax
+        fault, the line has no such words. The reason also lacks the index of a value in a column,
+        such as `at index 1: `."""
         from ._native import reason
 
         line, cause, *_ = self._answer
