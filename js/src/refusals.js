@@ -61,8 +61,8 @@ function hideLong(cause, name) {
     Object.defineProperty(cause, name, { get: () => text });
 }
 
-/** The fault's fields, except the message, the report and the mended text, are in `cause`. A
- * structured clone of an error can keep the `cause`, but no fields of this class. */
+/** The fault's fields, except the message, the reason, the report and the mended text, are in
+ * `cause`. A structured clone of an error can keep the `cause`, but no fields of this class. */
 export class DurationError extends Error {
     #fault;
 

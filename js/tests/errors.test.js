@@ -144,7 +144,7 @@ test("refuses lone surrogates, wherever they stand", () => {
 });
 
 test("says a quoted column also in the reason", () => {
-    const error = errorOf("99999999999999999999m at column 1", { noCalc: true });
+    const error = errorOf("99999999999999999999m at column 1");
     assert.equal(
         error.reason,
         'number of 2^64 or more in "99999999999999999999m at column 1"',

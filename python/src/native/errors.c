@@ -118,8 +118,8 @@ PyObject *module_answer(PyObject *module, PyObject *arguments) {
         found, (Py_ssize_t)answer.found_length);
 }
 
-/* reason(text, options): returns the reason, which is the line without its column, if the line is
- * the library's */
+/* reason(text, options): returns the reason, which is the line without its column. For a str with
+ * a lone surrogate it returns that of the empty text, so Python asks only for syntax faults. */
 PyObject *module_reason(PyObject *module, PyObject *arguments) {
     char reason[DURATION_STR_ONE_LINE_BUFFER_SIZE];
     struct refused refused;
