@@ -4,7 +4,7 @@ marked, and mypy reports a mark on any other line.
 
 import datetime
 from array import array
-from typing import Annotated, assert_type
+from typing import Annotated, Any, assert_type
 
 import duration_str
 import numpy
@@ -79,7 +79,7 @@ assert_type(duration_str.parse_many(["1m", None], errors="coerce"), tuple[array[
 duration_str.parse_many(["1m"], errors="ignore")  # type: ignore[call-overload]
 assert_type(duration_str.to_timedelta(["1m"]), "NDArray[numpy.timedelta64]")
 duration_str.to_timedelta(["1m"], errors="ignore")  # type: ignore[call-overload]
-assert_type(duration_str.errors_of(["1m"]), dict[int, Exception])
+assert_type(duration_str.errors_of(["1m"]), dict[int, Any])
 duration_str.errors_of(["1m"], errors="coerce")  # type: ignore[call-overload]
 timeout: duration_str.Duration = datetime.timedelta(1)
 pause: Annotated[datetime.timedelta, duration_str.DurationField(default_unit="ms")] = timeout
